@@ -1,0 +1,13 @@
+mod Ended
+mod Later
+mod Elements
+mod Touching
+mod Bends
+mod Adding
+mod Joining
+mod Runs
+mod Pads
+mod Boards
+mod Trying
+mod Progress
+mod Seen

@@ -1,0 +1,9 @@
+pub mod Words
+pub mod Status
+pub mod Texts
+pub mod OneBend
+pub mod Laying
+pub mod Report
+pub mod Answers
+pub mod Due
+pub mod Said

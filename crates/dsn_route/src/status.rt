@@ -1,0 +1,37 @@
+//! How a call ended.
+//! Each status has an exit code of its own.
+
+/// How a call ended: every net is complete; some net is open; the words are refused; the design is refused;
+/// the design couldn't be read; the session or the report couldn't be written; a limit is passed; memory is wanting.
+#[derive(Clone, Copy, Debug, PartialEq, Eq)]
+pub enum Status {
+    Complete,
+    SomeOpen,
+    Usage,
+    Refused,
+    ReadFault,
+    WriteFault,
+    Limit,
+    Memory,
+}
+
+impl Status {
+    ghost use Rattle.std.specs.Prelude.{◌≡◌};
+    ghost use Rattle.dsn_route.specs.Status.{code_of};
+
+    /// The exit code, 0 to 7.
+    pub fn code(&self) -> u8
+        ensures { result ≡ code_of self.now }
+    {
+        match self {
+            Status::Complete => 0,
+            Status::SomeOpen => 1,
+            Status::Usage => 2,
+            Status::Refused => 3,
+            Status::ReadFault => 4,
+            Status::WriteFault => 5,
+            Status::Limit => 6,
+            Status::Memory => 7,
+        }
+    }
+}

@@ -1,0 +1,5 @@
+pub mod Flats
+pub mod Fits
+pub mod Steps
+pub mod Injective
+pub mod OneAnswer

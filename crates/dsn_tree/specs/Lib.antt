@@ -1,0 +1,5 @@
+pub mod Flat
+pub mod Verdict
+pub mod Trees
+pub mod Groups
+pub mod Heads

@@ -1,0 +1,17 @@
+//! The tree of a text in the design language, and look-ups in it.
+//! A text is one group, at most 64 brackets deep.
+#![tactic(auto)]
+
+mod fault;
+mod heads;
+mod laws;
+mod reading;
+#[cfg(test)]
+mod tests;
+mod tree;
+
+pub use fault::TreeFault;
+pub use heads::{child, children, is_headed, items, word};
+pub use laws::one_answer;
+pub use reading::read_tree;
+pub use tree::Tree;

@@ -1,0 +1,21 @@
+use Rattle.std.proofs.Common.{arith, ap, ap₂, ◌∙◌}
+use Rattle.geo_kernel.specs.declared.point.Point.{Point}
+use Rattle.dsn_units.specs.Length.{nearest}
+use Rattle.dsn_units.specs.Turn.{one}
+use Rattle.dsn_units.proofs.Turns.{difference_value, sum_value, difference_small, sum_fits, product_is, unseen}
+use Rattle.dsn_units.proofs.turn.slanted.Goals as goal
+
+pub rounded-requires : goal.rounded-requires
+rounded-requires c = difference_small c.times.result c.times-2.result c.times.ensures.within c.times-2.ensures.within
+
+pub overflow_add-times : goal.overflow_add-times
+overflow_add-times c = sum_fits c.times-3.result c.times-4.result c.times-3.ensures.within c.times-4.ensures.within
+
+pub returns-clause-value : goal.returns-clause-value
+returns-clause-value c = ap₂ (λ x y. let q : Point = record { x = x; y = y } in q)
+    (unseen c.rounded.result (omega arith) ∙ c.rounded.ensures.value ∙ ap (λ z. nearest z one) (difference_value c.times.result c.times-2.result _ _ c.times.ensures.within c.times-2.ensures.within
+    (product_is c.args.p.x c.args.c c.times.result c.requires.p_within.0 c.requires.c_within c.times.ensures.value)
+    (product_is c.args.p.y c.args.s c.times-2.result c.requires.p_within.1 c.requires.s_within c.times-2.ensures.value)))
+    (unseen c.rounded-2.result (omega arith) ∙ c.rounded-2.ensures.value ∙ ap (λ z. nearest z one) (sum_value c.times-3.result c.times-4.result _ _ c.times-3.ensures.within c.times-4.ensures.within
+    (product_is c.args.p.x c.args.s c.times-3.result c.requires.p_within.0 c.requires.s_within c.times-3.ensures.value)
+    (product_is c.args.p.y c.args.c c.times-4.result c.requires.p_within.1 c.requires.c_within c.times-4.ensures.value)))

@@ -1,0 +1,5 @@
+pub mod Length
+pub mod Spelling
+pub mod Turn
+pub mod Halves
+pub mod Reading

@@ -1,0 +1,5 @@
+mod Fitting
+mod GroupSteps
+mod Numbered
+mod Apart
+mod Layers

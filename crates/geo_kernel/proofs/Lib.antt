@@ -1,0 +1,17 @@
+pub mod Ring
+pub mod Order
+pub mod Foot
+pub mod Slide
+pub mod Pairs
+pub mod Segments
+pub mod Bounds
+pub mod Paths
+pub mod Parity
+pub mod Firsts
+pub mod Solid
+pub mod Moves
+pub mod Keeping
+pub mod Growing
+pub mod Ends
+pub mod Outside
+pub mod Boxes

@@ -1,0 +1,10 @@
+pub mod Plane
+pub mod Nearest
+pub mod Spine
+pub mod Solid
+pub mod Moved
+pub mod Boxes
+pub mod Close
+pub mod Grown
+pub mod Props
+pub mod formers

@@ -1,0 +1,2 @@
+-- How the list holds its elements.
+pub mod list

@@ -1,0 +1,11 @@
+pub mod Within
+pub mod Answered
+pub mod First
+pub mod Probes
+pub mod Inside
+pub mod Growing
+pub mod Extents
+pub mod Far
+pub mod Symmetry
+pub mod Counting
+pub mod Changed

@@ -1,0 +1,12 @@
+use Rattle.std.proofs.Common.{◌≡◌, List, Some, None, subst}
+use Rattle.pcb_model.specs.declared.item.Item.{Item}
+use Rattle.pcb_model.specs.Pairs.{Agrees, ProbeAgrees}
+use Rattle.pcb_model.specs.Copper.{Finds}
+use Rattle.pcb_model.proofs.plain.PlainCopperCopper.next_clash.Goals as goal
+
+pub returns : goal.returns
+returns g c =
+    let s = c.as_slice.ensures in
+    let v = c.self.view_is in
+    let e : c.as_slice.result.now ≡ c.args.self.now = cc in
+    subst (λ (items : List Item). Finds (λ b. Agrees c.args.d.now c.args.a.now b → ⊥) (Agrees c.args.d.now c.args.a.now) c.args.from (Some c.args.a.now.id) items c.first_clash.result) e c.first_clash.ensures

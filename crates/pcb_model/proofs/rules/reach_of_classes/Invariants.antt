@@ -1,0 +1,10 @@
+use Rattle.std.proofs.Common.{◌≤◌, ◌^◌, take, All}
+use Rattle.pcb_model.specs.Bounds.{AreRulesWithin}
+use Rattle.pcb_model.proofs.rules.reach_of_classes.Given as goal
+
+abbrev pub invariant-loop-rs : goal.invariant-loop-rs
+invariant-loop-rs l = record {
+  reaches : All (AreRulesWithin l.greatest) (take l.rs-index l.classes);
+  least : l.least ≤ l.greatest;
+  within : l.greatest ≤ 2 ^ 28;
+}

@@ -1,0 +1,11 @@
+pub mod Pieces
+pub mod Rules
+pub mod Pairs
+pub mod Bounds
+pub mod Board
+pub mod Sound
+pub mod Counts
+pub mod Inner
+pub mod Near
+pub mod Copper
+pub mod Scale

@@ -1,0 +1,63 @@
+//! Copper: items by id, and searches among them.
+//! A board's tiles, its snapshots and the plain list all answer these calls alike.
+
+ghost use Rattle.std.specs.Prelude.{◌≡◌, List, All, Contains, Some, None, MatchOption};
+ghost use Rattle.std.specs.Option.{option_copied};
+ghost use Rattle.pcb_model.specs.declared.item.Item.{Item as OneItem};
+ghost use Rattle.pcb_model.specs.declared.design.Design.{Design as TheDesign};
+ghost use Rattle.pcb_model.specs.Bounds.{IsItemFit, IsProbeFit};
+ghost use Rattle.pcb_model.specs.Pairs.{Agrees, ProbeAgrees, AreTouching};
+ghost use Rattle.pcb_model.specs.Sound.{Serves};
+ghost use Rattle.pcb_model.specs.Copper.{Finds};
+
+use crate::{Design, Item, Probe, Steps};
+use std::sync::ledger::Ledger;
+
+/// Items by id, and searches among them. None of the calls takes memory.
+pub trait Copper {
+    /// The items, in order of id.
+    ghost items: { Self → List OneItem };
+
+    /// Whether the copper serves the design: what its calls require to be asked about it.
+    ghost serves: { Self → TheDesign → Type 0 };
+
+    /// The item of this id, or None exactly where there is none.
+    fn item(&self, id: u64) -> Option<&Item>
+        ensures { MatchOption (option_copied result) (All (λ b. b.id ≡ id → ⊥) (items self.now)) (λ b. Contains (items self.now) b × (b.id ≡ id)) };
+
+    /// The least id at or above `from` of an item that disagrees with `a`, other than the one with the id of `a`,
+    /// or None exactly where there is none.
+    fn next_clash<L: Ledger>(
+        &self,
+        d: &Design,
+        a: &Item,
+        from: u64,
+        steps: &mut Steps<L>,
+    ) -> Option<u64>
+        requires serves { serves self.now d.now }
+        requires a_fits { IsItemFit a.now }
+        ensures { Finds (λ b. Agrees d.now a.now b → ⊥) (Agrees d.now a.now) from (Some a.now.id) (items self.now) result };
+
+    /// The least id at or above `from` of an item that disagrees with what the probe of the net stands for,
+    /// or None exactly where there is none.
+    fn next_block<L: Ledger>(
+        &self,
+        d: &Design,
+        net: u32,
+        p: &Probe,
+        from: u64,
+        steps: &mut Steps<L>,
+    ) -> Option<u64>
+        requires serves { serves self.now d.now }
+        requires p_fits { IsProbeFit d.now p.now }
+        ensures { Finds (λ b. ProbeAgrees d.now net p.now b → ⊥) (ProbeAgrees d.now net p.now) from None (items self.now) result };
+
+    /// The least id at or above `from` of an item that has the net of `a` and touches it, other than the one
+    /// with the id of `a`, or None exactly where there is none.
+    fn next_touch<L: Ledger>(&self, a: &Item, from: u64, steps: &mut Steps<L>) -> Option<u64>
+        requires a_fits { IsItemFit a.now }
+        ensures { Finds (AreTouching a.now) (λ b. AreTouching a.now b → ⊥) from (Some a.now.id) (items self.now) result };
+
+    /// Copper that serves a design holds its fixed items, and all its items fit the design.
+    ghost serving: { (c : Self) → (d : TheDesign) → serves c d → Serves (items c) d };
+}

@@ -1,0 +1,104 @@
+//! What a design holds: layers, boundaries, padstacks, placed pins, nets, rules and wiring.
+//! Source: SPECCTRA reference, structure, library, placement, network and wiring descriptors.
+
+use crate::{Item, Kind, Metal, Piece};
+use geo_kernel::{List, Name, Point, Unit};
+
+/// A clearance in nm for a pair of kinds; with `b` None for `a` with any kind.
+#[derive(Clone, Copy, Debug, PartialEq, Eq)]
+pub struct Typed {
+    pub a: Kind,
+    pub b: Option<Kind>,
+    pub value: u64,
+}
+
+/// A width, a plain clearance and the clearances of pairs of kinds, in nm and as far as they are given.
+#[derive(Debug, Drop)]
+pub struct RuleSet {
+    pub width: Option<u64>,
+    pub plain: Option<u64>,
+    pub typed: List<Typed>,
+}
+
+/// A placed pin.
+#[derive(Debug, Drop)]
+pub struct Pin {
+    pub component: u32,
+    pub name: Name,
+    pub net: Option<u32>,
+    pub centre: Point,
+    pub smd: bool,
+}
+
+/// A placed component.
+#[derive(Debug, Drop)]
+pub struct Component {
+    pub name: Name,
+    pub image: Name,
+    pub at: Point,
+    pub back: bool,
+    pub microdegrees: u32,
+}
+
+/// A net: its pins, its class, its own rules, and the usable padstacks of its list of vias.
+#[derive(Debug, Drop)]
+pub struct Net {
+    pub name: Name,
+    pub pins: List<u32>,
+    pub class: Option<u32>,
+    pub rules: RuleSet,
+    pub vias: List<u32>,
+}
+
+/// A padstack; usable as a via where it has copper at the origin on at least two layers.
+#[derive(Debug, Drop)]
+pub struct Padstack {
+    pub name: Name,
+    pub pieces: List<Piece>,
+    pub usable: bool,
+}
+
+/// A wire or via of the design that may be ripped up, and the byte offset of its list.
+#[derive(Debug, Drop)]
+pub struct FreeWire {
+    pub at: u64,
+    pub net: u32,
+    pub metal: Metal,
+}
+
+/// A layer; a power layer takes no wires.
+#[derive(Debug, Drop)]
+pub struct BoardLayer {
+    pub name: Name,
+    pub power: bool,
+}
+
+/// A design. `per` units of `unit` are its resolution; each entry of `bounds` has the loops of one boundary.
+#[derive(Debug, Drop)]
+pub struct Design {
+    pub name: Name,
+    pub unit: Unit,
+    pub per: u64,
+    pub host_cad: Option<Name>,
+    pub host_version: Option<Name>,
+    pub layers: List<BoardLayer>,
+    pub bounds: List<List<List<Point>>>,
+    pub padstacks: List<Padstack>,
+    pub components: List<Component>,
+    pub pins: List<Pin>,
+    pub nets: List<Net>,
+    pub classes: List<RuleSet>,
+    pub rules: RuleSet,
+    pub via_at_smd: bool,
+    pub fixed: List<Item>,
+    pub free: List<FreeWire>,
+    pub notes: u64,
+}
+
+/// The scale of a session: a printed number counts units of `nm` nm, `per` of them to one `unit`.
+#[derive(Clone, Copy, Debug, PartialEq, Eq)]
+pub struct SesScale {
+    pub unit: Unit,
+    pub per: u64,
+    pub nm: u64,
+}

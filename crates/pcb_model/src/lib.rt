@@ -1,0 +1,35 @@
+//! What a board is: its design, its items of copper and bans, and the rule for each pair of items.
+//! All lengths are whole nanometres (nm).
+#![tactic(auto)]
+
+mod copper;
+mod design;
+mod item;
+mod laws;
+mod legal;
+mod make;
+mod near;
+mod pair;
+mod plain;
+mod probe;
+mod rules;
+mod scale;
+mod search;
+mod steps;
+#[cfg(test)]
+mod tests;
+
+pub use copper::Copper;
+pub use design::{
+    BoardLayer, Component, Design, FreeWire, Net, Padstack, Pin, RuleSet, SesScale, Typed,
+};
+pub use item::{Item, Kind, Metal, Piece, Probe};
+pub use laws::{counts_are_unique, pairs_are_symmetric};
+pub use legal::{inside_board, width_ok};
+pub use make::{copy_item, make_item};
+pub use near::{Extent, Query};
+pub use pair::{pair_ok, touch};
+pub use plain::PlainCopper;
+pub use probe::{probe_inside, probe_ok};
+pub use rules::{clearance, reach_of, width_of};
+pub use steps::Steps;

@@ -1,0 +1,321 @@
+//! Probes: wires of one or two points, and vias, that are judged before any item is made.
+//! Nothing here takes memory.
+
+ghost use Rattle.std.specs.Prelude.{◌≡◌, ◌+◌, ◌≤◌, ◌<◌, ◌^◌, ◌↔◌, ℕ, List, IsTrue, true, false, not, ◌&&◌, Some, All, Any, map, length};
+ghost use Rattle.geo_kernel.specs.declared.point.Point.{Point as OnePoint};
+ghost use Rattle.geo_kernel.specs.Plane.{IsWithin};
+ghost use Rattle.geo_kernel.specs.Spine.{IsFirst, SpinesKeep, SpinesTouch, IsWellFormed, IsSpineWithin};
+ghost use Rattle.geo_kernel.specs.Moved.{moved, moved_spine};
+ghost use Rattle.pcb_model.specs.Bounds.{IsDesignFit, IsItemFit, IsFit, IsBoundFit, IsProbeFit};
+ghost use Rattle.pcb_model.specs.Inner.{meets_wires as meet_wires, meets_vias as meet_vias};
+ghost use Rattle.pcb_model.specs.Rules.{value_of, clearance_of, is_kind};
+ghost use Rattle.pcb_model.specs.Pairs.{PieceKeeps, KeepsFrom, PiecesKeep, PieceTouches, TouchesSome, PiecesTouch, is_same_net, Agrees, ProbeAgrees};
+ghost use Rattle.pcb_model.specs.Pieces.{padstack_pieces as padstack_pieces_of, wire_piece, moved_piece, pieces_of, metal_of, kind_of, item_of};
+ghost use Rattle.pcb_model.specs.Board.{BeginsInEach, AreInside, IsInsideEach};
+
+use crate::legal::inside_each;
+use crate::pair::same_net;
+use crate::rules::{same_kind, value};
+use crate::{Design, Item, Kind, Metal, Piece, Probe, Steps};
+use geo_kernel::{List, Point, first_point, points_keep, spine_keeps_moved, spine_touch_moved};
+use std::sync::ledger::Ledger;
+
+fn chain_keeps(c: u64, layer: u8, width: u64, points: &[Point], r: &Piece) -> bool
+    requires c_within { c ≤ 2 ^ 28 }
+    requires p_fit { IsFit (wire_piece layer width points.now) }
+    requires r_fit { IsFit r.now }
+    ensures { IsTrue result ↔ PieceKeeps c (wire_piece layer width points.now) r.now }
+{
+    if layer != r.layer {
+        return true;
+    }
+    points_keep(points, &r.spine, (2 * c + width + r.width).max(1))
+}
+
+fn chain_keeps_all(c: u64, layer: u8, width: u64, points: &[Point], rs: &[Piece]) -> bool
+    requires c_within { c ≤ 2 ^ 28 }
+    requires p_fit { IsFit (wire_piece layer width points.now) }
+    requires rs_fit { All IsFit rs.now }
+    ensures { IsTrue result ↔ KeepsFrom c rs.now (wire_piece layer width points.now) }
+{
+    rs.iter().all(|r| chain_keeps(c, layer, width, points, r))
+}
+
+fn meets_wires(m: &Metal) -> bool
+    ensures { result ≡ meet_wires m.now }
+{
+    match m {
+        Metal::Ban { wires, .. } => *wires,
+        _ => true,
+    }
+}
+
+fn meets_vias(m: &Metal) -> bool
+    ensures { result ≡ meet_vias m.now }
+{
+    match m {
+        Metal::Ban { vias, .. } => *vias,
+        _ => true,
+    }
+}
+
+fn wire_must_keep(net: u32, b: &Item) -> bool
+    ensures { result ≡ (not (is_same_net (Some net) b.now.net) && meet_wires b.now.metal) }
+{
+    !same_net(Some(net), b.net) && meets_wires(&b.metal)
+}
+
+fn via_must_keep(net: u32, b: &Item) -> bool
+    ensures { result ≡ (not (is_same_net (Some net) b.now.net) && meet_vias b.now.metal) }
+{
+    !same_net(Some(net), b.net) && meets_vias(&b.metal)
+}
+
+fn wire_ok(
+    d: &Design,
+    own: u64,
+    net: u32,
+    layer: u8,
+    width: u64,
+    points: &[Point],
+    b: &Item,
+) -> bool
+    requires design { IsDesignFit d.now }
+    requires own_is { own ≡ value_of d.now (Some net) Kind.Wire b.now.kind }
+    requires p_fit { IsFit (wire_piece layer width points.now) }
+    requires b_fits { IsItemFit b.now }
+    ensures { IsTrue result ↔ Agrees d.now (item_of d.now 0 (Some net) false (Metal.Wire layer width points.now)) b.now }
+{
+    if wire_must_keep(net, b) {
+        let c = own.max(value(d, b.net, Kind::Wire, b.kind));
+        chain_keeps_all(c, layer, width, points, b.pieces.as_slice())
+    } else {
+        true
+    }
+}
+
+// The pieces of a padstack, about the origin.
+pub(crate) fn padstack_pieces(d: &Design, padstack: u32) -> &[Piece]
+    ensures { result.now ≡ padstack_pieces_of d.now padstack }
+{
+    match d.padstacks.as_slice().get(padstack as usize) {
+        Some(stack) => stack.pieces.as_slice(),
+        None => &[],
+    }
+}
+
+fn moved_piece_keeps(c: u64, p: &Piece, by: Point, r: &Piece) -> bool
+    requires c_within { c ≤ 2 ^ 28 }
+    requires p_fit { IsFit p.now }
+    requires moved_fit { IsFit (moved_piece by p.now) }
+    requires r_fit { IsFit r.now }
+    ensures { IsTrue result ↔ PieceKeeps c (moved_piece by p.now) r.now }
+{
+    if p.layer != r.layer {
+        return true;
+    }
+    spine_keeps_moved(&p.spine, by, &r.spine, (2 * c + p.width + r.width).max(1))
+}
+
+fn moved_keeps_all(c: u64, p: &Piece, by: Point, rs: &[Piece]) -> bool
+    requires c_within { c ≤ 2 ^ 28 }
+    requires p_fit { IsFit p.now }
+    requires moved_fit { IsFit (moved_piece by p.now) }
+    requires rs_fit { All IsFit rs.now }
+    ensures { IsTrue result ↔ KeepsFrom c rs.now (moved_piece by p.now) }
+{
+    rs.iter().all(|r| moved_piece_keeps(c, p, by, r))
+}
+
+fn moved_keep(c: u64, ps: &[Piece], by: Point, rs: &[Piece]) -> bool
+    requires c_within { c ≤ 2 ^ 28 }
+    requires ps_fit { All IsFit ps.now }
+    requires moved_fit { All (λ p. IsFit (moved_piece by p)) ps.now }
+    requires rs_fit { All IsFit rs.now }
+    ensures { IsTrue result ↔ PiecesKeep c (map (moved_piece by) ps.now) rs.now }
+{
+    ps.iter().all(|p| moved_keeps_all(c, p, by, rs))
+}
+
+fn moved_piece_touches(p: &Piece, by: Point, r: &Piece) -> bool
+    requires p_fit { IsFit p.now }
+    requires moved_fit { IsFit (moved_piece by p.now) }
+    requires r_fit { IsFit r.now }
+    ensures { IsTrue result ↔ PieceTouches (moved_piece by p.now) r.now }
+{
+    p.layer == r.layer && spine_touch_moved(&p.spine, by, &r.spine, p.width + r.width)
+}
+
+fn moved_touches_some(p: &Piece, by: Point, rs: &[Piece]) -> bool
+    requires p_fit { IsFit p.now }
+    requires moved_fit { IsFit (moved_piece by p.now) }
+    requires rs_fit { All IsFit rs.now }
+    ensures { IsTrue result ↔ TouchesSome rs.now (moved_piece by p.now) }
+{
+    rs.iter().any(|r| moved_piece_touches(p, by, r))
+}
+
+fn moved_touch(ps: &[Piece], by: Point, rs: &[Piece]) -> bool
+    requires ps_fit { All IsFit ps.now }
+    requires moved_fit { All (λ p. IsFit (moved_piece by p)) ps.now }
+    requires rs_fit { All IsFit rs.now }
+    ensures { IsTrue result ↔ PiecesTouch (map (moved_piece by) ps.now) rs.now }
+{
+    ps.iter().any(|p| moved_touches_some(p, by, rs))
+}
+
+fn via_keeps(d: &Design, own: u64, net: u32, ps: &[Piece], at: Point, b: &Item) -> bool
+    requires design { IsDesignFit d.now }
+    requires own_is { own ≡ value_of d.now (Some net) Kind.Via b.now.kind }
+    requires ps_fit { All IsFit ps.now }
+    requires moved_fit { All (λ p. IsFit (moved_piece at p)) ps.now }
+    requires b_fits { IsItemFit b.now }
+    ensures { IsTrue result ↔ ((not (is_same_net (Some net) b.now.net) && meet_vias b.now.metal) ≡ true → PiecesKeep (clearance_of d.now (Some net) Kind.Via b.now.net b.now.kind) (map (moved_piece at) ps.now) b.now.pieces) }
+{
+    if via_must_keep(net, b) {
+        let c = own.max(value(d, b.net, Kind::Via, b.kind));
+        moved_keep(c, ps, at, b.pieces.as_slice())
+    } else {
+        true
+    }
+}
+
+fn via_must_stay_off(d: &Design, net: u32, b: &Item) -> bool
+    ensures { result ≡ (not d.now.via_at_smd && is_same_net (Some net) b.now.net && is_kind b.now.kind Kind.Smd) }
+{
+    !d.via_at_smd && same_net(Some(net), b.net) && same_kind(b.kind, Kind::Smd)
+}
+
+fn via_stays_off(d: &Design, net: u32, ps: &[Piece], at: Point, b: &Item) -> bool
+    requires ps_fit { All IsFit ps.now }
+    requires moved_fit { All (λ p. IsFit (moved_piece at p)) ps.now }
+    requires b_fits { IsItemFit b.now }
+    ensures { IsTrue result ↔ ((not d.now.via_at_smd && is_same_net (Some net) b.now.net && is_kind b.now.kind Kind.Smd) ≡ true → ¬ (PiecesTouch (map (moved_piece at) ps.now) b.now.pieces)) }
+{
+    if via_must_stay_off(d, net, b) {
+        !moved_touch(ps, at, b.pieces.as_slice())
+    } else {
+        true
+    }
+}
+
+fn via_ok(d: &Design, own: u64, net: u32, padstack: u32, at: Point, b: &Item) -> bool
+    requires design { IsDesignFit d.now }
+    requires own_is { own ≡ value_of d.now (Some net) Kind.Via b.now.kind }
+    requires ps_fit { All IsFit (padstack_pieces_of d.now padstack) }
+    requires moved_fit { All (λ p. IsFit (moved_piece at p)) (padstack_pieces_of d.now padstack) }
+    requires b_fits { IsItemFit b.now }
+    ensures { IsTrue result ↔ Agrees d.now (item_of d.now 0 (Some net) false (Metal.Via padstack at)) b.now }
+{
+    let ps = padstack_pieces(d, padstack);
+    via_keeps(d, own, net, ps, at, b) && via_stays_off(d, net, ps, at, b)
+}
+
+// The kind of what a probe stands for.
+pub(crate) fn probe_kind(p: &Probe) -> Kind
+    ensures { result ≡ kind_of (metal_of p.now) }
+{
+    match *p {
+        Probe::Disc { .. } | Probe::Step { .. } => Kind::Wire,
+        Probe::Via { .. } => Kind::Via,
+    }
+}
+
+/// The pair rule for a probe where `own`, the value of its net for their kinds, is known.
+pub(crate) fn probe_agrees(d: &Design, own: u64, net: u32, p: &Probe, b: &Item) -> bool
+    requires design { IsDesignFit d.now }
+    requires own_is { own ≡ value_of d.now (Some net) (kind_of (metal_of p.now)) b.now.kind }
+    requires p_fits { IsProbeFit d.now p.now }
+    requires b_fits { IsItemFit b.now }
+    ensures { IsTrue result ↔ ProbeAgrees d.now net p.now b.now }
+{
+    match *p {
+        Probe::Disc { layer, width, at } => wire_ok(d, own, net, layer, width, &[at], b),
+        Probe::Step {
+            layer,
+            width,
+            a,
+            b: end,
+        } => wire_ok(d, own, net, layer, width, &[a, end], b),
+        Probe::Via { padstack, at } => via_ok(d, own, net, padstack, at, b),
+    }
+}
+
+/// Whether the item that a probe of the net stands for agrees with `b`, as `pair_ok` says: a disc is a wire
+/// of one point, a step a wire of two. One step, and no memory.
+pub fn probe_ok<L: Ledger>(d: &Design, net: u32, p: &Probe, b: &Item, steps: &mut Steps<L>) -> bool
+    requires design { IsDesignFit d.now }
+    requires p_fits { IsProbeFit d.now p.now }
+    requires b_fits { IsItemFit b.now }
+    ensures says { IsTrue result ↔ ProbeAgrees d.now net p.now b.now }
+    ensures cost { steps.new ≡ steps.old + 1 }
+{
+    steps.tick();
+    probe_agrees(d, value(d, Some(net), probe_kind(p), b.kind), net, p, b)
+}
+
+fn shift(p: Point, by: Point) -> Point
+    requires p_within { IsWithin (2 ^ 29) p }
+    requires moved_within { IsWithin (2 ^ 29) (moved by p) }
+    ensures x { result.x ≡ (moved by p).x }
+    ensures y { result.y ≡ (moved by p).y }
+{
+    Point {
+        x: p.x + by.x,
+        y: p.y + by.y,
+    }
+}
+
+fn moved_first(p: &Piece, by: Point) -> Point
+    requires p_fit { IsFit p.now }
+    requires moved_fit { IsFit (moved_piece by p.now) }
+    ensures first { IsFirst (moved_piece by p.now).spine result }
+    ensures within { IsWithin (2 ^ 29) result }
+{
+    let first = first_point(&p.spine);
+    shift(first, by)
+}
+
+fn moved_begins_in_each(p: &Piece, by: Point, bounds: &[List<List<Point>>]) -> bool
+    requires p_fit { IsFit p.now }
+    requires moved_fit { IsFit (moved_piece by p.now) }
+    requires bounds_fit { All IsBoundFit bounds.now }
+    ensures { IsTrue result ↔ BeginsInEach bounds.now (moved_piece by p.now) }
+{
+    inside_each(moved_first(p, by), bounds)
+}
+
+fn moved_are_inside(ps: &[Piece], by: Point, bounds: &[List<List<Point>>]) -> bool
+    requires ps_fit { All IsFit ps.now }
+    requires moved_fit { All (λ p. IsFit (moved_piece by p)) ps.now }
+    requires bounds_fit { All IsBoundFit bounds.now }
+    ensures { IsTrue result ↔ AreInside bounds.now (map (moved_piece by) ps.now) }
+{
+    ps.iter().all(|p| moved_begins_in_each(p, by, bounds))
+}
+
+/// Whether the first vertex of each spine of what the probe stands for lies inside every boundary.
+pub fn probe_inside(d: &Design, p: &Probe) -> bool
+    requires design { IsDesignFit d.now }
+    requires p_fits { IsProbeFit d.now p.now }
+    ensures { IsTrue result ↔ AreInside d.now.bounds (pieces_of d.now (metal_of p.now)) }
+{
+    match *p {
+        Probe::Disc {
+            layer: _layer,
+            width: _width,
+            at,
+        } => inside_each(at, d.bounds.as_slice()),
+        Probe::Step {
+            layer: _layer,
+            width: _width,
+            a,
+            b: _end,
+        } => inside_each(a, d.bounds.as_slice()),
+        Probe::Via { padstack, at } => moved_are_inside(
+            padstack_pieces(d, padstack),
+            at,
+            d.bounds.as_slice(),
+        ),
+    }
+}

@@ -1,0 +1,271 @@
+//! Clearances and widths in nm, by the rules of nets, classes and the structure.
+//! Source: SPECCTRA reference, rule, class and net descriptors.
+
+ghost use Rattle.std.specs.Prelude.{◌≡◌, ◌≤◌, ◌^◌, All, IfSome, map, flat_map};
+ghost use Rattle.pcb_model.specs.declared.design.RuleSet.{RuleSet as TheRules};
+ghost use Rattle.pcb_model.specs.declared.design.Net.{Net as TheNet};
+ghost use Rattle.pcb_model.specs.declared.design.Typed.{Typed as TheTyped};
+ghost use Rattle.pcb_model.specs.Bounds.{AreRulesWithin, HasRulesWithin};
+ghost use Rattle.pcb_model.specs.Near.{IsSideOf, side_value};
+ghost use Rattle.pcb_model.specs.Rules.{is_kind, is_pair, names_pair, names_one, last_value, typed_value, value_of, clearance_of, width_for, first_present, levels, class_rules, net_rules};
+
+use crate::{Design, Kind, Net, RuleSet, Typed};
+
+pub(crate) fn same_kind(a: Kind, b: Kind) -> bool
+    ensures { result ≡ is_kind a b }
+{
+    match (a, b) {
+        (Kind::Wire, Kind::Wire)
+        | (Kind::Via, Kind::Via)
+        | (Kind::Pin, Kind::Pin)
+        | (Kind::Smd, Kind::Smd)
+        | (Kind::Area, Kind::Area) => true,
+        _ => false,
+    }
+}
+
+pub(crate) fn same_pair(ka: Kind, kb: Kind, a: Kind, b: Kind) -> bool
+    ensures { result ≡ is_pair ka kb a b }
+{
+    same_kind(ka, a) && same_kind(kb, b) || same_kind(ka, b) && same_kind(kb, a)
+}
+
+fn is_exact(ka: Kind, kb: Kind, t: &Typed) -> bool
+    ensures { result ≡ names_pair ka kb t.now.a t.now.b }
+{
+    match t.b {
+        Some(b) => same_pair(ka, kb, t.a, b),
+        None => false,
+    }
+}
+
+fn is_wide(ka: Kind, kb: Kind, t: &Typed) -> bool
+    ensures { result ≡ names_one ka kb t.now.a t.now.b }
+{
+    match t.b {
+        Some(_) => false,
+        None => same_kind(ka, t.a) || same_kind(kb, t.a),
+    }
+}
+
+fn last_exact(ts: &[Typed], ka: Kind, kb: Kind) -> Option<u64>
+    ensures { result ≡ last_value (λ t. names_pair ka kb t.a t.b) ts.now }
+{
+    ts.iter()
+        .rev()
+        .find(|t| is_exact(ka, kb, t))
+        .map(|t| t.value)
+}
+
+fn last_wide(ts: &[Typed], ka: Kind, kb: Kind) -> Option<u64>
+    ensures { result ≡ last_value (λ t. names_one ka kb t.a t.b) ts.now }
+{
+    ts.iter()
+        .rev()
+        .find(|t| is_wide(ka, kb, t))
+        .map(|t| t.value)
+}
+
+fn typed(rs: &RuleSet, ka: Kind, kb: Kind) -> Option<u64>
+    ensures { result ≡ typed_value ka kb rs.now.typed }
+{
+    let ts = rs.typed.as_slice();
+    match last_exact(ts, ka, kb) {
+        Some(v) => Some(v),
+        None => last_wide(ts, ka, kb),
+    }
+}
+
+// The value of a rule set, or `rest` where it has none.
+fn in_rules(rs: &RuleSet, ka: Kind, kb: Kind, rest: u64) -> u64
+    ensures { result ≡ first_present rest (levels ka kb rs.now) }
+{
+    match typed(rs, ka, kb) {
+        Some(v) => v,
+        None => match rs.plain {
+            Some(v) => v,
+            None => rest,
+        },
+    }
+}
+
+fn in_class(d: &Design, class: Option<u32>, ka: Kind, kb: Kind, rest: u64) -> u64
+    ensures { result ≡ first_present rest (flat_map (levels ka kb) (class_rules d.now class)) }
+{
+    match class {
+        Some(c) => match d.classes.as_slice().get(c as usize) {
+            Some(rs) => in_rules(rs, ka, kb, rest),
+            None => rest,
+        },
+        None => rest,
+    }
+}
+
+fn in_net(d: &Design, net: Option<u32>, ka: Kind, kb: Kind, rest: u64) -> u64
+    ensures { result ≡ first_present rest (flat_map (levels ka kb) (net_rules d.now net)) }
+{
+    match net {
+        Some(i) => match d.nets.as_slice().get(i as usize) {
+            Some(n) => in_rules(&n.rules, ka, kb, in_class(d, n.class, ka, kb, rest)),
+            None => rest,
+        },
+        None => rest,
+    }
+}
+
+// The value of one net for a pair of kinds.
+pub(crate) fn value(d: &Design, net: Option<u32>, ka: Kind, kb: Kind) -> u64
+    ensures { result ≡ value_of d.now net ka kb }
+{
+    in_net(d, net, ka, kb, in_rules(&d.rules, ka, kb, 0))
+}
+
+/// The distance in nm that copper of the net `a` and of kind `ka` keeps from copper of the net `b` and of kind `kb`:
+/// the greater of the values of the two nets. A net that is None, or out of range, has the values of the structure.
+pub fn clearance(d: &Design, a: Option<u32>, ka: Kind, b: Option<u32>, kb: Kind) -> u64
+    ensures { result ≡ clearance_of d.now a ka b kb }
+{
+    value(d, a, ka, kb).max(value(d, b, ka, kb))
+}
+
+// The width in nm of a net that no rule gives one.
+const DEFAULT_WIDTH: u64 = 250_000;
+
+fn width_in_class(d: &Design, class: Option<u32>, rest: u64) -> u64
+    ensures { result ≡ first_present rest (map (λ (rs : TheRules). rs.width) (class_rules d.now class)) }
+{
+    match class {
+        Some(c) => match d.classes.as_slice().get(c as usize) {
+            Some(rs) => rs.width.unwrap_or(rest),
+            None => rest,
+        },
+        None => rest,
+    }
+}
+
+/// The least width in nm of a net's wires: of the net, of its class, of the structure, or else 250,000.
+pub fn width_of(d: &Design, net: u32) -> u64
+    ensures { result ≡ width_for d.now net }
+{
+    let structure = d.rules.width.unwrap_or(DEFAULT_WIDTH);
+    match d.nets.as_slice().get(net as usize) {
+        Some(n) => n
+            .rules
+            .width
+            .unwrap_or(width_in_class(d, n.class, structure)),
+        None => structure,
+    }
+}
+
+/// The values of one net, whose copper is of one kind, towards each kind.
+#[derive(Clone, Copy)]
+pub(crate) struct Side {
+    pub(crate) wire: u64,
+    pub(crate) via: u64,
+    pub(crate) pin: u64,
+    pub(crate) smd: u64,
+    pub(crate) area: u64,
+}
+
+impl Side {
+    pub(crate) fn new(d: &Design, net: Option<u32>, kind: Kind) -> Side
+        ensures { IsSideOf d.now net kind result }
+    {
+        Side {
+            wire: value(d, net, kind, Kind::Wire),
+            via: value(d, net, kind, Kind::Via),
+            pin: value(d, net, kind, Kind::Pin),
+            smd: value(d, net, kind, Kind::Smd),
+            area: value(d, net, kind, Kind::Area),
+        }
+    }
+
+    pub(crate) fn towards(&self, kind: Kind) -> u64
+        ensures { result ≡ side_value self.now kind }
+    {
+        match kind {
+            Kind::Wire => self.wire,
+            Kind::Via => self.via,
+            Kind::Pin => self.pin,
+            Kind::Smd => self.smd,
+            Kind::Area => self.area,
+        }
+    }
+}
+
+fn reach_of_plain(plain: Option<u64>, least: u64) -> u64
+    requires plain { IfSome plain (λ c. c ≤ 2 ^ 28) }
+    requires least_within { least ≤ 2 ^ 28 }
+    ensures reaches { IfSome plain (λ c. c ≤ result) }
+    ensures least { least ≤ result }
+    ensures within { result ≤ 2 ^ 28 }
+{
+    match plain {
+        Some(c) => least.max(c),
+        None => least,
+    }
+}
+
+fn reach_of_typed(ts: &[Typed], least: u64) -> u64
+    requires typed { All (λ (t : TheTyped). t.value ≤ 2 ^ 28) ts.now }
+    requires least_within { least ≤ 2 ^ 28 }
+    ensures reaches { All (λ (t : TheTyped). t.value ≤ result) ts.now }
+    ensures least { least ≤ result }
+    ensures within { result ≤ 2 ^ 28 }
+{
+    let mut greatest = least;
+    for t in ts {
+        greatest = greatest.max(t.value);
+    }
+    greatest
+}
+
+// The greatest clearance of a rule set, or `least` where none is greater.
+fn reach_of_rules(rs: &RuleSet, least: u64) -> u64
+    requires rules { AreRulesWithin (2 ^ 28) rs.now }
+    requires least_within { least ≤ 2 ^ 28 }
+    ensures reaches { AreRulesWithin result rs.now }
+    ensures least { least ≤ result }
+    ensures within { result ≤ 2 ^ 28 }
+{
+    reach_of_typed(rs.typed.as_slice(), reach_of_plain(rs.plain, least))
+}
+
+fn reach_of_classes(classes: &[RuleSet], least: u64) -> u64
+    requires rules { All (AreRulesWithin (2 ^ 28)) classes.now }
+    requires least_within { least ≤ 2 ^ 28 }
+    ensures reaches { All (AreRulesWithin result) classes.now }
+    ensures least { least ≤ result }
+    ensures within { result ≤ 2 ^ 28 }
+{
+    let mut greatest = least;
+    for rs in classes {
+        greatest = reach_of_rules(rs, greatest);
+    }
+    greatest
+}
+
+fn reach_of_nets(nets: &[Net], least: u64) -> u64
+    requires rules { All (λ (n : TheNet). AreRulesWithin (2 ^ 28) n.rules) nets.now }
+    requires least_within { least ≤ 2 ^ 28 }
+    ensures reaches { All (λ (n : TheNet). AreRulesWithin result n.rules) nets.now }
+    ensures least { least ≤ result }
+    ensures within { result ≤ 2 ^ 28 }
+{
+    let mut greatest = least;
+    for n in nets {
+        greatest = reach_of_rules(&n.rules, greatest);
+    }
+    greatest
+}
+
+/// A distance in nm that no clearance of the design is above: the greatest that any of its rules names.
+pub fn reach_of(d: &Design) -> u64
+    requires { HasRulesWithin (2 ^ 28) d.now }
+    ensures reaches { HasRulesWithin result d.now }
+    ensures within { result ≤ 2 ^ 28 }
+{
+    let structure = reach_of_rules(&d.rules, 0);
+    let classes = reach_of_classes(d.classes.as_slice(), structure);
+    reach_of_nets(d.nets.as_slice(), classes)
+}

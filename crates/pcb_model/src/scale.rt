@@ -1,0 +1,190 @@
+//! The scale of a session: the design's resolution, where all that a session prints is whole in it.
+//! Source: SPECCTRA reference, resolution descriptor.
+
+ghost use Rattle.std.specs.Prelude.{◌≡◌, ◌<◌, ◌≤◌, map};
+ghost use Rattle.std.specs.List.{list_all};
+ghost use Rattle.pcb_model.specs.declared.design.RuleSet.{RuleSet as TheRules};
+ghost use Rattle.pcb_model.specs.Rules.{first_present, class_rules};
+ghost use Rattle.pcb_model.specs.Scale.{unit_nm, is_whole, is_whole_point, is_whole_spine, is_whole_piece, is_whole_padstack, is_whole_metal, net_width, is_whole_net, is_on_scale, keeps_resolution, scale_of};
+
+use crate::{Component, Design, FreeWire, Item, Metal, Net, Piece, SesScale};
+use geo_kernel::{List, Point, Spine, Unit};
+
+fn nm_in(unit: Unit) -> u64
+    ensures value { result ≡ unit_nm unit }
+    ensures some { 0 < result }
+    ensures few { result ≤ 25400000 }
+{
+    match unit {
+        Unit::Inch => 25_400_000,
+        Unit::Mil => 25_400,
+        Unit::Cm => 10_000_000,
+        Unit::Mm => 1_000_000,
+        Unit::Um => 1_000,
+    }
+}
+
+fn has_whole_point(nm: u64, p: &Point) -> bool
+    requires { 0 < nm }
+    ensures { result ≡ is_whole_point nm p.now }
+{
+    p.x.unsigned_abs() % nm == 0 && p.y.unsigned_abs() % nm == 0
+}
+
+fn has_whole_points(nm: u64, points: &[Point]) -> bool
+    requires { 0 < nm }
+    ensures { result ≡ list_all (is_whole_point nm) points.now }
+{
+    points.iter().all(|p| has_whole_point(nm, p))
+}
+
+fn has_whole_loops(nm: u64, loops: &[List<Point>]) -> bool
+    requires { 0 < nm }
+    ensures { result ≡ list_all (list_all (is_whole_point nm)) loops.now }
+{
+    loops
+        .iter()
+        .all(|points| has_whole_points(nm, points.as_slice()))
+}
+
+fn has_whole_spine(nm: u64, spine: &Spine) -> bool
+    requires { 0 < nm }
+    ensures { result ≡ is_whole_spine nm spine.now }
+{
+    match spine {
+        Spine::Chain(points) => has_whole_points(nm, points.as_slice()),
+        Spine::Area(loops) => has_whole_loops(nm, loops.as_slice()),
+    }
+}
+
+fn has_whole_pieces(nm: u64, pieces: &[Piece]) -> bool
+    requires { 0 < nm }
+    ensures { result ≡ list_all (is_whole_piece nm) pieces.now }
+{
+    pieces
+        .iter()
+        .all(|c| c.width % nm == 0 && has_whole_spine(nm, &c.spine))
+}
+
+fn has_whole_padstack(d: &Design, nm: u64, padstack: u32) -> bool
+    requires { 0 < nm }
+    ensures { result ≡ is_whole_padstack d.now nm padstack }
+{
+    match d.padstacks.as_slice().get(padstack as usize) {
+        Some(s) => has_whole_pieces(nm, s.pieces.as_slice()),
+        None => true,
+    }
+}
+
+fn has_whole_metal(d: &Design, nm: u64, metal: &Metal) -> bool
+    requires { 0 < nm }
+    ensures { result ≡ is_whole_metal d.now nm metal.now }
+{
+    match metal {
+        Metal::Wire { width, chain, .. } => {
+            *width % nm == 0 && has_whole_points(nm, chain.as_slice())
+        }
+        Metal::Via { padstack, at } => {
+            has_whole_point(nm, at) && has_whole_padstack(d, nm, *padstack)
+        }
+        Metal::Pad { .. } => true,
+        Metal::Ban { .. } => true,
+    }
+}
+
+fn class_width(d: &Design, class: Option<u32>, rest: u64) -> u64
+    ensures { result ≡ first_present rest (map (λ (rs : TheRules). rs.width) (class_rules d.now class)) }
+{
+    match class {
+        Some(c) => match d.classes.as_slice().get(c as usize) {
+            Some(rs) => rs.width.unwrap_or(rest),
+            None => rest,
+        },
+        None => rest,
+    }
+}
+
+fn width_of_net(d: &Design, n: &Net) -> u64
+    ensures { result ≡ net_width d.now n.now }
+{
+    let structure = d.rules.width.unwrap_or(250000);
+    n.rules.width.unwrap_or(class_width(d, n.class, structure))
+}
+
+fn has_whole_padstacks(d: &Design, nm: u64, padstacks: &[u32]) -> bool
+    requires { 0 < nm }
+    ensures { result ≡ list_all (is_whole_padstack d.now nm) padstacks.now }
+{
+    padstacks.iter().all(|p| has_whole_padstack(d, nm, *p))
+}
+
+fn has_whole_net(d: &Design, nm: u64, n: &Net) -> bool
+    requires { 0 < nm }
+    ensures { result ≡ is_whole_net d.now nm n.now }
+{
+    width_of_net(d, n) % nm == 0 && has_whole_padstacks(d, nm, n.vias.as_slice())
+}
+
+fn has_whole_nets(d: &Design, nm: u64, nets: &[Net]) -> bool
+    requires { 0 < nm }
+    ensures { result ≡ list_all (is_whole_net d.now nm) nets.now }
+{
+    nets.iter().all(|n| has_whole_net(d, nm, n))
+}
+
+fn has_whole_places(nm: u64, components: &[Component]) -> bool
+    requires { 0 < nm }
+    ensures { result ≡ list_all (λ c. is_whole_point nm c.at) components.now }
+{
+    components.iter().all(|c| has_whole_point(nm, &c.at))
+}
+
+fn has_whole_items(d: &Design, nm: u64, items: &[Item]) -> bool
+    requires { 0 < nm }
+    ensures { result ≡ list_all (λ a. is_whole_metal d.now nm a.metal) items.now }
+{
+    items.iter().all(|a| has_whole_metal(d, nm, &a.metal))
+}
+
+fn has_whole_free(d: &Design, nm: u64, free: &[FreeWire]) -> bool
+    requires { 0 < nm }
+    ensures { result ≡ list_all (λ w. is_whole_metal d.now nm w.metal) free.now }
+{
+    free.iter().all(|w| has_whole_metal(d, nm, &w.metal))
+}
+
+fn has_whole_parts(d: &Design, nm: u64) -> bool
+    requires { 0 < nm }
+    ensures { result ≡ is_on_scale d.now nm }
+{
+    has_whole_places(nm, d.components.as_slice())
+        && has_whole_nets(d, nm, d.nets.as_slice())
+        && has_whole_items(d, nm, d.fixed.as_slice())
+        && has_whole_free(d, nm, d.free.as_slice())
+}
+
+impl SesScale {
+    /// The design's resolution where one of its units is a whole number of nm and all that a session prints of the design
+    /// is whole in it: places, net widths, the wiring and the padstacks of vias. Otherwise 1000 to the micrometre, 1 nm.
+    #[tactic(auto, unfolding(crate::specs::Scale::scale_of))]
+    pub fn pick(d: &Design) -> SesScale
+        ensures value { result ≡ scale_of d.now }
+        ensures some { 0 < result.nm }
+        ensures few { result.nm ≤ 25400000 }
+    {
+        let nm = nm_in(d.unit);
+        if d.per > 0 && nm % d.per == 0 && has_whole_parts(d, nm / d.per) {
+            SesScale {
+                unit: d.unit,
+                per: d.per,
+                nm: nm / d.per,
+            }
+        } else {
+            SesScale {
+                unit: Unit::Um,
+                per: 1000,
+                nm: 1,
+            }
+        }
+    }
+}

@@ -1,0 +1,13 @@
+//! The session of a routed board, as bytes.
+//! Source: SPECCTRA reference, session file descriptor.
+#![tactic(auto)]
+
+mod library;
+mod network;
+mod placement;
+mod session;
+#[cfg(test)]
+mod tests;
+mod words;
+
+pub use session::session_text;

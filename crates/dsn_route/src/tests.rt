@@ -199,9 +199,10 @@ fn nets_get_the_first_wire_of_one_bend_that_fits(rt: HostRuntime) -> Result<(), 
 #[test]
 fn calls_that_stop_say_why(rt: HostRuntime) -> Result<(), Fail> {
     let alloc = rt.alloc();
-    let cases: [(&[&str], Status, &str); 6] = [
+    let cases: [(&[&str], Status, &str); 7] = [
         (&[], Status::Usage, "usage 1\n"),
         (&["draw"], Status::Usage, "usage 2\n"),
+        (&["gen", "1"], Status::Usage, "usage 2\n"),
         (&["route", "u.dsn"], Status::Usage, "usage 3\n"),
         (&["route", "a", "-b"], Status::Usage, "usage 3\n"),
         (

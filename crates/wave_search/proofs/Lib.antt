@@ -1,0 +1,7 @@
+pub mod Heap
+pub mod Table
+pub mod Steps
+pub mod Kept
+pub mod Ends
+pub mod Trace
+pub mod Run

@@ -1,0 +1,72 @@
+-- One turn of the search, and its end.
+use Rattle.std.proofs.Common.{◌≡◌, ℕ, ◌+◌, ◌-◌, ◌*◌, ◌^◌, ◌<◌, ◌≤◌, List, [], length, Option, Some, None, refl, sym, ap, ◌∙◌, subst, arith}
+use Rattle.std.specs.Prelude.{Contains, IfSome}
+use Rattle.wave_search.specs.declared.labels.Label.{Label}
+use Rattle.wave_search.specs.declared.front.Entry.{Entry}
+use Rattle.wave_search.specs.Waiting.{Waits, IsTaken}
+use Rattle.route_lattice.specs.Walks.{MoveGraph, Hop, IsSound, NoneCostsLess, NoneLeads, IsReach, Reaches}
+use Rattle.wave_search.specs.Bounds.{IsBound}
+use Rattle.wave_search.specs.State.{label_at, done_count, IsPut, Comes, Roots, IsListed, IsState}
+use Rattle.wave_search.proofs.Table.{within, at_most, more_to_do}
+use Rattle.wave_search.proofs.Steps.{whole, finished, key_is, raise, none_less, closed_none, closed_complete, closed_reached, not_done, one_label}
+
+-- the price of a label is small
+pub price_small : {graph : MoveGraph} {starts goals : List ℕ} {low : ℕ → ℕ} {t : List (Option Label)} {q : List Entry} {level fin cur j : ℕ} → IsSound graph → IsState graph starts goals low t q level fin cur j
+    → (v : ℕ) (l : Label) → label_at t v ≡ Some l → l.price < 2 ^ 60
+price_small {t = t} sound i v l h = omega (arith, i.priced v l h, i.done, at_most t, i.roots.size, sound.nodes)
+
+-- the origin of a label is a small number
+pub origin_small : {graph : MoveGraph} {starts : List ℕ} {t : List (Option Label)} → IsSound graph → Roots graph starts t → (v : ℕ) (l : Label) → label_at t v ≡ Some l → IfSome l.origin (λ o. o < 2 ^ 25)
+origin_small {graph} {starts} {t} sound roots v l h = small l.origin (roots.comes v l h)
+  where
+    small : (o : Option ℕ) → Comes graph starts t v l.price l.rank o → IfSome o (λ x. x < 2 ^ 25)
+    small None c = tt
+    small (Some x) c = omega (arith, within t x c.label c.there, roots.size, sound.nodes)
+
+module _ {graph : MoveGraph} {starts goals : List ℕ} {low : ℕ → ℕ} (sound : IsSound graph) (bound : IsBound graph goals low)
+    {t : List (Option Label)} {q : List Entry} {fin : ℕ} (state : (level : ℕ) × IsState graph starts goals low t q level fin 0 graph.arity) {e : Entry} {q' : List Entry} (taken : IsTaken q e q') where
+  pub node_in : e.node < length t
+  node_in = let b = state.1.labelled e taken.there in within t e.node b.1.label b.1.there
+
+  pub node_below : e.node < graph.count
+  node_below = omega (arith, node_in, state.1.roots.size)
+
+  module _ {l : Label} (there : label_at t e.node ≡ Some l) (rank_is : l.rank ≡ 0) where
+    waits : (k : Label) → label_at t e.node ≡ Some k → k.rank ≡ 0
+    waits k h = ap (λ (x : Label). x.rank) (one_label t e.node k l h there) ∙ rank_is
+
+    pub room : fin < graph.count
+    room = omega (arith, more_to_do t e.node node_in (not_done (label_at t e.node) waits), state.1.done, state.1.roots.size)
+
+    pub comes_now : Comes graph starts t e.node l.price (fin + 1) l.origin
+    comes_now = raise graph starts goals low sound bound t q state.0 fin 0 state.1 e q' taken l there rank_is e.node l.price l.rank (fin + 1) l.origin (omega arith) (state.1.roots.comes e.node l there)
+
+    pub none_less_now : Contains goals e.node → NoneCostsLess graph starts goals l.price
+    none_less_now ge = none_less graph starts goals low sound bound t q state.0 fin 0 state.1 e q' taken l there rank_is ge
+
+    pub state_now : (Contains goals e.node → ⊥) → (t' : List (Option Label)) → IsPut t e.node (record { price = l.price; rank = fin + 1; origin = l.origin }) t' → IsState graph starts goals low t' q' (l.price + low e.node) (fin + 1) e.node 0
+    state_now g t' w = subst (λ (k : ℕ). IsState graph starts goals low t' q' k (fin + 1) e.node 0) (key_is graph starts goals low sound bound t q state.0 fin 0 state.1 e q' taken l there rank_is)
+        (finished graph starts goals low sound bound t q state.0 fin 0 state.1 e q' taken l there rank_is (record { price = l.price; rank = fin + 1; origin = l.origin }) refl refl refl g t' w)
+
+suc-times : (k a : ℕ) → (k + 1) * (a + 1) ≡ k * (a + 1) + (a + 1)
+suc-times k a = omega arith
+
+-- the measure of a turn
+pub falls : (count fin a x y z : ℕ) → fin < count → y < x → z ≤ y + a → (count - (fin + 1)) * (a + 1) + z < (count - fin) * (a + 1) + x
+falls count fin a x y z h f g =
+    let e : count - fin ≡ count - (fin + 1) + 1 = omega arith in
+    let m : (count - fin) * (a + 1) ≡ (count - (fin + 1)) * (a + 1) + (a + 1) = ap (λ (x : ℕ). x * (a + 1)) e ∙ suc-times (count - (fin + 1)) a in
+    omega (arith, m)
+
+-- nothing waits any more
+pub closed : {graph : MoveGraph} {starts goals : List ℕ} {low : ℕ → ℕ} → IsSound graph → IsBound graph goals low → {t : List (Option Label)} {q : List Entry} {fin : ℕ} → (level : ℕ) × IsState graph starts goals low t q level fin 0 graph.arity
+    → q ≡ [] → {listed : List ℕ} → IsListed t listed → (nodes : List ℕ) → nodes ≡ listed → NoneLeads graph starts goals × IsReach graph starts nodes
+closed {graph} {starts} {goals} {low} sound bound {t} {q} {fin} s empty {listed} i nodes same =
+    let state : IsState graph starts goals low t [] s.0 fin 0 graph.arity = subst (λ (x : List Entry). IsState graph starts goals low t x s.0 fin 0 graph.arity) empty s.1 in (
+      closed_none graph starts goals low sound bound t s.0 fin 0 state,
+      subst (λ (xs : List ℕ). IsReach graph starts xs) (sym same) (record {
+        ascends = i.ascends;
+        reached = λ v c. let l = i.labelled v c in closed_reached graph starts goals low sound bound t s.0 fin 0 state v l.0 l.1;
+        complete = λ v r. let l = closed_complete graph starts goals low sound bound t s.0 fin 0 state v r in i.complete v l.0 l.1;
+      }),
+    )

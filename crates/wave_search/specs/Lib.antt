@@ -1,0 +1,5 @@
+pub mod Bounds
+pub mod Waiting
+pub mod Order
+pub mod State
+pub mod Rows

@@ -1,0 +1,28 @@
+-- The entries of a heap, of which the least is on top.
+use Rattle.std.specs.Prelude.{◌≡◌, ℕ, List, map}
+use Rattle.std.specs.declared.cmp.Ordering.{Ordering}
+use Rattle.std.specs.Ordering.{nat_cmp, ordering_then}
+use Rattle.std.specs.BinaryHeap.{heap_items, IsHeap}
+use Rattle.std.specs.declared.collections.BinaryHeap.{BinaryHeap}
+use Rattle.std.specs.declared.cmp.Reverse.{Reverse}
+use Rattle.std.specs.declared.alloc.Global.{Global}
+use Rattle.wave_search.specs.declared.front.Entry.{Entry}
+use Rattle.wave_search.specs.declared.front.Item.{Item}
+
+-- by key, then by order, then by node
+abbrev pub item_cmp : Item → Item → Ordering
+item_cmp a b = ordering_then (nat_cmp a.key b.key) (ordering_then (nat_cmp a.order b.order) (nat_cmp a.node b.node))
+
+-- the greater comes first
+abbrev pub later_cmp : Reverse Item → Reverse Item → Ordering
+later_cmp x y = item_cmp y.0 x.0
+
+-- the entry that an item stands for
+abbrev pub inner : Reverse Item → Entry
+inner r = record { key = r.0.key; node = r.0.node }
+
+abbrev pub entries_of : BinaryHeap (Reverse Item) Global → List Entry
+entries_of h = map inner (heap_items h)
+
+abbrev pub IsOrdered : BinaryHeap (Reverse Item) Global → Type 0
+IsOrdered h = IsHeap later_cmp (heap_items h)

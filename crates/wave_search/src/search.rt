@@ -1,0 +1,124 @@
+//! Searches for a least walk, and the memory that they share.
+//! A search costs what it visits: the memory is made once, and what a search wrote is cleared by the next.
+
+ghost use Rattle.std.specs.Prelude.{◌≡◌, ◌<◌, ◌≤◌, IfOk, All};
+ghost use Rattle.route_lattice.specs.Walks.{IsSound, Answers};
+ghost use Rattle.wave_search.specs.Bounds.{IsBound};
+
+use crate::bound::{Bound, NoBound};
+use crate::labels::Labels;
+use crate::marks::Marks;
+use crate::task::Task;
+use geo_kernel::List;
+use route_lattice::{Found, Moves};
+use std::alloc::{AllocError, Global};
+use std::marker::Model;
+
+/// Memory for searches over a number of nodes, 17 bytes a node; contracts see it as that number.
+#[derive(Drop)]
+pub struct Search {
+    labels: Labels,
+    marks: Marks,
+}
+
+impl Model for Search {
+    ghost use Rattle.std.specs.Prelude.{◌≡◌, ℕ, length};
+
+    ghost Value = { ℕ };
+
+    ghost view = { λ s. length s.labels };
+
+    ghost invariant = { λ s. length s.marks ≡ length s.labels };
+}
+
+impl Search {
+    /// Memory for searches over `count` nodes.
+    pub fn new(alloc: Global, count: u32) -> Result<Search, AllocError>
+        ensures { IfOk result (λ s. s ≡ count) }
+    {
+        let labels = Labels::new(alloc, count)?;
+        let marks = Marks::new(alloc, count)?;
+        Ok(Search { labels, marks })
+    }
+
+    /// A walk over open moves from a start to a goal such that none costs less; Closed exactly where there is none,
+    /// with all nodes that open moves reach from the starts. A goal that is no node is none.
+    pub fn guided_walk<M: Moves, B: Bound>(
+        &mut self,
+        alloc: Global,
+        m: &M,
+        b: &B,
+        starts: &List<u32>,
+        goals: &List<u32>,
+    ) -> Result<Found, AllocError>
+        requires size { self.old ≡ (M.graph m.now).count }
+        requires ready { M.ready m.now }
+        requires sound { IsSound (M.graph m.now) }
+        requires bound { IsBound (M.graph m.now) goals.now (B.low_of b.now) }
+        requires starts { All (λ s. s < (M.graph m.now).count) starts.now }
+        ensures answers { IfOk result (Answers (M.graph m.now) starts.now goals.now) }
+        ensures size { self.new ≡ self.old }
+    {
+        self.labels.clear();
+        self.marks.set_to(goals.as_slice())?;
+        let task = Task {
+            m,
+            b,
+            starts,
+            goals,
+            marks: &self.marks,
+        };
+        task.run(alloc, &mut self.labels)
+    }
+
+    /// The same without a bound.
+    pub fn least_walk<M: Moves>(
+        &mut self,
+        alloc: Global,
+        m: &M,
+        starts: &List<u32>,
+        goals: &List<u32>,
+    ) -> Result<Found, AllocError>
+        requires size { self.old ≡ (M.graph m.now).count }
+        requires ready { M.ready m.now }
+        requires sound { IsSound (M.graph m.now) }
+        requires starts { All (λ s. s < (M.graph m.now).count) starts.now }
+        ensures answers { IfOk result (Answers (M.graph m.now) starts.now goals.now) }
+        ensures size { self.new ≡ self.old }
+    {
+        self.guided_walk(alloc, m, &NoBound, starts, goals)
+    }
+}
+
+/// `Search::guided_walk` over memory of its own.
+pub fn guided_walk<M: Moves, B: Bound>(
+    alloc: Global,
+    m: &M,
+    b: &B,
+    starts: &List<u32>,
+    goals: &List<u32>,
+) -> Result<Found, AllocError>
+    requires ready { M.ready m.now }
+    requires sound { IsSound (M.graph m.now) }
+    requires bound { IsBound (M.graph m.now) goals.now (B.low_of b.now) }
+    requires starts { All (λ s. s < (M.graph m.now).count) starts.now }
+    ensures { IfOk result (Answers (M.graph m.now) starts.now goals.now) }
+{
+    let mut search = Search::new(alloc, m.count())?;
+    search.guided_walk(alloc, m, b, starts, goals)
+}
+
+/// `Search::least_walk` over memory of its own.
+pub fn least_walk<M: Moves>(
+    alloc: Global,
+    m: &M,
+    starts: &List<u32>,
+    goals: &List<u32>,
+) -> Result<Found, AllocError>
+    requires ready { M.ready m.now }
+    requires sound { IsSound (M.graph m.now) }
+    requires starts { All (λ s. s < (M.graph m.now).count) starts.now }
+    ensures { IfOk result (Answers (M.graph m.now) starts.now goals.now) }
+{
+    guided_walk(alloc, m, &NoBound, starts, goals)
+}

@@ -1,9 +1,9 @@
 -- Lists with one more element at the end.
-use Rattle.std.proofs.Common.{suc, refl, ◌∙◌, subst, List, [], ◌∷◌, ◌++◌, length, get_or, arith, length-append}
-use Rattle.std.specs.List.{All, Any, AllPairs, Contains}
-use Rattle.std.proofs.lemmas.List.{get_or_append_left}
+use Rattle.std.proofs.Common.{◌≡◌, ◌⊎◌, inl, inr, ◌+◌, ◌<◌, ℕ, zero, suc, refl, sym, ◌∙◌, subst, take, List, [], ◌∷◌, ◌++◌, length, get_or, arith, length-append}
+use Rattle.std.specs.List.{All, AllPairs, Contains}
+use Rattle.std.proofs.lemmas.List.{get_or_append_left, take_more}
 use Rattle.std.proofs.Math.Seq.{get_or-append_seam}
-use Rattle.std.proofs.lemmas.List.Elements.{All-contains}
+use Rattle.std.proofs.lemmas.List.Elements.{All-contains, All-push, Contains-append_cases}
 
 -- the last element is in the list
 pub at_end : {X : Type 0} (xs : List X) (y : X) → Contains (xs ++ y ∷ []) y
@@ -24,13 +24,11 @@ pair_at_end R xs y x pairs (k, within, is) =
     (subst (λ z. R (get_or (xs ++ y ∷ []) k x) z) (get_or-append_seam xs y [] x)
     (pairs k (length xs) x within (omega (arith, length-append xs (y ∷ [])))))
 
--- an element of which P holds stands at the front
-pub any_here : {X : Type 0} (P : X → Type 0) (x : X) (xs : List X) → P x → Any P (x ∷ xs)
-any_here P x xs h = (0, x, omega arith, refl, h)
+-- an element of a list with one more is one of the list or the last
+pub in_more : {X : Type 0} (xs : List X) (y x : X) → Contains (xs ++ y ∷ []) x → Contains xs x ⊎ (y ≡ x)
+in_more xs y x there = elim (Contains-append_cases xs (y ∷ []) x there) [ inl before ↦ inl before | inr (zero, within, is) ↦ inr is | inr (suc k, within, is) ↦ absurd (omega (arith, within)) ]
 
-pub any_there : {X : Type 0} (P : X → Type 0) (x : X) (xs : List X) → Any P xs → Any P (x ∷ xs)
-any_there P x xs (k, y, within, is, h) = (suc k, y, omega arith, is, h)
-
--- a weaker fact holds of some element too
-pub any_weaker : {X : Type 0} (P Q : X → Type 0) (xs : List X) → ((x : X) → P x → Q x) → Any P xs → Any Q xs
-any_weaker P Q xs weaker (k, y, within, is, h) = (k, y, within, is, weaker y h)
+-- what holds of a front and of the next element
+pub all_take_more : {X : Type 0} (P : X → Type 0) (xs : List X) (i : ℕ) (x : X) → i < length xs → x ≡ get_or xs i x → All P (take i xs) → P x → All P (take (i + 1) xs)
+all_take_more P xs i x within is all here =
+    subst (λ ys. All P ys) (sym (take_more xs i x within)) (All-push P (take i xs) (get_or xs i x) all (subst P is here))

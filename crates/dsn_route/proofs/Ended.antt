@@ -7,7 +7,7 @@ use Rattle.desk_io.specs.declared.desk.SinkFail.TheVariants as sink_fail
 use Rattle.dsn_route.specs.declared.status.Status.{Status}
 use Rattle.dsn_route.specs.declared.status.Status.TheVariants.{Usage, Refused, ReadFault, Limit}
 use Rattle.dsn_route.specs.declared.words.WordFault.{WordFault}
-use Rattle.dsn_route.specs.Words.{Names}
+use Rattle.dsn_route.specs.Words.{Command}
 use Rattle.dsn_route.specs.Status.{ended_of}
 use Rattle.pcb_model.specs.declared.design.Design.{Design}
 use Rattle.dsn_route.specs.Texts.{HasDesign}
@@ -15,17 +15,17 @@ use Rattle.dsn_route.specs.Answers.{IsInput, Stops, Said, Answers}
 use Rattle.dsn_route.specs.Said.{RoutesDesign}
 
 -- the line of a cause was put
-line_said : (command : Result Names WordFault) (desk later : DeskState) (sink after : SinkState) (status : Status) (line : List ℕ)
+line_said : (command : Result Command WordFault) (desk later : DeskState) (sink after : SinkState) (status : Status) (line : List ℕ)
     → Stops command desk later status line → after.bytes ≡ appended sink.bytes line → Said command desk later sink after status
 line_said (Err fault) desk later sink after Usage line why put = record { line = line; stops = why; bytes = put }
 line_said (Err fault) desk later sink after _ line why put = absurd why
-line_said (Ok names) desk later sink after Refused line why put = record { line = line; stops = why; bytes = put }
-line_said (Ok names) desk later sink after ReadFault line why put = record { line = line; stops = why; bytes = put }
-line_said (Ok names) desk later sink after Limit line why put = record { line = line; stops = why; bytes = put }
-line_said (Ok names) desk later sink after _ line why put = absurd why
+line_said (Ok command) desk later sink after Refused line why put = record { line = line; stops = why; bytes = put }
+line_said (Ok command) desk later sink after ReadFault line why put = record { line = line; stops = why; bytes = put }
+line_said (Ok command) desk later sink after Limit line why put = record { line = line; stops = why; bytes = put }
+line_said (Ok command) desk later sink after _ line why put = absurd why
 
 -- A call that has a cause to stop, leaves the files and puts the line of the cause has its answer.
-pub stopped : {T : Type 0} (command : Result Names WordFault) (desk later : DeskState) (sink after : SinkState) (put : Result T SinkFail) (status : Status) (line : List ℕ)
+pub stopped : {T : Type 0} (command : Result Command WordFault) (desk later : DeskState) (sink after : SinkState) (put : Result T SinkFail) (status : Status) (line : List ℕ)
     → Stops command desk later status line → later.files ≡ desk.files → PutGives sink after line put
     → Answers command desk later sink after (ended_of put status)
 stopped command desk later sink after (Ok x) status line why files gives =
@@ -36,10 +36,10 @@ stopped command desk later sink after (Err (sink_fail.Memory e)) status line why
     inl (record { files = files; said = gives })
 
 -- A text of a design that was routed, or for whose run memory was wanting, has its answer.
-pub routed : (names : Names) (desk later : DeskState) (sink after : SinkState) (status : Status) (text : List ℕ) (d : Design)
-    → IsInput names desk text → HasDesign text d → RoutesDesign names d desk later sink after status
-    → Answers (Ok names) desk later sink after status
-routed names desk later sink after status text d input reads (inl left) =
-    inl (record { files = left.files; said = subst (λ s. Said (Ok names) desk later sink after s) (sym left.memory) left.bytes })
-routed names desk later sink after status text d input reads (inr out) =
-    inr (record { text = text; design = d; items = out.items; complete = out.complete; input = input; reads = reads; run = out.run }, out.leaves)
+pub routed : (command : Command) (desk later : DeskState) (sink after : SinkState) (status : Status) (text : List ℕ) (d : Design)
+    → IsInput command desk text → HasDesign text d → RoutesDesign command d desk later sink after status
+    → Answers (Ok command) desk later sink after status
+routed command desk later sink after status text d input reads (inl left) =
+    inl (record { files = left.files; said = subst (λ s. Said (Ok command) desk later sink after s) (sym left.memory) left.bytes })
+routed command desk later sink after status text d input reads (inr out) =
+    inr (record { text = text; design = d; items = out.items; ends = out.ends; input = input; reads = reads; few = out.few; run = out.run }, out.leaves)

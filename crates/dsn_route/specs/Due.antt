@@ -1,26 +1,27 @@
 -- Which answer is due: the causes of the answers, from the words, the files at entry and the text.
-use Rattle.std.specs.Prelude.{◌≡◌, ◌≤◌, ◌<◌, ◌⊎◌, ℕ, List, length, IsTrue, Result, Ok}
+use Rattle.std.specs.Prelude.{◌≡◌, ◌≤◌, ◌<◌, ◌^◌, ◌⊎◌, ℕ, List, length, IsTrue, Result, Ok}
 use Rattle.desk_io.specs.States.{DeskState, SinkState, Rose}
 use Rattle.desk_io.specs.Answers.{IsAbsent, IsHeld}
 use Rattle.pcb_model.specs.declared.design.Design.{Design}
+use Rattle.route_lattice.specs.Mesh.{node_count}
 use Rattle.dsn_route.specs.declared.status.Status.{Status}
 use Rattle.dsn_route.specs.declared.status.Status.TheVariants.{Complete, SomeOpen, ReadFault, WriteFault, Memory}
 use Rattle.dsn_route.specs.declared.words.WordFault.{WordFault}
-use Rattle.dsn_route.specs.Words.{Names}
+use Rattle.dsn_route.specs.Words.{Command}
 use Rattle.dsn_route.specs.Texts.{HasDesign, IsRefused}
-use Rattle.dsn_route.specs.Answers.{max_bytes}
+use Rattle.dsn_route.specs.Answers.{max_bytes, mesh_of}
 
 -- accepted words name an input that the desk tells to be absent
-pub record IsMissing (command : Result Names WordFault) (desk : DeskState) : Type 0 where
-  pub names : Names
-  pub accepted : command ≡ Ok names
-  pub absent : IsAbsent desk.files names.input
+pub record IsMissing (command : Result Command WordFault) (desk : DeskState) : Type 0 where
+  pub asked : Command
+  pub accepted : command ≡ Ok asked
+  pub absent : IsAbsent desk.files asked.input
 
 -- accepted words name an input of which the desk tells this text
-pub record IsRead (command : Result Names WordFault) (desk : DeskState) (text : List ℕ) : Type 0 where
-  pub names : Names
-  pub accepted : command ≡ Ok names
-  pub held : IsHeld desk.files names.input text
+pub record IsRead (command : Result Command WordFault) (desk : DeskState) (text : List ℕ) : Type 0 where
+  pub asked : Command
+  pub accepted : command ≡ Ok asked
+  pub held : IsHeld desk.files asked.input text
 
 -- the text is longer than the limit
 abbrev pub IsLong : List ℕ → Type 0
@@ -33,11 +34,22 @@ pub record IsUnfit (text : List ℕ) : Type 0 where
   pub place : ℕ
   pub refused : IsRefused text number place
 
--- the text is within the limit, and has a design
-pub record IsFit (text : List ℕ) : Type 0 where
+-- the text is within the limit, and has a design on whose lattice, at the grid that is asked for, P holds of the number of nodes
+pub record IsFit (P : ℕ → Type 0) (command : Result Command WordFault) (text : List ℕ) : Type 0 where
+  pub asked : Command
+  pub accepted : command ≡ Ok asked
   pub fits : length text ≤ max_bytes
   pub design : Design
   pub reads : HasDesign text design
+  pub nodes : P (node_count (mesh_of asked design))
+
+-- the lattice has more than 2^24 nodes
+abbrev pub IsTooFine : Result Command WordFault → List ℕ → Type 0
+IsTooFine = IsFit (λ count. 2 ^ 24 < count)
+
+-- it has at most as many
+abbrev pub IsRoutable : Result Command WordFault → List ℕ → Type 0
+IsRoutable = IsFit (λ count. count ≤ 2 ^ 24)
 
 -- the answer that is due, or the one for a failed write or put, or for want of memory
 abbrev pub IsDue : Status → Status → Type 0

@@ -1,29 +1,32 @@
 -- What the parts of the top call answer.
-use Rattle.std.specs.Prelude.{◌≡◌, ◌⊎◌, Bool, false, List, All, Contains, IsTrue, Result, Ok, Err}
+use Rattle.std.specs.Prelude.{◌≡◌, ◌≤◌, ◌<◌, ◌^◌, ◌⊎◌, List, All, Any, IsTrue, Result, Ok, Err}
 use Rattle.desk_io.specs.States.{DeskState, SinkState}
 use Rattle.pcb_model.specs.declared.item.Item.{Item}
 use Rattle.pcb_model.specs.declared.design.Design.{Design}
+use Rattle.route_lattice.specs.Mesh.{node_count}
+use Rattle.cut_certificate.specs.declared.cut.Cut.{Cut}
 use Rattle.dsn_route.specs.declared.status.Status.{Status}
-use Rattle.dsn_route.specs.declared.status.Status.TheVariants.{Complete, SomeOpen, Memory}
-use Rattle.dsn_route.specs.declared.words.Named.{Named}
+use Rattle.dsn_route.specs.declared.status.Status.TheVariants.{Complete, SomeOpen, Memory, Limit}
+use Rattle.dsn_route.specs.declared.words.Asked.{Asked}
 use Rattle.dsn_route.specs.declared.words.WordFault.{WordFault}
-use Rattle.dsn_route.specs.Words.{Names}
-use Rattle.dsn_route.specs.OneBend.{IsRun}
-use Rattle.dsn_route.specs.Answers.{Leaves}
+use Rattle.dsn_route.specs.Words.{Command}
+use Rattle.dsn_route.specs.Report.{is_complete, is_open}
+use Rattle.dsn_route.specs.Joins.{IsRun}
+use Rattle.dsn_route.specs.Answers.{via_price, mesh_of, nodes_line, Leaves}
 
--- the names without where they lie in memory
-abbrev pub names_from : Named → Names
-names_from named = record { input = named.input.now; output = named.output.now }
+-- what is asked, without where it lies in memory
+abbrev pub command_from : Asked → Command
+command_from asked = record { input = asked.input.now; output = asked.output.now; grid = asked.grid }
 
-abbrev pub WordsGive : Result Names WordFault → Result Named WordFault → Type 0
-WordsGive command (Ok named) = command ≡ Ok (names_from named)
+abbrev pub WordsGive : Result Command WordFault → Result Asked WordFault → Type 0
+WordsGive command (Ok asked) = command ≡ Ok (command_from asked)
 WordsGive command (Err fault) = command ≡ Err fault
 
 -- every net is complete, or some isn't
-abbrev pub IsVerdict : List Bool → Status → Type 0
-IsVerdict complete Complete = All IsTrue complete
-IsVerdict complete SomeOpen = Contains complete false
-IsVerdict complete status = ⊥
+abbrev pub IsVerdict : List (List Cut) → Status → Type 0
+IsVerdict ends Complete = All (λ cuts. IsTrue (is_complete cuts)) ends
+IsVerdict ends SomeOpen = Any (λ cuts. IsTrue (is_open cuts)) ends
+IsVerdict ends status = ⊥
 
 -- memory was wanting before there was a run, and all stays
 pub record IsLeft (desk later : DeskState) (sink after : SinkState) (status : Status) : Type 0 where
@@ -32,11 +35,12 @@ pub record IsLeft (desk later : DeskState) (sink after : SinkState) (status : St
   pub bytes : after.bytes ≡ sink.bytes
 
 -- there is a run of the design, and this is what it left
-pub record IsOut (names : Names) (d : Design) (desk later : DeskState) (sink after : SinkState) (status : Status) : Type 0 where
+pub record IsOut (command : Command) (d : Design) (desk later : DeskState) (sink after : SinkState) (status : Status) : Type 0 where
   pub items : List Item
-  pub complete : List Bool
-  pub run : IsRun d items complete
-  pub leaves : Leaves names d items complete desk later sink after status
+  pub ends : List (List Cut)
+  pub few : node_count (mesh_of command d) ≤ 2 ^ 24
+  pub run : IsRun d (mesh_of command d) via_price items ends
+  pub leaves : Leaves command d items ends desk later sink after status
 
-abbrev pub RoutesDesign : Names → Design → DeskState → DeskState → SinkState → SinkState → Status → Type 0
-RoutesDesign names d desk later sink after status = IsLeft desk later sink after status ⊎ IsOut names d desk later sink after status
+abbrev pub RoutesDesign : Command → Design → DeskState → DeskState → SinkState → SinkState → Status → Type 0
+RoutesDesign command d desk later sink after status = IsLeft desk later sink after status ⊎ IsOut command d desk later sink after status

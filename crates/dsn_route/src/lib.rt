@@ -2,10 +2,14 @@
 //! Its contract says of every answer why it came and what it left.
 #![tactic(auto)]
 
+mod board;
+mod ends;
+mod join;
 mod lines;
-mod one_bend;
 mod report;
 mod route;
+mod run;
+mod settle;
 mod status;
 #[cfg(test)]
 mod tests;

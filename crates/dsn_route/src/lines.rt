@@ -4,7 +4,7 @@
 ghost use Rattle.std.specs.Prelude.{◌≡◌, ◌<◌, ◌^◌, IfOk};
 ghost use Rattle.desk_io.specs.Answers.{PutGives};
 ghost use Rattle.dsn_route.specs.Words.{number_of};
-ghost use Rattle.dsn_route.specs.Answers.{usage_line, refused_line, read_fault_line, limit_line};
+ghost use Rattle.dsn_route.specs.Answers.{usage_line, refused_line, read_fault_line, limit_line, nodes_line};
 
 use crate::route::MAX_BYTES;
 use crate::words::WordFault;
@@ -41,6 +41,16 @@ fn limit_text(alloc: Global) -> Result<Vec<u8>, AllocError>
     let mut buffer = Buffer::new();
     let mut line = Vec::from_slice(alloc, b"limit bytes ")?;
     line.extend_from_slice(buffer.format(MAX_BYTES).as_bytes())?;
+    line.extend_from_slice(b"\n")?;
+    Ok(line)
+}
+
+fn nodes_text(alloc: Global, count: u128) -> Result<Vec<u8>, AllocError>
+    ensures { IfOk result (λ line. line.items ≡ nodes_line count) }
+{
+    let mut buffer = Buffer::new();
+    let mut line = Vec::from_slice(alloc, b"limit nodes ")?;
+    line.extend_from_slice(buffer.format(count).as_bytes())?;
     line.extend_from_slice(b"\n")?;
     Ok(line)
 }
@@ -82,6 +92,16 @@ pub fn say_limit<R: Sink>(alloc: Global, report: &mut R) -> Result<(), SinkFail>
     ensures { PutGives (R.state report.old) (R.state report.new) limit_line result }
 {
     match limit_text(alloc) {
+        Ok(line) => report.put(&line),
+        Err(e) => Err(SinkFail::Memory(e)),
+    }
+}
+
+/// Puts `limit nodes` with how many nodes the lattice would have.
+pub fn say_nodes<R: Sink>(alloc: Global, count: u128, report: &mut R) -> Result<(), SinkFail>
+    ensures { PutGives (R.state report.old) (R.state report.new) (nodes_line count) result }
+{
+    match nodes_text(alloc, count) {
         Ok(line) => report.put(&line),
         Err(e) => Err(SinkFail::Memory(e)),
     }

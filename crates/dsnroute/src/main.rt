@@ -31,13 +31,21 @@ fn run<R: Files + Print + AllocGlobal>(rt: &R, words: &[String]) -> Status {
     dsn_route(rt, rt.alloc(), words, &mut desk, &mut sink, &NoGate)
 }
 
+// What the program ends with where its words can't be had: for want of memory, or since one is no text.
+fn unread<R: Files + Print + AllocGlobal>(rt: &R, fault: &io::Error) -> Status {
+    if fault.kind() == io::ErrorKind::OutOfMemory {
+        return Status::Memory;
+    }
+    match wrong_words(rt.alloc()) {
+        Ok(words) => run(rt, &words),
+        Err(_) => Status::Memory,
+    }
+}
+
 fn main(rt: HostRuntime) -> ExitCode {
-    let words = match words_of(&rt) {
-        Ok(words) => words,
-        Err(_) => match wrong_words(rt.alloc()) {
-            Ok(words) => words,
-            Err(_) => return ExitCode::from(Status::Memory.code()),
-        },
+    let status = match words_of(&rt) {
+        Ok(words) => run(&rt, &words),
+        Err(fault) => unread(&rt, &fault),
     };
-    ExitCode::from(run(&rt, &words).code())
+    ExitCode::from(status.code())
 }

@@ -1,10 +1,11 @@
 -- Which net has a pin, where no pin stands twice.
-use Rattle.std.proofs.Common.{◌≡◌, ◌⊎◌, inl, inr, ℕ, ◌+◌, ◌<◌, ◌≤◌, zero, suc, refl, sym, ◌∙◌, ap, subst, Bool, true, false, not, ◌&&◌, ◌||◌, cond, List, [], ◌∷◌, length, get_or, arith, true≢false, Option, Some, None, nat_lt, IfSome}
+use Rattle.std.proofs.Common.{◌≡◌, ◌≢◌, ◌⊎◌, inl, inr, ℕ, ◌+◌, ◌<◌, zero, suc, refl, sym, ◌∙◌, ap, subst, Bool, true, false, not, ◌&&◌, ◌||◌, cond, List, [], ◌∷◌, length, get_or, arith, true≢false, Some, None, slice_get, nat_lt, IfSome}
 use Rattle.std.specs.List.{position, position_or_len, list_any}
 use Rattle.std.specs.Str.{bytes_eq}
 use Rattle.std.proofs.lemmas.Bool.{false_from_ne_true, not-true, lt-ltb, ltb-true}
 use Rattle.std.proofs.lemmas.Slice.Eq.{bytes_eq-Decides}
 use Rattle.std.proofs.lemmas.List.Folds.{list_any_at, Any-from_list_any}
+use Rattle.std.proofs.lemmas.Option.{none-some, same_Some}
 use Rattle.first_form.specs.declared.parts.Connection.{Connection}
 use Rattle.first_form.specs.Form.{has_pin, are_apart}
 
@@ -46,7 +47,7 @@ position_at p xs n d within here before =
 
 -- ---- connections
 -- a connection has a pin by its first or by its second reference
-has_by : (x : List ℕ) (c : Connection) → has_pin x c ≡ true → (c.first.component ≡ x) ⊎ (c.second.component ≡ x)
+pub has_by : (x : List ℕ) (c : Connection) → has_pin x c ≡ true → (c.first.component ≡ x) ⊎ (c.second.component ≡ x)
 has_by x c h = elim (either (bytes_eq c.first.component x) (bytes_eq c.second.component x) h) [ inl e ↦ inl (bytes_same c.first.component x e) | inr e ↦ inr (bytes_same c.second.component x e) ]
 
 pub has_first : (c : Connection) → has_pin c.first.component c ≡ true
@@ -74,6 +75,19 @@ apart_at x (c ∷ cs) (suc n) zero d apart before within has =
 apart_at x (c ∷ cs) (suc n) (suc k) d apart before within has =
     let parts = both (not (bytes_eq c.first.component c.second.component) && not (list_any (has_pin c.first.component) cs) && not (list_any (has_pin c.second.component) cs)) (are_apart cs) apart in
     apart_at x cs n k d parts.1 (omega (arith, before)) (omega (arith, within)) has
+
+-- nor does one connection have a pin twice
+pub ends_differ : (cs : List Connection) (n : ℕ) (c : Connection) → are_apart cs ≡ true → slice_get cs n ≡ Some c → c.first.component ≢ c.second.component
+ends_differ [] n c apart there = absurd (none-some c there)
+ends_differ (x ∷ cs) zero c apart there =
+    let parts = both (not (bytes_eq x.first.component x.second.component) && not (list_any (has_pin x.first.component) cs) && not (list_any (has_pin x.second.component) cs)) (are_apart cs) apart in
+    let later = both (not (bytes_eq x.first.component x.second.component) && not (list_any (has_pin x.first.component) cs)) (not (list_any (has_pin x.second.component) cs)) parts.0 in
+    let sooner = both (not (bytes_eq x.first.component x.second.component)) (not (list_any (has_pin x.first.component) cs)) later.0 in
+    let differ : x.first.component ≢ x.second.component = λ same. true≢false (sym (bytes_alike x.first.component x.second.component same) ∙ not-true (bytes_eq x.first.component x.second.component) sooner.0) in
+    subst (λ (y : Connection). y.first.component ≢ y.second.component) (same_Some x c there) differ
+ends_differ (x ∷ cs) (suc n) c apart there =
+    let parts = both (not (bytes_eq x.first.component x.second.component) && not (list_any (has_pin x.first.component) cs) && not (list_any (has_pin x.second.component) cs)) (are_apart cs) apart in
+    ends_differ cs n c parts.1 there
 
 -- so the net of a pin is the connection that has it
 pub net_at : (x : List ℕ) (cs : List Connection) (n : ℕ) (d : Connection) → are_apart cs ≡ true → n < length cs → has_pin x (get_or cs n d) ≡ true → position (has_pin x) cs ≡ Some n

@@ -15,7 +15,7 @@ use Rattle.pcb_model.specs.Bounds.{IsFit, IsBoundFit, IsItemFit, IsDesignFit, Ar
 use Rattle.first_form.specs.Bounds.{IsRectSmall, IsPlaceSmall, IsFormSmall}
 use Rattle.first_form.specs.Form.{FormText}
 
-all_one : {X : Type 0} (P : X → Type 0) (x : X) → P x → All P (x ∷ [])
+pub all_one : {X : Type 0} (P : X → Type 0) (x : X) → P x → All P (x ∷ [])
 all_one P x h = All-cons P x [] h (All-nil P)
 
 all_numbered : {X Y : Type 0} (P : Y → Type 0) (Q : X → Type 0) (f : ℕ → X → Y) (xs : List X) → ((i : ℕ) (x : X) → Q x → P (f i x)) → All Q xs → All P (numbered f xs)
@@ -27,7 +27,7 @@ all_numbered P Q f xs step all =
 point_within : (x y : ℕ) → x ≤ 200000 → y ≤ 200000 → IsWithin (2 ^ 29) (point_at x y)
 point_within x y a b = (omega arith, omega arith)
 
-place_within : (p : Place) → IsPlaceSmall p → IsWithin (2 ^ 29) (point_at p.x p.y)
+pub place_within : (p : Place) → IsPlaceSmall p → IsWithin (2 ^ 29) (point_at p.x p.y)
 place_within p s = point_within p.x p.y s.x s.y
 
 disc_fits : (diameter : ℕ) (at : Point) → diameter ≤ 200000 → IsWithin (2 ^ 29) at → IsFit (disc (nm diameter) at)

@@ -2,4 +2,8 @@ mod Fitting
 mod GroupSteps
 mod Numbered
 mod Apart
+mod Whole
+mod Distinct
 mod Layers
+mod Printable
+mod Sound

@@ -1,5 +1,5 @@
 -- A list has at most one count of what has a property.
-use Rattle.std.proofs.Common.{◌≡◌, ℕ, ◌+◌, List, [], ◌∷◌, ◌⊎◌, inl, inr, arith, sym, ◌∙◌}
+use Rattle.std.proofs.Common.{◌≡◌, ℕ, List, [], ◌∷◌, inl, inr, arith, sym, ◌∙◌}
 use Rattle.pcb_model.specs.Counts.{Counts}
 
 pub same_count : {X : Type 0} (P : X → Type 0) (xs : List X) (m n : ℕ) → Counts P xs m → Counts P xs n → m ≡ n

@@ -1,5 +1,5 @@
 -- What the extents of pieces tell.
-use Rattle.std.proofs.Common.{◌≡◌, ℕ, ℤ, ◌≤◌, ◌<◌, ◌+◌, ◌*◌, ◌^◌, ◌≤ℤ◌, ◌+ℤ◌, max, List, [], ◌∷◌, ◌++◌, length, map, take, flat_map, All, Any, get_or, arith, sym, refl, ap, ◌∙◌, subst, unsigned_abs, ◌⊎◌}
+use Rattle.std.proofs.Common.{◌≡◌, ℕ, ℤ, ◌≤◌, ◌<◌, ◌+◌, ◌^◌, ◌+ℤ◌, List, [], ◌∷◌, ◌++◌, length, map, take, flat_map, All, Any, get_or, arith, sym, refl, ap, ◌∙◌, subst, unsigned_abs}
 use Rattle.std.proofs.lemmas.Int.{ints}
 use Rattle.std.proofs.lemmas.List.{map-append}
 use Rattle.std.proofs.lemmas.List.Elements.{All-more, All-map, All-nil, All-append, All-head, All-tail}

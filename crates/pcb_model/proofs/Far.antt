@@ -1,7 +1,6 @@
 -- Pieces of far extents are apart, and so they agree.
-use Rattle.std.proofs.Common.{◌≡◌, ℕ, ◌≤◌, ◌<◌, ◌+◌, ◌*◌, ◌^◌, max, List, length, All, Any, get_or, arith, sym, subst, ◌⊎◌, inl, inr}
-use Rattle.geo_kernel.specs.Spine.{SpinesKeep, SpinesTouch}
-use Rattle.geo_kernel.specs.Boxes.{IsParted}
+use Rattle.std.proofs.Common.{◌≡◌, ℕ, ◌≤◌, ◌<◌, ◌+◌, ◌*◌, max, List, All, Any, get_or, arith, sym, subst, ◌⊎◌, inl, inr}
+use Rattle.geo_kernel.specs.Spine.{SpinesKeep}
 use Rattle.geo_kernel.proofs.Keeping.{parted_spines, keep_less_far, keep_bars_touch}
 use Rattle.pcb_model.specs.declared.item.Piece.{Piece}
 use Rattle.pcb_model.specs.declared.item.Item.{Item}
@@ -9,14 +8,10 @@ use Rattle.pcb_model.specs.declared.design.Design.{Design}
 use Rattle.pcb_model.specs.declared.near.Extent.{Extent}
 use Rattle.pcb_model.specs.Bounds.{HasRulesWithin}
 use Rattle.pcb_model.specs.Rules.{clearance_of}
-use Rattle.pcb_model.specs.Pairs.{PieceKeeps, KeepsFrom, PiecesKeep, PieceTouches, TouchesSome, PiecesTouch, Agrees}
-use Rattle.pcb_model.specs.Near.{IsPieceIn, IsExtentOf, AreApart}
+use Rattle.pcb_model.specs.Pairs.{PieceKeeps, KeepsFrom, PieceTouches, TouchesSome, Agrees}
+use Rattle.pcb_model.specs.Near.{IsPieceIn, IsExtentOf, AreFar, AreApart}
 use Rattle.pcb_model.proofs.Growing.{All-weaken}
 use Rattle.pcb_model.proofs.Within.{clearance_within}
-
--- on one layer all pieces are parted, or no two are on one layer
-abbrev pub AreFar : ℕ → Extent → Extent → Type 0
-AreFar k e f = (e.last < f.first ⊎ f.last < e.first) ⊎ IsParted e.bounds f.bounds k
 
 abbrev far_by : ℕ → Extent → Extent → ℕ
 far_by reach e f = 2 * reach + e.width + f.width + 1
@@ -28,23 +23,23 @@ one_layer e f p r a b l (inr h) = omega (arith, l, h, b.to_layer, a.from_layer)
 wide : (reach w v p r : ℕ) → p ≤ w → r ≤ v → max 1 (2 * reach + p + r) ≤ 2 * reach + w + v + 1
 wide reach w v p r h k = omega (arith, h, k)
 
-kept : (reach : ℕ) (e f : Extent) (p r : Piece) → IsPieceIn e p → IsPieceIn f r → AreFar (far_by reach e f) e f → p.layer ≡ r.layer → SpinesKeep p.spine r.spine (far_by reach e f)
+kept : (reach : ℕ) (e f : Extent) (p r : Piece) → IsPieceIn e p → IsPieceIn f r → AreFar reach e f → p.layer ≡ r.layer → SpinesKeep p.spine r.spine (far_by reach e f)
 kept reach e f p r a b (inl h) l = absurd (one_layer e f p r a b l h)
 kept reach e f p r a b (inr h) l = parted_spines e.bounds f.bounds (far_by reach e f) (omega arith) h p.spine r.spine a.spine_in b.spine_in
 
-keeps : (reach : ℕ) (e f : Extent) (p r : Piece) → IsPieceIn e p → IsPieceIn f r → AreFar (far_by reach e f) e f → PieceKeeps reach p r
+keeps : (reach : ℕ) (e f : Extent) (p r : Piece) → IsPieceIn e p → IsPieceIn f r → AreFar reach e f → PieceKeeps reach p r
 keeps reach e f p r a b far = record {
   keep = λ l. keep_less_far p.spine r.spine (far_by reach e f) (max 1 (2 * reach + p.width + r.width)) (kept reach e f p r a b far l) (wide reach e.width f.width p.width r.width a.width_in b.width_in);
 }
 
-no_touch : (reach : ℕ) (e f : Extent) (p r : Piece) → IsPieceIn e p → IsPieceIn f r → AreFar (far_by reach e f) e f → ¬ (PieceTouches p r)
+no_touch : (reach : ℕ) (e f : Extent) (p r : Piece) → IsPieceIn e p → IsPieceIn f r → AreFar reach e f → ¬ (PieceTouches p r)
 no_touch reach e f p r a b far t =
     keep_bars_touch p.spine r.spine (far_by reach e f) (p.width + r.width) (kept reach e f p r a b far t.one_layer) (omega (arith, a.width_in, b.width_in)) t.touch
 
 none_of_all : {X : Type 0} (P Q : X → Type 0) (xs : List X) → ((x : X) → P x → ¬ (Q x)) → All P xs → ¬ (Any Q xs)
 none_of_all P Q xs f h (k, x, l, e, q) = f (get_or xs k x) (h k x l) (subst Q (sym e) q)
 
-pub far_apart : (reach : ℕ) (e f : Extent) (ps rs : List Piece) → IsExtentOf ps e → IsExtentOf rs f → AreFar (far_by reach e f) e f → AreApart reach ps rs
+pub far_apart : (reach : ℕ) (e f : Extent) (ps rs : List Piece) → IsExtentOf ps e → IsExtentOf rs f → AreFar reach e f → AreApart reach ps rs
 far_apart reach e f ps rs a b far = record {
   keep = record {
     each = All-weaken (IsPieceIn e) (KeepsFrom reach rs) ps (λ p h. record { each = All-weaken (IsPieceIn f) (PieceKeeps reach p) rs (λ r k. keeps reach e f p r h k far) b.each }) a.each;

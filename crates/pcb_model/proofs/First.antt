@@ -1,6 +1,6 @@
 -- The first item in a list whose ids ascend, and lists that stand side by side.
-use Rattle.std.proofs.Common.{◌≡◌, ℕ, pos, ◌+◌, ◌<◌, ◌≤◌, List, [], ◌∷◌, ◌++◌, length, take, drop, Option, get_or, sym, refl, ap, ◌∙◌, subst, inl, inr, arith, ◌⊎◌, All}
-use Rattle.std.specs.Prelude.{Contains, slice_index_or, remove}
+use Rattle.std.proofs.Common.{◌≡◌, ℕ, pos, ◌+◌, ◌<◌, ◌≤◌, List, [], ◌∷◌, ◌++◌, length, take, Option, get_or, sym, refl, ap, ◌∙◌, subst, inl, inr, arith, ◌⊎◌, All}
+use Rattle.std.specs.Prelude.{Contains, remove}
 use Rattle.std.specs.List.{AllZip}
 use Rattle.std.specs.List.Sorted.{IsNonDecreasingBy}
 use Prim.Native.Nat.{zero, suc}

@@ -1,5 +1,5 @@
 -- What grows with a bound, over lists.
-use Rattle.std.proofs.Common.{◌≡◌, ℕ, ◌≤◌, ◌<◌, List, length, take, All, get_or, Option, Some, None, arith, sym, subst}
+use Rattle.std.proofs.Common.{ℕ, ◌≤◌, List, length, take, All, get_or, Option, Some, None, arith, subst}
 use Rattle.std.specs.Prelude.{IfSome}
 use Rattle.std.proofs.lemmas.List.{take_all}
 use Rattle.pcb_model.specs.declared.design.Typed.{Typed}

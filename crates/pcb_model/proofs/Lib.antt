@@ -9,3 +9,4 @@ pub mod Far
 pub mod Symmetry
 pub mod Counting
 pub mod Changed
+pub mod Laying

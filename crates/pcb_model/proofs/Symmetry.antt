@@ -1,5 +1,5 @@
 -- The pair rule doesn't ask which item comes first.
-use Rattle.std.proofs.Common.{◌≡◌, ℕ, ◌+◌, ◌*◌, max, ◌==◌, Bool, true, false, not, ◌&&◌, ◌||◌, List, flat_map, All, Any, Option, Some, None, refl, sym, ap, eq-eqb, ◌∙◌, subst, arith, length, get_or, ◌<◌, [], ◌∷◌}
+use Rattle.std.proofs.Common.{◌≡◌, ℕ, ◌+◌, ◌*◌, max, ◌==◌, Bool, true, false, not, ◌&&◌, ◌||◌, List, flat_map, Any, Option, Some, None, refl, sym, ap, eq-eqb, ◌∙◌, subst, arith, length, get_or, ◌<◌, [], ◌∷◌}
 use Rattle.std.proofs.lemmas.Bool.{eqb-true}
 use Rattle.std.specs.Option.{option_or}
 use Rattle.geo_kernel.specs.Spine.{SpinesKeep, SpinesTouch}
@@ -14,7 +14,7 @@ use Rattle.pcb_model.specs.declared.design.Typed.{Typed}
 use Rattle.pcb_model.specs.declared.design.RuleSet.{RuleSet}
 use Rattle.pcb_model.specs.declared.design.Design.{Design}
 use Rattle.pcb_model.specs.Rules.{is_kind, is_pair, names_pair, names_one, last_value, typed_value, first_present, levels, rule_sets, value_of, clearance_of}
-use Rattle.pcb_model.specs.Pairs.{PieceKeeps, KeepsFrom, PiecesKeep, PieceTouches, TouchesSome, PiecesTouch, is_same_net, is_compared, must_keep, must_stay_off, Agrees, AreTouching}
+use Rattle.pcb_model.specs.Pairs.{PieceKeeps, PiecesKeep, PieceTouches, TouchesSome, PiecesTouch, is_same_net, is_compared, must_keep, must_stay_off, Agrees, AreTouching}
 
 -- ---- the rules
 swapped : (x y z w : Bool) → ((x && y) || (z && w)) ≡ ((w && z) || (y && x))

@@ -1,5 +1,5 @@
 -- Legal boards, and items that are joined.
-use Rattle.std.specs.Prelude.{◌≡◌, ℕ, ◌≤◌, Bool, true, false, List, [], ◌∷◌, Option, filter, All, AllPairs, Any, Contains, slice_get, ◌⊎◌}
+use Rattle.std.specs.Prelude.{◌≡◌, ℕ, ◌≤◌, Bool, false, List, [], ◌∷◌, Option, filter, All, AllPairs, Any, Contains, slice_get, ◌⊎◌}
 use Rattle.std.specs.Option.{IsSomeAnd, IfSome}
 use Rattle.geo_kernel.specs.declared.point.Point.{Point}
 use Rattle.geo_kernel.specs.Spine.{outline, BeginInside, IsInside}

@@ -1,5 +1,5 @@
 -- What a search among items answers.
-use Rattle.std.specs.Prelude.{◌≡◌, ℕ, ◌≤◌, ◌<◌, List, Option, Some, None, All, AllPairs, Contains, length, slice_index_or, slice_get, remove}
+use Rattle.std.specs.Prelude.{◌≡◌, ℕ, ◌≤◌, ◌<◌, ◌^◌, List, Option, Some, None, All, AllPairs, Contains, length, slice_index_or, slice_get, remove}
 use Rattle.std.specs.List.{AllZip}
 use Rattle.pcb_model.specs.declared.item.Item.{Item}
 use Rattle.pcb_model.specs.declared.near.Extent.{Extent}
@@ -50,5 +50,6 @@ AreExtentsOf items extents = AllZip (λ (a : Item) (e : Extent). IsExtentOf a.pi
 -- what a plain list of items keeps
 pub record IsPlain (items : List Item) (extents : List Extent) : Type 0 where
   pub ascends : Ascends items
+  pub ids_within : All (λ (b : Item). b.id < 2 ^ 64) items
   pub fit : All IsItemFit items
   pub paired : AreExtentsOf items extents

@@ -1,8 +1,8 @@
 -- How far items are told apart: by a box, a greatest width and the layers of all their pieces.
-use Rattle.std.specs.Prelude.{◌≡◌, ℕ, ◌≤◌, ◌+ℤ◌, ◌≤ℤ◌, ◌^◌, unsigned_abs, List, All, Option}
+use Rattle.std.specs.Prelude.{◌≡◌, ℕ, ◌≤◌, ◌<◌, ◌+◌, ◌*◌, ◌⊎◌, ◌+ℤ◌, ◌≤ℤ◌, ◌^◌, unsigned_abs, List, All, Option}
 use Rattle.geo_kernel.specs.declared.point.Point.{Point}
 use Rattle.geo_kernel.specs.declared.point.Rect4.{Rect4}
-use Rattle.geo_kernel.specs.Boxes.{IsInBox}
+use Rattle.geo_kernel.specs.Boxes.{IsInBox, IsParted}
 use Rattle.pcb_model.specs.declared.item.Kind.{Kind}
 use Rattle.pcb_model.specs.declared.item.Kind.TheVariants.{Wire, Via, Pin, Smd, Area}
 use Rattle.pcb_model.specs.declared.item.Piece.{Piece}
@@ -49,6 +49,10 @@ pub record Encloses (outer inner : Extent) : Type 0 where
 pub record IsExtentOf (ps : List Piece) (e : Extent) : Type 0 where
   pub each : All (IsPieceIn e) ps
   pub width_within : e.width ≤ 2 ^ 28
+
+-- no layer is in both, or the boxes are parted by more than the reach and half of both widths
+abbrev pub AreFar : ℕ → Extent → Extent → Type 0
+AreFar reach e f = (e.last < f.first ⊎ f.last < e.first) ⊎ IsParted e.bounds f.bounds (2 * reach + e.width + f.width + 1)
 
 -- the pieces keep each clearance up to reach, and don't touch
 pub record AreApart (reach : ℕ) (ps rs : List Piece) : Type 0 where

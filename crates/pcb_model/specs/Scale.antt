@@ -1,5 +1,5 @@
 -- The scale of a session: the design's resolution, where all that a session prints is whole in it.
-use Rattle.std.specs.Prelude.{ℕ, ◌/◌, ◌%◌, ◌==◌, nat_lt, Bool, true, ◌&&◌, if◌then◌else◌, List, map, unsigned_abs, Some, slice_get, ◌++◌, ◌∷◌, []}
+use Rattle.std.specs.Prelude.{ℕ, ◌/◌, ◌%◌, ◌==◌, nat_lt, Bool, true, ◌&&◌, if◌then◌else◌, map, unsigned_abs, Some, slice_get, ◌++◌, ◌∷◌, []}
 use Rattle.std.specs.List.{list_all}
 use Rattle.std.specs.Option.{option_map_or}
 use Rattle.geo_kernel.specs.declared.point.Point.{Point}

@@ -1,14 +1,14 @@
 //! Copper: items by id, and searches among them.
 //! A board's tiles, its snapshots and the plain list all answer these calls alike.
 
-ghost use Rattle.std.specs.Prelude.{◌≡◌, List, All, Contains, Some, None, MatchOption};
+ghost use Rattle.std.specs.Prelude.{◌≡◌, ◌<◌, ◌^◌, List, All, Contains, Some, None, MatchOption};
 ghost use Rattle.std.specs.Option.{option_copied};
 ghost use Rattle.pcb_model.specs.declared.item.Item.{Item as OneItem};
 ghost use Rattle.pcb_model.specs.declared.design.Design.{Design as TheDesign};
 ghost use Rattle.pcb_model.specs.Bounds.{IsItemFit, IsProbeFit};
 ghost use Rattle.pcb_model.specs.Pairs.{Agrees, ProbeAgrees, AreTouching};
 ghost use Rattle.pcb_model.specs.Sound.{Serves};
-ghost use Rattle.pcb_model.specs.Copper.{Finds};
+ghost use Rattle.pcb_model.specs.Copper.{Ascends, Finds};
 
 use crate::{Design, Item, Probe, Steps};
 use std::sync::ledger::Ledger;
@@ -20,6 +20,11 @@ pub trait Copper {
 
     /// Whether the copper serves the design: what its calls require to be asked about it.
     ghost serves: { Self → TheDesign → Type 0 };
+
+    /// The items stand in order of id, so no two have one id: a call that does nothing but say so.
+    fn in_order(&self)
+        ensures ascends { Ascends (items self.now) }
+        ensures ids { All (λ b. b.id < 2 ^ 64) (items self.now) };
 
     /// The item of this id, or None exactly where there is none.
     fn item(&self, id: u64) -> Option<&Item>

@@ -4,6 +4,8 @@
 
 mod copper;
 mod design;
+#[cfg(test)]
+mod fixtures;
 mod item;
 mod laws;
 mod legal;

@@ -1,7 +1,7 @@
 //! Items that are made of wires and vias, and copies of items.
 //! Source: SPECCTRA reference, wire, via and padstack descriptors.
 
-ghost use Rattle.std.specs.Prelude.{◌≡◌, ◌≤◌, ◌^◌, All, IfOk, map, IfSome, slice_get};
+ghost use Rattle.std.specs.Prelude.{◌≡◌, ◌^◌, All, IfOk, map};
 ghost use Rattle.geo_kernel.specs.Plane.{IsWithin};
 ghost use Rattle.geo_kernel.specs.Spine.{IsSpineWithin};
 ghost use Rattle.geo_kernel.specs.Moved.{moved, moved_spine};

@@ -1,7 +1,7 @@
 //! Boxes, widths and layers of whole items, by which far items are told apart before any segment is looked at.
 //! What a search keeps of the item that it asks about is looked up once, when the search begins.
 
-ghost use Rattle.std.specs.Prelude.{◌≡◌, ◌≤◌, ◌+ℤ◌, ◌^◌, [], ◌∷◌, IsTrue, map, All, Some};
+ghost use Rattle.std.specs.Prelude.{◌≡◌, ◌↔◌, ◌≤◌, ◌+ℤ◌, ◌^◌, [], ◌∷◌, IsTrue, map, All, Some};
 ghost use Rattle.std.specs.Int.{int_min, int_max};
 ghost use Rattle.geo_kernel.specs.Plane.{IsWithin};
 ghost use Rattle.geo_kernel.specs.Spine.{IsWellFormed, IsSpineWithin};
@@ -9,7 +9,7 @@ ghost use Rattle.geo_kernel.specs.Boxes.{IsIn, IsInBox};
 ghost use Rattle.geo_kernel.specs.Moved.{moved_spine};
 ghost use Rattle.pcb_model.specs.Pieces.{moved_piece, wire_piece, pieces_of, metal_of, kind_of};
 ghost use Rattle.pcb_model.specs.Bounds.{IsFit, IsItemFit, IsProbeFit, IsDesignFit};
-ghost use Rattle.pcb_model.specs.Near.{IsPieceIn, IsExtentOf, IsBoxWithin, moved_box_by, Encloses, SeparatesAll, IsQueryOf};
+ghost use Rattle.pcb_model.specs.Near.{IsPieceIn, IsExtentOf, IsBoxWithin, moved_box_by, Encloses, AreFar, SeparatesAll, IsQueryOf};
 
 use crate::probe::{padstack_pieces, probe_kind};
 use crate::rules::{Side, reach_of};
@@ -134,13 +134,14 @@ impl Extent {
         }
     }
 
-    /// Whether boxes and layers alone show that pieces of these extents keep each clearance up to `reach`,
-    /// and don't touch.
+    /// Whether the extents have no layer in common, or their boxes lie so far from each other that all pieces of these
+    /// extents keep each clearance up to `reach` and don't touch.
     pub fn is_far_from(&self, other: &Extent, reach: u64) -> bool
         requires reach_within { reach ≤ 2 ^ 28 }
         requires self_within { self.now.width ≤ 2 ^ 28 }
         requires other_within { other.now.width ≤ 2 ^ 28 }
-        ensures { IsTrue result → SeparatesAll reach self.now other.now }
+        ensures far { IsTrue result ↔ AreFar reach self.now other.now }
+        ensures apart { IsTrue result → SeparatesAll reach self.now other.now }
     {
         let k = 2 * reach + self.width + other.width + 1;
         self.last < other.first || other.last < self.first || parted(self.bounds, other.bounds, k)

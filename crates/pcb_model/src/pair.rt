@@ -1,7 +1,7 @@
 //! The pair rule: when two items agree, and when they touch.
 //! Source: SPECCTRA reference, clearance and control descriptors.
 
-ghost use Rattle.std.specs.Prelude.{◌≡◌, ◌+◌, ◌≤◌, ◌^◌, ◌↔◌, IsTrue, true, All, Any};
+ghost use Rattle.std.specs.Prelude.{◌≡◌, ◌+◌, ◌≤◌, ◌^◌, ◌↔◌, IsTrue, true, All};
 ghost use Rattle.pcb_model.specs.Bounds.{HasRulesWithin, IsFit, IsItemFit};
 ghost use Rattle.pcb_model.specs.Rules.{value_of, clearance_of};
 ghost use Rattle.pcb_model.specs.Pairs.{PieceKeeps, KeepsFrom, TouchesSome, PiecesKeep, PieceTouches, PiecesTouch, is_same_net, is_banned as is_banned_by, is_compared as are_compared, must_keep as must_keep_of, must_stay_off as must_stay_off_of, Agrees};

@@ -1,9 +1,8 @@
 //! Copper as a plain list of items.
 //! Beside each item stands its extent, so that a search passes over what is far.
 
-ghost use Rattle.std.specs.Prelude.{◌≡◌, ◌<◌, [], ◌∷◌, ◌++◌, All, OnOk, IfErr, IfSome};
+ghost use Rattle.std.specs.Prelude.{◌≡◌, ◌<◌, ◌^◌, [], ◌∷◌, ◌++◌, All, OnOk, IfErr, IfSome};
 ghost use Rattle.std.specs.Option.{IfNone};
-ghost use Rattle.pcb_model.specs.declared.item.Item.{Item as OneItem};
 ghost use Rattle.pcb_model.specs.Bounds.{IsItemFit};
 ghost use Rattle.pcb_model.specs.Sound.{Serves};
 ghost use Rattle.pcb_model.specs.Copper.{Ascends, Removes};
@@ -50,6 +49,7 @@ impl PlainCopper {
     pub fn items(&self) -> &[Item]
         ensures items { result.now ≡ self.now }
         ensures ascends { Ascends self.now }
+        ensures ids { All (λ b. b.id < 2 ^ 64) self.now }
     {
         self.items.as_slice()
     }
@@ -94,6 +94,10 @@ impl Copper for PlainCopper {
     ghost items = { λ c. c };
 
     ghost serves = { λ c d. Serves c d };
+
+    fn in_order(&self) {
+        let _ = self.items();
+    }
 
     fn item(&self, id: u64) -> Option<&Item> {
         let items = self.items.as_slice();

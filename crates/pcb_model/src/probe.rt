@@ -1,17 +1,16 @@
 //! Probes: wires of one or two points, and vias, that are judged before any item is made.
 //! Nothing here takes memory.
 
-ghost use Rattle.std.specs.Prelude.{◌≡◌, ◌+◌, ◌≤◌, ◌<◌, ◌^◌, ◌↔◌, ℕ, List, IsTrue, true, false, not, ◌&&◌, Some, All, Any, map, length};
-ghost use Rattle.geo_kernel.specs.declared.point.Point.{Point as OnePoint};
+ghost use Rattle.std.specs.Prelude.{◌≡◌, ◌+◌, ◌≤◌, ◌<◌, ◌^◌, ◌↔◌, List, IsTrue, true, false, not, ◌&&◌, Some, All, map};
 ghost use Rattle.geo_kernel.specs.Plane.{IsWithin};
-ghost use Rattle.geo_kernel.specs.Spine.{IsFirst, SpinesKeep, SpinesTouch, IsWellFormed, IsSpineWithin};
-ghost use Rattle.geo_kernel.specs.Moved.{moved, moved_spine};
+ghost use Rattle.geo_kernel.specs.Spine.{IsFirst};
+ghost use Rattle.geo_kernel.specs.Moved.{moved};
 ghost use Rattle.pcb_model.specs.Bounds.{IsDesignFit, IsItemFit, IsFit, IsBoundFit, IsProbeFit};
 ghost use Rattle.pcb_model.specs.Inner.{meets_wires as meet_wires, meets_vias as meet_vias};
 ghost use Rattle.pcb_model.specs.Rules.{value_of, clearance_of, is_kind};
 ghost use Rattle.pcb_model.specs.Pairs.{PieceKeeps, KeepsFrom, PiecesKeep, PieceTouches, TouchesSome, PiecesTouch, is_same_net, Agrees, ProbeAgrees};
 ghost use Rattle.pcb_model.specs.Pieces.{padstack_pieces as padstack_pieces_of, wire_piece, moved_piece, pieces_of, metal_of, kind_of, item_of};
-ghost use Rattle.pcb_model.specs.Board.{BeginsInEach, AreInside, IsInsideEach};
+ghost use Rattle.pcb_model.specs.Board.{BeginsInEach, AreInside};
 
 use crate::legal::inside_each;
 use crate::pair::same_net;

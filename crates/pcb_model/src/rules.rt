@@ -131,7 +131,7 @@ pub fn clearance(d: &Design, a: Option<u32>, ka: Kind, b: Option<u32>, kb: Kind)
 // The width in nm of a net that no rule gives one.
 const DEFAULT_WIDTH: u64 = 250_000;
 
-fn width_in_class(d: &Design, class: Option<u32>, rest: u64) -> u64
+pub(crate) fn width_in_class(d: &Design, class: Option<u32>, rest: u64) -> u64
     ensures { result ≡ first_present rest (map (λ (rs : TheRules). rs.width) (class_rules d.now class)) }
 {
     match class {

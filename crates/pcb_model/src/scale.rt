@@ -1,12 +1,11 @@
 //! The scale of a session: the design's resolution, where all that a session prints is whole in it.
 //! Source: SPECCTRA reference, resolution descriptor.
 
-ghost use Rattle.std.specs.Prelude.{◌≡◌, ◌<◌, ◌≤◌, map};
+ghost use Rattle.std.specs.Prelude.{◌≡◌, ◌<◌, ◌≤◌};
 ghost use Rattle.std.specs.List.{list_all};
-ghost use Rattle.pcb_model.specs.declared.design.RuleSet.{RuleSet as TheRules};
-ghost use Rattle.pcb_model.specs.Rules.{first_present, class_rules};
-ghost use Rattle.pcb_model.specs.Scale.{unit_nm, is_whole, is_whole_point, is_whole_spine, is_whole_piece, is_whole_padstack, is_whole_metal, net_width, is_whole_net, is_on_scale, keeps_resolution, scale_of};
+ghost use Rattle.pcb_model.specs.Scale.{unit_nm, is_whole_point, is_whole_spine, is_whole_piece, is_whole_padstack, is_whole_metal, net_width, is_whole_net, is_on_scale, scale_of};
 
+use crate::rules::width_in_class;
 use crate::{Component, Design, FreeWire, Item, Metal, Net, Piece, SesScale};
 use geo_kernel::{List, Point, Spine, Unit};
 
@@ -92,23 +91,13 @@ fn has_whole_metal(d: &Design, nm: u64, metal: &Metal) -> bool
     }
 }
 
-fn class_width(d: &Design, class: Option<u32>, rest: u64) -> u64
-    ensures { result ≡ first_present rest (map (λ (rs : TheRules). rs.width) (class_rules d.now class)) }
-{
-    match class {
-        Some(c) => match d.classes.as_slice().get(c as usize) {
-            Some(rs) => rs.width.unwrap_or(rest),
-            None => rest,
-        },
-        None => rest,
-    }
-}
-
 fn width_of_net(d: &Design, n: &Net) -> u64
     ensures { result ≡ net_width d.now n.now }
 {
     let structure = d.rules.width.unwrap_or(250000);
-    n.rules.width.unwrap_or(class_width(d, n.class, structure))
+    n.rules
+        .width
+        .unwrap_or(width_in_class(d, n.class, structure))
 }
 
 fn has_whole_padstacks(d: &Design, nm: u64, padstacks: &[u32]) -> bool

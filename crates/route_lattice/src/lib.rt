@@ -1,7 +1,28 @@
 //! The routing lattice: its nodes, the moves between them, and what a search over moves answers.
-//! This part has the trait of moves; a search knows the lattice only through it.
+//! A search knows the lattice only through the trait of moves.
 #![tactic(auto)]
 
+mod anchor;
+mod axis;
+mod found;
+mod gather;
+mod laws;
+mod legal;
+mod lines;
+mod make;
+mod mesh;
 mod moves;
+mod near;
+mod outline;
+mod round;
+#[cfg(test)]
+mod tests;
+mod touch;
+mod ways;
 
+pub use found::{anchor_nodes, anchors_among};
+pub use laws::{lines_by_membership, nodes_within, outline_is_least};
+pub use legal::{LegalMoves, legal_among, legal_graph_sound, legal_node};
+pub use make::LatticeFault;
+pub use mesh::Lattice;
 pub use moves::{Found, Move, Moves, Reach, Walk};

@@ -1,13 +1,11 @@
 -- How a search begins, and what it hands out.
-use Rattle.std.proofs.Common.{◌≡◌, ℕ, ◌+◌, ◌*◌, ◌^◌, ◌<◌, ◌≤◌, List, [], ◌∷◌, ◌++◌, length, take, Option, Some, None, sym, refl, ap, ◌∙◌, subst, inl, inr, arith, rules, ◌⊎◌, get_or}
-use Rattle.std.specs.Prelude.{Contains}
-use Prim.Native.Nat.{zero, suc}
+use Rattle.std.proofs.Common.{◌≡◌, ℕ, ◌+◌, ◌*◌, ◌^◌, ◌<◌, ◌≤◌, List, [], ◌∷◌, ◌++◌, length, take, Option, Some, None, sym, refl, ap, ◌∙◌, subst, inl, inr, arith, get_or}
 use Rattle.std.proofs.lemmas.List.Elements.{Contains-append_left, Contains-push, Contains-push_cases}
 use Rattle.wave_search.specs.declared.labels.Label.{Label}
 use Rattle.wave_search.specs.declared.front.Entry.{Entry}
-use Rattle.wave_search.specs.Waiting.{Waits, IsAdded, IsTaken}
-use Rattle.route_lattice.specs.Walks.{MoveGraph, Hop}
-use Rattle.wave_search.specs.State.{label_at, done_count, done_of, done_by, IsPut, entry, ComesBy, Comes, IsCheap, Roots, IsState}
+use Rattle.wave_search.specs.Waiting.{Waits, IsAdded}
+use Rattle.route_lattice.specs.Walks.{MoveGraph}
+use Rattle.wave_search.specs.State.{label_at, done_by, IsPut, entry, Comes, IsState}
 use Rattle.std.proofs.lemmas.List.{take_more}
 use Rattle.wave_search.proofs.Steps.{put_cases, cheap_kept, comes_kept, zero_or, not_done}
 

@@ -1,11 +1,10 @@
 -- What a push and a pop of the heap leave.
-use Rattle.std.proofs.Common.{◌≡◌, ℕ, ◌+◌, ◌<◌, ◌≤◌, List, [], ◌∷◌, length, map, get_or, Option, Some, None, true, false, sym, refl, ap, ◌∙◌, subst, inl, inr, ◌⊎◌, arith}
+use Rattle.std.proofs.Common.{◌≡◌, ℕ, ◌<◌, ◌≤◌, List, [], ◌∷◌, length, map, get_or, false, sym, refl, ap, subst, inl, inr, arith}
 use Rattle.std.specs.Prelude.{Contains, IsPermutation}
 use Prim.Native.Nat.{zero, suc}
 use Rattle.std.specs.declared.cmp.Ordering.{Ordering}
 use Rattle.std.specs.Ordering.{nat_cmp, ordering_then, is_lt}
-use Rattle.std.specs.List.{AllByRecursion}
-use Rattle.std.specs.BinaryHeap.{IsUpperBound, lt_by_cmp}
+use Rattle.std.specs.BinaryHeap.{IsUpperBound}
 use Rattle.std.proofs.lemmas.List.Sorted.{Contains-permutation, IsPermutation-sym, length_permutation}
 use Rattle.std.proofs.lemmas.List.{length-map}
 use Rattle.std.proofs.lemmas.Bool.Decides.{nat_tests}

@@ -1,19 +1,18 @@
 -- What the kept labels and marks stand for after a write.
-use Rattle.std.proofs.Common.{◌≡◌, ℕ, ◌+◌, ◌<◌, ◌≤◌, List, [], ◌∷◌, ◌++◌, length, map, take, Option, Some, None, Bool, true, false, cond, nat_eq, sym, refl, ap, ◌∙◌, subst, inl, inr, ◌⊎◌, arith, get_or, replicate}
-use Rattle.std.specs.Prelude.{slice_get, Contains, All, ◌↔◌, ◌==◌}
+use Rattle.std.proofs.Common.{◌≡◌, ℕ, ◌+◌, ◌<◌, List, [], ◌∷◌, ◌++◌, length, take, Option, Some, None, Bool, true, cond, sym, refl, ap, ◌∙◌, subst, inl, inr, arith, get_or, replicate}
+use Rattle.std.specs.Prelude.{slice_get, Contains, All, ◌↔◌}
 use Prim.Native.Nat.{zero, suc}
 use Rattle.std.proofs.Math.ListN.{set, length-set}
 use Rattle.std.proofs.lemmas.List.{map-set, length-map, take_more}
-use Rattle.std.proofs.lemmas.List.Elements.{All-push, All-contains, All-same, Contains-append_left, Contains-push, Contains-push_cases}
+use Rattle.std.proofs.lemmas.List.Elements.{All-push, Contains-append_left, Contains-push, Contains-push_cases}
 use Rattle.std.proofs.lemmas.Option.{none-some}
-use Rattle.std.proofs.lemmas.Bool.{eqb-false}
 use Rattle.std.proofs.lemmas.Bool.Decides.{eqb_tells}
 use Rattle.wave_search.specs.declared.labels.Label.{Label}
 use Rattle.wave_search.specs.declared.labels.Row.{Row}
 use Rattle.wave_search.specs.declared.labels.TheConstants.{NO_PRICE}
-use Rattle.wave_search.specs.State.{label_at, done_count, IsPut}
+use Rattle.wave_search.specs.State.{label_at, IsPut}
 use Rattle.wave_search.specs.Rows.{origin_of, row_label, labels_of, AreTouched, IsMarked, AreMarked}
-use Rattle.wave_search.proofs.Table.{here, other, put, within}
+use Rattle.wave_search.proofs.Table.{here, other, put}
 use Rattle.wave_search.proofs.Steps.{same_or_not, put_cases}
 
 -- the label that a row's place stands for

@@ -3,12 +3,12 @@ use Rattle.std.proofs.Common.{◌≡◌, ℕ, ◌+◌, ◌-◌, ◌*◌, ◌^◌
 use Rattle.std.specs.Prelude.{Contains, IfSome}
 use Rattle.wave_search.specs.declared.labels.Label.{Label}
 use Rattle.wave_search.specs.declared.front.Entry.{Entry}
-use Rattle.wave_search.specs.Waiting.{Waits, IsTaken}
-use Rattle.route_lattice.specs.Walks.{MoveGraph, Hop, IsSound, NoneCostsLess, NoneLeads, IsReach, Reaches}
+use Rattle.wave_search.specs.Waiting.{IsTaken}
+use Rattle.route_lattice.specs.Walks.{MoveGraph, IsSound, NoneCostsLess, NoneLeads, IsReach}
 use Rattle.wave_search.specs.Bounds.{IsBound}
-use Rattle.wave_search.specs.State.{label_at, done_count, IsPut, Comes, Roots, IsListed, IsState}
+use Rattle.wave_search.specs.State.{label_at, IsPut, Comes, Roots, IsListed, IsState}
 use Rattle.wave_search.proofs.Table.{within, at_most, more_to_do}
-use Rattle.wave_search.proofs.Steps.{whole, finished, key_is, raise, none_less, closed_none, closed_complete, closed_reached, not_done, one_label}
+use Rattle.wave_search.proofs.Steps.{finished, key_is, raise, none_less, closed_none, closed_complete, closed_reached, not_done, one_label}
 
 -- the price of a label is small
 pub price_small : {graph : MoveGraph} {starts goals : List ℕ} {low : ℕ → ℕ} {t : List (Option Label)} {q : List Entry} {level fin cur j : ℕ} → IsSound graph → IsState graph starts goals low t q level fin cur j

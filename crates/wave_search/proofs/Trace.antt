@@ -1,7 +1,6 @@
 -- A walk is built from its end.
-use Rattle.std.proofs.Common.{◌≡◌, ℕ, ◌+◌, ◌<◌, ◌≤◌, List, [], ◌∷◌, ◌++◌, length, map, reverse, Option, Some, None, sym, refl, ap, ◌∙◌, subst, arith}
+use Rattle.std.proofs.Common.{◌≡◌, ℕ, ◌+◌, ◌<◌, List, [], ◌∷◌, ◌++◌, map, reverse, Option, Some, sym, ap, ◌∙◌, subst, arith}
 use Rattle.std.proofs.lemmas.List.{reverse-append}
-use Rattle.std.proofs.lemmas.Option.{some_pair_parts}
 use Rattle.wave_search.specs.declared.labels.Label.{Label}
 use Rattle.wave_search.specs.State.{label_at, IsTight, IsTightBy, ComesBy, Comes, Roots}
 use Rattle.wave_search.proofs.Steps.{one_label}

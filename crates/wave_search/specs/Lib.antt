@@ -3,3 +3,4 @@ pub mod Waiting
 pub mod Order
 pub mod State
 pub mod Rows
+pub mod Cells

@@ -1,5 +1,5 @@
 -- The entries that wait in a front, whichever way they are kept.
-use Rattle.std.specs.Prelude.{◌≡◌, ℕ, ◌+◌, ◌≤◌, ◌<◌, List, [], ◌∷◌, length, ◌⊎◌}
+use Rattle.std.specs.Prelude.{◌≡◌, ◌+◌, ◌≤◌, ◌<◌, List, [], ◌∷◌, length, ◌⊎◌}
 use Rattle.wave_search.specs.declared.front.Entry.{Entry}
 
 -- e is one of them

@@ -8,6 +8,8 @@ mod labels;
 mod marks;
 mod search;
 mod task;
+#[cfg(test)]
+mod tests;
 
 pub use bound::{Bound, NoBound};
 pub use search::{Search, guided_walk, least_walk};

@@ -1,11 +1,12 @@
 //! The steps of a search over a table of labels and a front of nodes that wait.
 //! A node is done once it comes out of the front; its price is then the least.
 
-ghost use Rattle.std.specs.Prelude.{◌≡◌, ℕ, ◌+◌, ◌*◌, ◌^◌, ◌<◌, ◌≤◌, ◌↔◌, length, [], OnOk, IfOk, IsTrue, Contains, Some, None, All, MatchOption};
+ghost use Rattle.std.specs.Prelude.{◌≡◌, ℕ, ◌+◌, ◌*◌, ◌^◌, ◌<◌, ◌≤◌, ◌↔◌, length, [], OnOk, IfOk, IfSome, IsTrue, Contains, Some, None, All, MatchOption};
 ghost use Rattle.route_lattice.specs.Walks.{IsSound, IsWalk, Answers};
 ghost use Rattle.wave_search.specs.Bounds.{IsBound};
 ghost use Rattle.wave_search.specs.Rows.{IsMarked};
-ghost use Rattle.wave_search.specs.State.{label_at, done_count, improves_on, IsTight, IsTightBy, Roots, Comes, IsState};
+ghost use Rattle.wave_search.specs.declared.labels.Label.{Label as TheLabel};
+ghost use Rattle.wave_search.specs.State.{label_at, done_count, improves_on, IsTight, IsTightBy, IsTurnedOrKept, Roots, Comes, IsState};
 
 use crate::bound::Bound;
 use crate::front::{Entry, Front};
@@ -23,6 +24,63 @@ fn improves(price: u64, old: Option<Label>) -> bool
         None => true,
         Some(label) => price < label.price,
     }
+}
+
+/// Whether a move goes on by as many nodes as the one before it, which came from the origin.
+fn is_straight(origin: Option<u32>, node: u32, to: u32) -> bool {
+    match origin {
+        None => false,
+        Some(before) => to as i64 - node as i64 == node as i64 - before as i64,
+    }
+}
+
+/// Whether a node is reached straight on from this one, whose origin is given, and by a turn from the one before it.
+fn is_straighter(table: &Labels, origin: Option<u32>, node: u32, to: u32, old: Label) -> bool
+    requires { IfSome old.origin (λ o. o < length table.now) }
+{
+    let Some(other) = old.origin else {
+        return false;
+    };
+    let Some(there) = table.get(other) else {
+        return false;
+    };
+    is_straight(origin, node, to) && !is_straight(there.origin, other, to)
+}
+
+/// Lets a node that waits at this price come from another node, where it then comes straight on.
+/// So of equally cheap ways the one without a turn is kept.
+fn turn(
+    table: &mut Labels,
+    origin: Option<u32>,
+    node: u32,
+    to: u32,
+    price: u64,
+) -> Result<(), AllocError>
+    requires to { to < length table.old }
+    requires price { price < 2 ^ 63 }
+    requires node { node < 2 ^ 25 }
+    requires origins { (l : TheLabel) → label_at table.old to ≡ Some l → IfSome l.origin (λ o. o < length table.old) }
+    ensures turned { OnOk result (IsTurnedOrKept table.old node to price table.new) }
+    ensures size { length table.new ≡ length table.old }
+{
+    let Some(old) = table.get(to) else {
+        return Ok(());
+    };
+    if old.rank != 0 || old.price != price {
+        return Ok(());
+    }
+    if !is_straighter(table, origin, node, to, old) {
+        return Ok(());
+    }
+    let origin = Some(node);
+    table.put(
+        to,
+        Label {
+            price,
+            rank: 0,
+            origin,
+        },
+    )
 }
 
 /// What is searched for.
@@ -66,6 +124,7 @@ impl<'a, M: Moves, B: Bound> Task<'a, M, B> {
         }
         let price = label.price + self.m.price(node, i);
         if !improves(price, table.get(to)) {
+            turn(table, label.origin, node, to, price)?;
             return Ok(());
         }
         let origin = Some(node);

@@ -1,4 +1,4 @@
-use Rattle.std.proofs.Common.{◌≤◌, All, take, arith, subst, sym}
+use Rattle.std.proofs.Common.{take, arith, subst}
 use Rattle.std.proofs.lemmas.List.Elements.{All-more}
 use Rattle.pcb_model.specs.declared.design.Net.{Net}
 use Rattle.pcb_model.specs.Bounds.{AreRulesWithin}

@@ -1,4 +1,4 @@
-use Rattle.std.proofs.Common.{◌≤◌, None, All, take, arith}
+use Rattle.std.proofs.Common.{◌≤◌, None, take, arith}
 use Rattle.std.proofs.lemmas.List.Elements.{All-more}
 use Rattle.pcb_model.specs.declared.item.Kind.TheVariants.{Wire}
 use Rattle.pcb_model.specs.declared.design.Typed.{Typed}

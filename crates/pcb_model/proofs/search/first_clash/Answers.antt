@@ -1,10 +1,10 @@
-use Rattle.std.proofs.Common.{◌≡◌, Some, None, arith}
+use Rattle.std.proofs.Common.{Some, arith}
 use Rattle.pcb_model.specs.declared.item.Item.{Item}
 use Rattle.pcb_model.specs.declared.near.Extent.{Extent}
 use Rattle.pcb_model.specs.Bounds.{IsItemFit}
-use Rattle.pcb_model.specs.Pairs.{Agrees, ProbeAgrees, AreTouching}
+use Rattle.pcb_model.specs.Pairs.{Agrees}
 use Rattle.pcb_model.specs.Near.{IsExtentOf}
-use Rattle.pcb_model.proofs.First.{found_id, one_more, none_found, none_below, item_at, extent_at, no_extent, zip_length}
+use Rattle.pcb_model.proofs.First.{found_id, one_more, none_found, item_at, extent_at, no_extent, zip_length}
 use Rattle.pcb_model.proofs.search.first_clash.Goals as goal
 
 pub bounds-extents-i : goal.bounds-extents-i

@@ -1,5 +1,5 @@
-use Rattle.std.proofs.Common.{take, All, Some, None, ◌≤◌}
-use Rattle.pcb_model.specs.Pairs.{Agrees, ProbeAgrees, AreTouching}
+use Rattle.std.proofs.Common.{take, All, Some}
+use Rattle.pcb_model.specs.Pairs.{AreTouching}
 use Rattle.pcb_model.specs.Copper.{IsLookedAt}
 use Rattle.pcb_model.proofs.search.first_touch.Given as goal
 

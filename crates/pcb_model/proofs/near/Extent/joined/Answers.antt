@@ -1,5 +1,4 @@
 use Rattle.std.proofs.Common.{arith, rules}
-use Rattle.std.proofs.lemmas.Int.{ints}
 use Rattle.pcb_model.proofs.near.Extent.joined.Goals as goal
 
 pub returns-clause-other_in : goal.returns-clause-other_in

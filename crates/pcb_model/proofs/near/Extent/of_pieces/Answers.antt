@@ -1,4 +1,3 @@
-use Rattle.pcb_model.specs.declared.item.Piece.{Piece}
 use Rattle.pcb_model.proofs.Extents.{piece_joined}
 use Rattle.pcb_model.proofs.Growing.{All-whole}
 use Rattle.pcb_model.specs.Near.{IsPieceIn}

@@ -1,6 +1,6 @@
-use Rattle.std.proofs.Common.{◌≡◌, List, Some, None, subst}
+use Rattle.std.proofs.Common.{◌≡◌, List, None, subst}
 use Rattle.pcb_model.specs.declared.item.Item.{Item}
-use Rattle.pcb_model.specs.Pairs.{Agrees, ProbeAgrees}
+use Rattle.pcb_model.specs.Pairs.{ProbeAgrees}
 use Rattle.pcb_model.specs.Copper.{Finds}
 use Rattle.pcb_model.proofs.plain.PlainCopperCopper.next_block.Goals as goal
 

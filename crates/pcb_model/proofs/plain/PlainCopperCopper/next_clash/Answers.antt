@@ -1,6 +1,6 @@
-use Rattle.std.proofs.Common.{◌≡◌, List, Some, None, subst}
+use Rattle.std.proofs.Common.{◌≡◌, List, Some, subst}
 use Rattle.pcb_model.specs.declared.item.Item.{Item}
-use Rattle.pcb_model.specs.Pairs.{Agrees, ProbeAgrees}
+use Rattle.pcb_model.specs.Pairs.{Agrees}
 use Rattle.pcb_model.specs.Copper.{Finds}
 use Rattle.pcb_model.proofs.plain.PlainCopperCopper.next_clash.Goals as goal
 

@@ -1,4 +1,3 @@
-use Rattle.std.proofs.Common.{refl}
 use Rattle.wave_search.proofs.Kept.{untouched}
 use Rattle.wave_search.proofs.labels.Labels.new.Goals as goal
 

@@ -1,4 +1,4 @@
-use Rattle.std.proofs.Common.{◌≡◌, ◌∙◌, ap, sym, subst, List, Option}
+use Rattle.std.proofs.Common.{◌∙◌, ap, sym, subst, List, Option}
 use Rattle.std.proofs.Math.ListN.{set}
 use Rattle.wave_search.specs.declared.labels.Label.{Label}
 use Rattle.wave_search.specs.Rows.{row_label, labels_of}

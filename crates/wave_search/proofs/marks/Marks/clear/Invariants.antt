@@ -1,4 +1,4 @@
-use Rattle.std.proofs.Common.{◌≡◌, ℕ, ◌<◌, length, vec_len}
+use Rattle.std.proofs.Common.{◌≡◌, length, vec_len}
 use Rattle.wave_search.specs.Rows.{AreMarked}
 use Rattle.wave_search.proofs.marks.Marks.clear.Given as goal
 

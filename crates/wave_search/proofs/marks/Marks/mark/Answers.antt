@@ -1,4 +1,4 @@
-use Rattle.std.proofs.Common.{◌≡◌, ◌<◌, ℕ, List, Bool, true, sym, subst, ◌∙◌, arith, length}
+use Rattle.std.proofs.Common.{List, Bool, true, sym, subst, ◌∙◌, arith}
 use Rattle.std.specs.Prelude.{◌↔◌}
 use Rattle.std.proofs.Math.ListN.{set}
 use Rattle.wave_search.specs.Rows.{IsMarked}

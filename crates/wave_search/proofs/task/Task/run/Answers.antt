@@ -1,4 +1,4 @@
-use Rattle.std.proofs.Common.{◌≡◌, ℕ, ◌<◌, ◌+◌, ◌≤◌, arith, sym, refl, ap, ◌∙◌, subst, length}
+use Rattle.std.proofs.Common.{ℕ, ◌+◌, arith, sym, ◌∙◌, subst, length}
 use Rattle.std.proofs.lemmas.Bool.{false≢true}
 use Rattle.route_lattice.specs.Walks.{NoneCostsLess}
 use Rattle.wave_search.proofs.Steps.{whole}

@@ -1,4 +1,4 @@
-use Rattle.std.proofs.Common.{◌≡◌, ℕ, ◌<◌}
+use Rattle.std.proofs.Common.{◌<◌}
 use Rattle.wave_search.specs.State.{IsTight}
 use Rattle.wave_search.proofs.task.Task.tight_move.Given as goal
 

@@ -1,4 +1,4 @@
-use Rattle.std.proofs.Common.{◌≡◌, sym, ◌∙◌, arith, subst, ◌<◌}
+use Rattle.std.proofs.Common.{sym, ◌∙◌, arith}
 use Rattle.wave_search.proofs.Trace.{origin_in, tight_from, trace_step}
 use Rattle.wave_search.proofs.task.Task.trace.Goals as goal
 

@@ -1,0 +1,7 @@
+pub mod Each
+pub mod Search
+pub mod Blocks
+pub mod Shutting
+pub mod Closing
+pub mod Making
+pub mod Checking

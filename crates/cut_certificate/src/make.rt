@@ -1,0 +1,164 @@
+//! Cuts, made by a search that closed.
+//! No cut is made where legal moves lead on.
+
+ghost use Rattle.std.specs.Prelude.{◌≡◌, ◌<◌, ◌==◌, length, All, IfOk, slice_index};
+ghost use Rattle.std.specs.List.{list_any};
+ghost use Rattle.pcb_model.specs.Sound.{IsSound};
+ghost use Rattle.route_lattice.specs.Mesh.{node_count};
+ghost use Rattle.route_lattice.specs.Fits.{FitsDesign};
+ghost use Rattle.route_lattice.specs.Legal.{CanMove, legal_graph};
+ghost use Rattle.cut_certificate.specs.Border.{Closes};
+ghost use Rattle.cut_certificate.specs.Cuts.{Cuts, CutsOff, IsShutBy, AreIdsOf, AreStarts, AreGoals, others_of};
+
+use crate::border::{Border, close};
+use crate::cut::Cut;
+use geo_kernel::List;
+use pcb_islands::{Island, islands};
+use pcb_model::{Copper, Design};
+use route_lattice::{Lattice, LegalMoves, anchors_among, legal_among, legal_graph_sound};
+use std::alloc::{AllocError, Global};
+
+/// The ids of the items of the islands.
+fn ids_of(alloc: Global, others: &[Island]) -> Result<Vec<u64>, AllocError>
+    ensures { IfOk result (λ ids. AreIdsOf others.now ids.items) }
+{
+    let mut ids = Vec::new(alloc);
+    for other in others {
+        ids.extend_from_slice(other.items.as_slice())?;
+    }
+    Ok(ids)
+}
+
+/// The nodes at which a walk from the island may start: its legal anchors.
+pub fn starts_of<C: Copper>(
+    alloc: Global,
+    lat: &Lattice,
+    d: &Design,
+    c: &C,
+    island: &Island,
+) -> Result<List<u32>, AllocError>
+    requires sound { IsSound d.now }
+    requires fits { FitsDesign d.now lat.now }
+    requires net { island.now.net < length d.now.nets }
+    requires serves { C.serves c.now d.now }
+    ensures { IfOk result (AreStarts d.now lat.now (C.items c.now) island.now) }
+{
+    let anchors = anchors_among(alloc, lat, d, c, island.items.as_slice())?;
+    let starts = legal_among(alloc, lat, d, c, island.net, anchors.as_slice())?;
+    Ok(starts)
+}
+
+/// The nodes at which a walk to one of the islands may end: their anchors.
+pub fn goals_of<C: Copper>(
+    alloc: Global,
+    lat: &Lattice,
+    d: &Design,
+    c: &C,
+    others: &List<Island>,
+) -> Result<List<u32>, AllocError>
+    requires sound { IsSound d.now }
+    requires fits { FitsDesign d.now lat.now }
+    requires serves { C.serves c.now d.now }
+    ensures { IfOk result (AreGoals d.now lat.now (C.items c.now) others.now) }
+{
+    let ids = ids_of(alloc, others.as_slice())?;
+    let goals = anchors_among(alloc, lat, d, c, ids.as_slice())?;
+    Ok(goals)
+}
+
+/// The border of all that legal moves reach from the starts, or None where they reach a goal.
+fn close_legal<C: Copper>(
+    alloc: Global,
+    lat: &Lattice,
+    d: &Design,
+    c: &C,
+    net: u32,
+    via_cost: u64,
+    starts: &List<u32>,
+    goals: &List<u32>,
+) -> Result<Option<Border>, AllocError>
+    requires can_move { CanMove d.now lat.now net via_cost }
+    requires serves { C.serves c.now d.now }
+    requires starts { All (λ v. v < node_count lat.now) starts.now }
+    ensures { IfOk result (Closes (legal_graph d.now lat.now (C.items c.now) net via_cost) (IsShutBy d.now lat.now (C.items c.now) net) starts.now goals.now) }
+{
+    legal_graph_sound();
+    let moves = LegalMoves::of(lat, d, c, net, via_cost);
+    let border = close(alloc, &moves, starts, goals)?;
+    Ok(border)
+}
+
+fn first_pin(island: &Island) -> u32
+    ensures { result ≡ slice_index island.now.pins 0 }
+{
+    match island.pins.get(0) {
+        None => 0,
+        Some(pin) => *pin,
+    }
+}
+
+/// A cut between an island and the others, or None exactly where legal moves lead from a legal anchor of the island to
+/// an anchor of one of them. The nodes of the cut are all that legal moves reach.
+pub fn make_cut_among<C: Copper>(
+    alloc: Global,
+    lat: &Lattice,
+    d: &Design,
+    c: &C,
+    island: &Island,
+    others: &List<Island>,
+    via_cost: u64,
+) -> Result<Option<Cut>, AllocError>
+    requires can_move { CanMove d.now lat.now island.now.net via_cost }
+    requires pins { 0 < length island.now.pins }
+    requires serves { C.serves c.now d.now }
+    ensures { IfOk result (Cuts d.now lat.now (C.items c.now) via_cost island.now others.now) }
+{
+    let starts = starts_of(alloc, lat, d, c, island)?;
+    let goals = goals_of(alloc, lat, d, c, others)?;
+    let net = island.net;
+    legal_graph_sound();
+    match close_legal(alloc, lat, d, c, net, via_cost, &starts, &goals)? {
+        None => Ok(None),
+        Some(Border { reach, blocked }) => Ok(Some(Cut {
+            net,
+            pin: first_pin(island),
+            reach,
+            blocked,
+        })),
+    }
+}
+
+fn has_pin(s: &Island, pin: u32) -> bool
+    ensures { result ≡ list_any (λ p. p == pin) s.now.pins }
+{
+    s.pins.as_slice().iter().any(|p| *p == pin)
+}
+
+/// The islands that don't have the first pin of the island.
+fn others_among(found: List<Island>, island: &Island) -> List<Island>
+    ensures { result ≡ others_of island.now found }
+{
+    let first = first_pin(island);
+    let mut others = found.into_vec();
+    others.retain(|s| !has_pin(s, first));
+    List::from_vec(others)
+}
+
+/// `make_cut_among` the other islands of the net: those that don't have the first pin of the island.
+pub fn make_cut<C: Copper>(
+    alloc: Global,
+    lat: &Lattice,
+    d: &Design,
+    c: &C,
+    island: &Island,
+    via_cost: u64,
+) -> Result<Option<Cut>, AllocError>
+    requires can_move { CanMove d.now lat.now island.now.net via_cost }
+    requires pins { 0 < length island.now.pins }
+    requires serves { C.serves c.now d.now }
+    ensures { IfOk result (CutsOff d.now lat.now (C.items c.now) via_cost island.now) }
+{
+    let found = islands(alloc, d, c, island.net)?;
+    let others = others_among(found, island);
+    make_cut_among(alloc, lat, d, c, island, &others, via_cost)
+}

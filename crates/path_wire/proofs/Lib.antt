@@ -1,0 +1,10 @@
+pub mod Bends
+pub mod Laying
+pub mod Dirs
+pub mod Stretches
+pub mod Walking
+pub mod Agreeing
+pub mod Fitted
+pub mod Joining
+pub mod Hopping
+pub mod Touching

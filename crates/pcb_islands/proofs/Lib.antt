@@ -1,0 +1,14 @@
+pub mod Elements
+pub mod Sets
+pub mod Touches
+pub mod Taking
+pub mod Joined
+pub mod Flooded
+pub mod Pads
+pub mod Selects
+pub mod Classes
+pub mod Gathering
+pub mod Whole
+pub mod Numbers
+pub mod Merging
+pub mod Others

@@ -1,0 +1,4 @@
+pub mod Islands
+pub mod Numbers
+pub mod Flooding
+pub mod Progress

@@ -1,0 +1,17 @@
+use Rattle.std.proofs.Common.{subst, sym}
+use Rattle.std.proofs.lemmas.List.Filters.{dedup_is}
+use Rattle.std.proofs.lemmas.List.Kept.{Contains-dedup_nat, Contains-from_dedup}
+use Rattle.std.proofs.lemmas.List.Sorted.{Contains-permutation, IsPermutation-sym}
+use Rattle.std.proofs.lemmas.Map.Keys.{IsStrictlyIncreasing-dedup}
+use Rattle.route_lattice.specs.Found.{AreSorted}
+use Rattle.route_lattice.proofs.found.ascending.Goals as goal
+
+pub returns : goal.returns
+returns c =
+    let is = dedup_is _ _ _ c.dedup.ensures.filtered in
+    let moved = c.sort_unstable.ensures.permutation in
+    subst (AreSorted c.args.numbers.items) (sym c.from_vec.ensures) (record {
+      ascends = rw is (IsStrictlyIncreasing-dedup _ c.sort_unstable.ensures.sorted);
+      sound = λ v h. Contains-permutation _ _ v (IsPermutation-sym _ _ moved) (Contains-from_dedup _ _ v (rw is at h));
+      complete = λ v h. rw is (Contains-dedup_nat _ v (Contains-permutation _ _ v moved h));
+    })

@@ -128,7 +128,7 @@ impl Moves for Cells {
     fn at(&self, node: u32, i: u32) -> Option<(Move, u32)> {
         let to = self.next(node, i);
         if to < self.prices.len() as u64 {
-            Some((Move::Step { dir: 0 }, to as u32))
+            Some((Move::Step { dir: i as u8 }, to as u32))
         } else {
             None
         }

@@ -1,1 +1,5 @@
 pub mod Placed
+pub mod Copper
+pub mod Places
+pub mod Placing
+pub mod Sound

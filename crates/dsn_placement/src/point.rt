@@ -33,7 +33,8 @@ fn flipped(p: Point, back: bool, flip_last: bool, a: Angle) -> Point
     }
 }
 
-fn moved(p: Point, by: Point) -> Point
+/// The point moved by the vector.
+pub(crate) fn moved(p: Point, by: Point) -> Point
     requires p_within { IsWithin (2 ^ 36) p }
     requires by_within { IsWithin (2 ^ 29) by }
     ensures { result ≡ moved by p }

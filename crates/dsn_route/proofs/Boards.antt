@@ -11,12 +11,13 @@ use Rattle.pcb_model.specs.declared.item.Metal.{Metal}
 use Rattle.pcb_model.specs.declared.design.Design.{Design}
 use Rattle.pcb_model.specs.Pairs.{Agrees}
 use Rattle.pcb_model.specs.Board.{IsLegal, IsRouted, IsLaid, AreInside, is_fixed}
-use Rattle.pcb_model.specs.Sound.{IsSound, Serves, IsItemOf, IsFixedSound}
+use Rattle.pcb_model.specs.Sound.{IsSound, IsItemOf, IsFixedSound}
 use Rattle.pcb_model.specs.Copper.{Ascends}
+use Rattle.path_wire.specs.Plain.{IsPlainItem, IsPlainCopper}
 use Rattle.path_wire.specs.Lays.{laid_item, IsMetalInside, IsWellLaid}
 use Rattle.dsn_route.specs.Joins.{numbered, with_metals}
 use Rattle.dsn_route.specs.Boards.{AreNumbered, IsBoard, GrowsBy}
-use Rattle.dsn_route.proofs.Adding.{Fits, IsFixed, fits_legal, fixed_legal}
+use Rattle.dsn_route.proofs.Adding.{Fits, fits_legal, fixed_legal}
 use Rattle.dsn_route.proofs.Elements.{in_more}
 
 -- ---- numbered items
@@ -50,9 +51,12 @@ ids_below items numbers = λ k x within.
 pub fixed_at : (d : Design) → IsSound d → (k : ℕ) (x : Item) → k < length d.fixed → IsFixedSound d k (get_or d.fixed k x)
 fixed_at d sound k x within = sound.fixed k (get_or d.fixed k x) (slice_get-get_or d.fixed k x within)
 
-pub start_board : (d : Design) → IsSound d → IsBoard d d.fixed
-start_board d sound =
-    let legal : IsLegal d d.fixed = fixed_legal d (λ k x within. (fixed_at d sound k x within).fixed) in
+start_legal : (d : Design) → IsSound d → IsLegal d d.fixed
+start_legal d sound = fixed_legal d (λ k x within. (fixed_at d sound k x within).fixed)
+
+pub start_board : (d : Design) → IsSound d → IsPlainCopper d → IsBoard d d.fixed
+start_board d sound plain =
+    let legal : IsLegal d d.fixed = start_legal d sound in
     record {
       legal = legal;
       numbered = λ k x within. (fixed_at d sound k x within).numbered;
@@ -60,16 +64,18 @@ start_board d sound =
       routed = [];
       items_are = sym (append-nil d.fixed);
       all_routed = λ k x within. absurd (omega (arith, within));
+      plain = plain.fixed;
     }
 
-pub board_more : (d : Design) (items : List Item) (w : Item) → IsBoard d items → IsLegal d (items ++ w ∷ []) → IsRouted w → w.id ≡ length items → IsItemOf d w → IsBoard d (items ++ w ∷ [])
-board_more d items w board legal routed id_is item = record {
+pub board_more : (d : Design) (items : List Item) (w : Item) → IsBoard d items → IsLegal d (items ++ w ∷ []) → IsRouted w → w.id ≡ length items → IsItemOf d w → IsPlainItem w → IsBoard d (items ++ w ∷ [])
+board_more d items w board legal routed id_is item plain = record {
   legal = legal;
   numbered = numbered_more items w board.numbered id_is;
   serves = record { design_fits = board.serves.design_fits; fixed_there = legal.fixed_stay; items_fit = All-push (IsItemOf d) items w board.serves.items_fit item };
   routed = board.routed ++ w ∷ [];
   items_are = ap (λ (xs : List Item). xs ++ w ∷ []) board.items_are ∙ append_assoc d.fixed board.routed (w ∷ []);
   all_routed = All-push IsRouted board.routed w board.all_routed routed;
+  plain = All-push IsPlainItem items w board.plain plain;
 }
 
 -- ---- fronts of a board
@@ -102,7 +108,7 @@ none_fixed (x ∷ xs) routed =
 fixed_of_front : (d : Design) → IsSound d → (routed : List Item) → All IsRouted routed → filter is_fixed (d.fixed ++ routed) ≡ d.fixed
 fixed_of_front d sound routed all =
     filter-append is_fixed d.fixed routed ∙ ap (λ (xs : List Item). filter is_fixed d.fixed ++ xs) (none_fixed routed all)
-    ∙ append-nil (filter is_fixed d.fixed) ∙ (start_board d sound).legal.fixed_stay
+    ∙ append-nil (filter is_fixed d.fixed) ∙ (start_legal d sound).fixed_stay
 
 -- the board was legal after each item
 pub prefix_legal : (d : Design) → IsSound d → (items : List Item) → IsBoard d items → (n : ℕ) → length d.fixed ≤ n → IsLegal d (take n items)
@@ -131,9 +137,9 @@ pub rest : {X : Type 0} (P : X → Type 0) (x : X) (xs : List X) → All P (x �
 rest P x xs all = λ k y within. all (suc k) y (omega (arith, within))
 
 pub metals_board : (d : Design) (net : ℕ) (board : List Item) (metals : List Metal) → IsBoard d board → AreLaidOn d net board metals
-    → ((i j : ℕ) (a b : Metal) → Agrees d (laid_item d net i a) (laid_item d net j b)) → IsBoard d (with_metals d net board metals)
-metals_board d net board [] is laid own = subst (IsBoard d) (sym (append-nil board)) is
-metals_board d net board (a ∷ metals) is laid own =
+    → ((i j : ℕ) (a b : Metal) → Agrees d (laid_item d net i a) (laid_item d net j b)) → ((id : ℕ) (a : Metal) → IsPlainItem (laid_item d net id a)) → IsBoard d (with_metals d net board metals)
+metals_board d net board [] is laid own plain = subst (IsBoard d) (sym (append-nil board)) is
+metals_board d net board (a ∷ metals) is laid own plain =
     let item : Item = laid_item d net (length board) a in
     let well : IsWellLaid d net (length board) a = laid.well (length board) 0 a (omega arith) in
     let fits : Fits d board item = record {
@@ -141,7 +147,7 @@ metals_board d net board (a ∷ metals) is laid own =
       inside = laid.inside 0 a (omega arith);
       laid = well.laid;
     } in
-    let next : IsBoard d (board ++ item ∷ []) = board_more d board item is (fits_legal d board item is.legal refl fits) refl refl well.fits in
+    let next : IsBoard d (board ++ item ∷ []) = board_more d board item is (fits_legal d board item is.legal refl fits) refl refl well.fits (plain (length board) a) in
     let later : AreLaidOn d net (board ++ item ∷ []) metals = record {
       agree = λ id b there. elim (in_more board item b there) [
         | inl before ↦ rest (λ (m : Metal). Agrees d b (laid_item d net id m)) a metals (laid.agree id b before)
@@ -150,7 +156,7 @@ metals_board d net board (a ∷ metals) is laid own =
       inside = rest (IsMetalInside d) a metals laid.inside;
       well = λ id. rest (IsWellLaid d net id) a metals (laid.well id);
     } in
-    subst (IsBoard d) (with_more d net board a metals) (metals_board d net (board ++ item ∷ []) metals next later own)
+    subst (IsBoard d) (with_more d net board a metals) (metals_board d net (board ++ item ∷ []) metals next later own plain)
 
 -- the last of metals is taken off
 pub taken : (left others : List Metal) (a : Metal) → left ≡ others ++ a ∷ [] → reverse left ≡ a ∷ reverse others

@@ -1,5 +1,5 @@
 -- A net from which no legal walk leads on stays so while items of other nets are laid.
-use Rattle.std.proofs.Common.{◌≡◌, ◌⊎◌, inl, inr, ℕ, ◌≤◌, sym, ◌∙◌, ap, subst, List, [], ◌∷◌, ◌++◌, length, Some, None, Option}
+use Rattle.std.proofs.Common.{◌≡◌, inl, inr, ℕ, subst, List, [], ◌∷◌, ◌++◌, Some, None, Option}
 use Rattle.std.specs.List.{Contains, remove, slice_get}
 use Rattle.std.proofs.lemmas.List.Elements.{Contains-append_left}
 use Rattle.pcb_model.specs.declared.item.Item.{Item}
@@ -14,7 +14,7 @@ use Rattle.route_lattice.specs.Walks.{Hop, Leads}
 use Rattle.route_lattice.specs.Mesh.{Mesh}
 use Rattle.route_lattice.specs.Anchors.{AnchorsAmong}
 use Rattle.route_lattice.specs.Legal.{IsLegalProbe, IsOpen, probe_at, legal_graph}
-use Rattle.cut_certificate.specs.Cuts.{IsStart, IsGoal, LeadsOn}
+use Rattle.cut_certificate.specs.Cuts.{LeadsOn}
 use Rattle.dsn_route.specs.Joins.{IsShut}
 use Rattle.dsn_route.specs.Boards.{IsClosed}
 use Rattle.dsn_route.proofs.Places.{other_place}

@@ -1,5 +1,5 @@
 -- Which answer is due where the text has a design.
-use Rattle.std.proofs.Common.{◌≡◌, ◌⊎◌, inl, inr, ℕ, ◌≤◌, ◌<◌, ◌^◌, refl, sym, ◌∙◌, ap, subst, List, length, Option, Some, None, unwrap_or, Result, Ok, true≢false, arith}
+use Rattle.std.proofs.Common.{◌≡◌, inl, inr, ℕ, ◌≤◌, ◌<◌, ◌^◌, refl, sym, ◌∙◌, ap, subst, List, length, Option, Some, None, unwrap_or, Result, Ok, true≢false, arith}
 use Rattle.std.specs.Option.{IsSomeAnd}
 use Rattle.std.proofs.lemmas.Option.{none-some}
 use Rattle.desk_io.specs.States.{Files, DeskState, SinkState}

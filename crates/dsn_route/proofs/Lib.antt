@@ -8,5 +8,5 @@ mod Linking
 mod Places
 mod Closing
 mod Running
-mod Flat
+mod Plain
 mod Dues

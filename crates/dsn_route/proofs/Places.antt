@@ -1,5 +1,5 @@
 -- A list without the element at a place.
-use Rattle.std.proofs.Common.{◌≡◌, ◌≢◌, ◌⊎◌, inl, inr, ◌<◌, ◌≤◌, ◌+◌, ℕ, zero, suc, refl, sym, ◌∙◌, ap, List, [], ◌∷◌, length, arith, Some, None}
+use Rattle.std.proofs.Common.{◌≡◌, ◌≢◌, inl, inr, ◌<◌, ◌≤◌, ℕ, zero, suc, ap, List, [], ◌∷◌, length, arith, Some, None}
 use Rattle.std.specs.List.{Contains, remove, insert, slice_get}
 use Rattle.pcb_islands.proofs.Elements.{in_none, in_cons, look_at}
 

@@ -1,7 +1,7 @@
 -- The copper of a legal walk may be laid.
-use Rattle.std.proofs.Common.{◌≡◌, ◌<◌, ℕ, sym, ap, subst, List, [], ◌∷◌, length, get_or, arith}
-use Rattle.std.specs.List.{All, Contains}
-use Rattle.std.proofs.lemmas.List.Elements.{All-nil, All-cons, Contains-get_or}
+use Rattle.std.proofs.Common.{◌≡◌, ◌<◌, ℕ, sym, subst, List, ◌∷◌, get_or}
+use Rattle.std.specs.List.{All}
+use Rattle.std.proofs.lemmas.List.Elements.{All-cons, Contains-get_or}
 use Rattle.pcb_model.specs.declared.item.Item.{Item}
 use Rattle.pcb_model.specs.declared.item.Metal.{Metal}
 use Rattle.pcb_model.specs.declared.item.Probe.{Probe}
@@ -9,16 +9,11 @@ use Rattle.pcb_model.specs.declared.design.Design.{Design}
 use Rattle.pcb_model.specs.Pairs.{Agrees, ProbeAgrees}
 use Rattle.pcb_islands.specs.declared.net.Island.{Island}
 use Rattle.route_lattice.specs.declared.moves.Move.{Move}
-use Rattle.route_lattice.specs.declared.moves.Move.TheVariants as move
-use Rattle.route_lattice.specs.declared.moves.Walk.{Walk}
 use Rattle.route_lattice.specs.Mesh.{Mesh, node_count}
-use Rattle.route_lattice.specs.Ways.{vias_of}
 use Rattle.route_lattice.specs.Walks.{NoneLeads}
 use Rattle.route_lattice.specs.Legal.{IsLegalProbe, disc_at, legal_graph}
-use Rattle.path_wire.specs.Wires.{MovesLead, copper_of}
+use Rattle.path_wire.specs.Wires.{copper_of}
 use Rattle.path_wire.specs.Lays.{move_probes, walk_probes, laid_item, IsProbeInside, IsMetalInside, IsWellLaid}
-use Rattle.path_wire.specs.Joins.{IsStep}
-use Rattle.path_wire.proofs.Walking.{move_via}
 use Rattle.cut_certificate.specs.Cuts.{AreStarts, AreGoals, LeadsOn}
 use Rattle.dsn_route.proofs.Boards.{AreLaidOn}
 
@@ -47,15 +42,6 @@ walk_laid d m board net nodes moves legal agree inside well turned = record {
   inside = inside (λ k p within. (legal k p within).inside);
   well = well;
 }
-
--- the moves of a net without vias are steps
-pub all_steps : (d : Design) (m : Mesh) (net : ℕ) (nodes : List ℕ) (moves : List Move) → vias_of d net ≡ [] → MovesLead d m net nodes moves → All IsStep moves
-all_steps d m net (v ∷ []) [] none leads = All-nil IsStep
-all_steps d m net (v ∷ w ∷ vs) (move.Step dir ∷ ms) none leads = All-cons IsStep (move.Step dir) ms tt (all_steps d m net (w ∷ vs) ms none leads.1)
-all_steps d m net (v ∷ w ∷ vs) (move.Via padstack layer ∷ ms) none leads =
-    let below = (move_via d m net v padstack layer w leads.0).place_below in
-    absurd (omega (arith, below, ap length none))
-all_steps d m net _ _ none leads = absurd leads
 
 -- where no walk leads from a start to a goal, the island doesn't lead on
 pub none_leads_on : (d : Design) (m : Mesh) (via_cost : ℕ) (board : List Item) (island : Island) (others : List Island) (starts goals : List ℕ) → AreStarts d m board island starts → AreGoals d m board others goals

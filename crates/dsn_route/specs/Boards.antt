@@ -1,8 +1,7 @@
 -- What the parts of routing keep and answer.
-use Rattle.std.specs.Prelude.{◌≡◌, ℕ, ◌<◌, ◌≤◌, ◌^◌, Bool, true, false, List, [], ◌++◌, length, slice_index_or, slice_get, All, Contains, Option, Some, None, ◌⊎◌}
+use Rattle.std.specs.Prelude.{◌≡◌, ℕ, ◌<◌, ◌≤◌, ◌^◌, Bool, true, false, List, ◌++◌, length, slice_index_or, slice_get, All, Contains, Option, Some, None, ◌⊎◌}
 use Rattle.pcb_model.specs.declared.item.Item.{Item}
 use Rattle.pcb_model.specs.declared.design.Design.{Design}
-use Rattle.pcb_model.specs.Rules.{width_for}
 use Rattle.pcb_model.specs.Board.{IsLegal, IsRouted, AreJoined}
 use Rattle.pcb_model.specs.Sound.{IsSound, Serves}
 use Rattle.pcb_islands.specs.declared.net.Island.{Island}
@@ -10,7 +9,7 @@ use Rattle.pcb_islands.specs.Islands.{AreIslands}
 use Rattle.route_lattice.specs.declared.moves.Walk.{Walk}
 use Rattle.route_lattice.specs.Mesh.{Mesh}
 use Rattle.route_lattice.specs.Fits.{FitsDesign}
-use Rattle.route_lattice.specs.Ways.{vias_of}
+use Rattle.path_wire.specs.Plain.{IsPlainItem, IsPlainCopper}
 use Rattle.cut_certificate.specs.declared.cut.Cut.{Cut}
 use Rattle.cut_certificate.specs.Cuts.{LeadsOn}
 use Rattle.dsn_route.specs.Joins.{LeadsLeast, IsJoined, Joins, IsShut, Steps, WorksOffAll, JoinsSome, Ends}
@@ -19,7 +18,7 @@ use Rattle.dsn_route.specs.Joins.{LeadsLeast, IsJoined, Joins, IsShut, Steps, Wo
 abbrev pub AreNumbered : List Item → Type 0
 AreNumbered items = (k : ℕ) (x : Item) → k < length items → (slice_index_or items k x).id ≡ k
 
--- a legal board that serves the design, whose items are numbered: the fixed items, and behind them routed ones
+-- a legal board that serves the design, whose items are numbered: the fixed items, and behind them routed ones; what has a net is plain
 pub record IsBoard (d : Design) (items : List Item) : Type 0 where
   pub legal : IsLegal d items
   pub numbered : AreNumbered items
@@ -27,16 +26,12 @@ pub record IsBoard (d : Design) (items : List Item) : Type 0 where
   pub routed : List Item
   pub items_are : items ≡ d.fixed ++ routed
   pub all_routed : All IsRouted routed
+  pub plain : All IsPlainItem items
 
--- nets have wires of some width and no vias
-pub record IsFlat (d : Design) : Type 0 where
-  pub no_vias : (net : ℕ) → vias_of d net ≡ []
-  pub some_width : (net : ℕ) → net < length d.nets → 0 < width_for d net
-
--- a sound design of nets without vias, a lattice of it, and a price of a via
+-- a sound design of plain copper, a lattice of it, and a price of a via
 pub record IsTask (d : Design) (m : Mesh) (via_cost : ℕ) : Type 0 where
   pub sound : IsSound d
-  pub flat : IsFlat d
+  pub plain : IsPlainCopper d
   pub fits : FitsDesign d m
   pub small_cost : via_cost ≤ 2 ^ 30
 
@@ -65,7 +60,7 @@ pub record AreLinked (items later : List Item) (island : Island) (others : List 
   pub to : Item
   pub to_there : Contains items to
   pub to_in : Contains other.items to.id
-  pub linked : ¬ (¬ (AreJoined later from to))
+  pub linked : AreJoined later from to
 
 -- the island at a place was joined where a legal walk leads on from it, and else the board stays
 abbrev pub TriesAt : Design → Mesh → ℕ → ℕ → ℕ → List Item → List Island → List Item → Bool → Type 0

@@ -1,18 +1,18 @@
 -- What the parts of the top call answer.
-use Rattle.std.specs.Prelude.{◌≡◌, ◌≤◌, ◌<◌, ◌^◌, ◌⊎◌, List, All, Any, IsTrue, Result, Ok, Err}
+use Rattle.std.specs.Prelude.{◌≡◌, ◌≤◌, ◌^◌, ◌⊎◌, List, All, Any, IsTrue, Result, Ok, Err}
 use Rattle.desk_io.specs.States.{DeskState, SinkState}
 use Rattle.pcb_model.specs.declared.item.Item.{Item}
 use Rattle.pcb_model.specs.declared.design.Design.{Design}
 use Rattle.route_lattice.specs.Mesh.{node_count}
 use Rattle.cut_certificate.specs.declared.cut.Cut.{Cut}
 use Rattle.dsn_route.specs.declared.status.Status.{Status}
-use Rattle.dsn_route.specs.declared.status.Status.TheVariants.{Complete, SomeOpen, Memory, Limit}
+use Rattle.dsn_route.specs.declared.status.Status.TheVariants.{Complete, SomeOpen, Memory}
 use Rattle.dsn_route.specs.declared.words.Asked.{Asked}
 use Rattle.dsn_route.specs.declared.words.WordFault.{WordFault}
 use Rattle.dsn_route.specs.Words.{Command}
 use Rattle.dsn_route.specs.Report.{is_complete, is_open}
 use Rattle.dsn_route.specs.Joins.{IsRun}
-use Rattle.dsn_route.specs.Answers.{via_price, mesh_of, nodes_line, Leaves}
+use Rattle.dsn_route.specs.Answers.{via_price, mesh_of, Leaves}
 
 -- what is asked, without where it lies in memory
 abbrev pub command_from : Asked → Command

@@ -5,6 +5,7 @@ ghost use Rattle.std.specs.Prelude.{◌≡◌, ◌++◌, ◌∷◌, ◌<◌, [],
 ghost use Rattle.pcb_model.specs.Bounds.{IsItemFit};
 ghost use Rattle.pcb_model.specs.Sound.{IsSound};
 ghost use Rattle.path_wire.specs.Lays.{IsWellLaid};
+ghost use Rattle.path_wire.specs.Plain.{IsPlainCopper};
 ghost use Rattle.dsn_route.specs.Joins.{with_metals};
 ghost use Rattle.dsn_route.specs.Boards.{AreNumbered, IsBoard};
 
@@ -25,7 +26,8 @@ fn add_item(copper: &mut PlainCopper, item: Item) -> Result<(), AllocError>
 
 /// The copper of the fixed items.
 pub(crate) fn fixed_copper(alloc: Global, d: &Design) -> Result<PlainCopper, AllocError>
-    requires { IsSound d.now }
+    requires sound { IsSound d.now }
+    requires plain { IsPlainCopper d.now }
     ensures items { IfOk result (λ copper. copper ≡ d.now.fixed) }
     ensures board { IfOk result (IsBoard d.now) }
 {

@@ -12,14 +12,14 @@ use crate::board::add_metals;
 use cut_certificate::{goals_of, starts_of};
 use geo_kernel::List;
 use path_wire::{
-    copper_agrees, copper_connects, copper_inside, copper_well_laid, net_walks, own_copper_agrees,
-    walk_items, wires_touch,
+    copper_agrees, copper_connects, copper_inside, copper_touches, copper_well_laid, net_walks,
+    own_copper_agrees, walk_items,
 };
 use pcb_islands::{Island, island_items_own, joining_falls};
 use pcb_model::{Copper, Design, PlainCopper, pairs_are_symmetric};
 use route_lattice::{Found, Lattice, LegalMoves, Walk, legal_graph_sound};
 use std::alloc::{AllocError, Global};
-use wave_search::Search;
+use wave_search::{BoxBound, LayerDirections, Search, box_bound_sound};
 
 /// What is routed: a design on a lattice; a via has a price, in nm.
 #[derive(Clone, Copy)]
@@ -44,7 +44,8 @@ pub(crate) fn put_back(
 }
 
 impl Task<'_> {
-    /// A least legal walk from an island to one of the others, or None where none leads on.
+    /// A least legal walk from an island to one of the others, or None where none leads on. Of several such walks one with few corners
+    /// is taken that keeps to its layers' directions.
     fn find(
         &self,
         alloc: Global,
@@ -65,7 +66,10 @@ impl Task<'_> {
         let goals = goals_of(alloc, self.lat, self.d, copper, others)?;
         let moves = LegalMoves::of(self.lat, self.d, copper, island.net, self.via_cost);
         legal_graph_sound();
-        match search.least_walk(alloc, &moves, &starts, &goals)? {
+        box_bound_sound();
+        let bound = BoxBound::of(self.lat, &goals);
+        let ties = LayerDirections { lat: self.lat };
+        match search.tied_walk(alloc, &moves, &bound, &ties, &starts, &goals)? {
             Found::Walk(walk) => Ok(Some(walk)),
             Found::Closed(_) => Ok(None),
         }
@@ -97,7 +101,7 @@ impl Task<'_> {
         copper_inside();
         copper_well_laid();
         copper_connects();
-        wires_touch();
+        copper_touches();
         own_copper_agrees();
         pairs_are_symmetric();
         let metals = walk_items(alloc, self.lat, self.d, island.net, walk)?;

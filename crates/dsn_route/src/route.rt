@@ -8,7 +8,8 @@ ghost use Rattle.dsn_route.specs.Words.{texts, command_of};
 ghost use Rattle.dsn_route.specs.Status.{ended_of};
 ghost use Rattle.dsn_route.specs.Said.{command_from, IsVerdict, RoutesDesign};
 ghost use Rattle.dsn_route.specs.Texts.{HasDesign};
-ghost use Rattle.dsn_route.specs.Boards.{IsFlat, IsTask};
+ghost use Rattle.path_wire.specs.Plain.{IsPlainCopper};
+ghost use Rattle.dsn_route.specs.Boards.{IsTask};
 ghost use Rattle.dsn_route.specs.Answers.{Answers, Leaves, IsInput, mesh_of, via_price};
 ghost use Rattle.dsn_route.specs.Due.{IsMissing, IsRead, IsLong, IsUnfit, IsTooFine, IsRoutable, IsDue, IsDueAfterRead, HasNoFault, IsDone};
 
@@ -109,7 +110,7 @@ fn route_design<D: Desk, R: Sink>(
     report: &mut R,
 ) -> Status
     requires sound { IsSound design.now }
-    requires flat { IsFlat design.now }
+    requires plain { IsPlainCopper design.now }
     requires grid { IfSome asked.grid (λ g. (1 ≤ g) × (g ≤ 2 ^ 30)) }
     requires input { IsInput (command_from asked) (D.state desk.old) text.now }
     requires reads { HasDesign text.now design.now }

@@ -1,7 +1,7 @@
 -- The copper of a walk hangs together from its first node to its last.
-use Rattle.std.proofs.Common.{◌≡◌, ℕ, ℤ, zero, suc, ◌<◌, ◌≤◌, Bool, true, false, not, ◌&&◌, ◌==◌, List, [], ◌∷◌, map, length, All, refl, sym, ap, ap₂, ◌∙◌, subst, arith, rules}
-use Rattle.std.specs.Prelude.{Contains, slice_index}
-use Rattle.std.proofs.lemmas.List.Elements.{All-nil, All-cons, All-head, All-tail}
+use Rattle.std.proofs.Common.{◌≡◌, ℕ, ℤ, zero, suc, ◌<◌, Bool, true, false, not, ◌&&◌, ◌==◌, List, [], ◌∷◌, map, length, refl, sym, ap, ap₂, ◌∙◌, subst, arith}
+use Rattle.std.specs.Prelude.{Contains}
+use Rattle.std.proofs.lemmas.List.Elements.{All-head}
 use Rattle.geo_kernel.specs.declared.point.Point.{Point}
 use Rattle.pcb_model.specs.declared.item.Piece.{Piece}
 use Rattle.pcb_model.specs.declared.item.Metal.{Metal}
@@ -12,15 +12,15 @@ use Rattle.pcb_model.specs.Rules.{width_for}
 use Rattle.pcb_model.specs.Pieces.{padstack_pieces}
 use Rattle.route_lattice.specs.declared.moves.Move.{Move}
 use Rattle.route_lattice.specs.declared.moves.Move.TheVariants as move
-use Rattle.route_lattice.specs.Mesh.{Mesh, node_count, node_at, column, row, level, point_of, layer_of}
+use Rattle.route_lattice.specs.Mesh.{Mesh, node_count, node_at, column, row, point_of, layer_of}
 use Rattle.route_lattice.specs.Fits.{FitsDesign}
 use Rattle.route_lattice.specs.Near.{are_near_at}
 use Rattle.route_lattice.specs.Ways.{has_copper, can_join}
-use Rattle.route_lattice.proofs.Places.{row_below, level_below}
+use Rattle.route_lattice.proofs.Places.{row_below}
 use Rattle.route_lattice.proofs.Windows.{column_below}
 use Rattle.route_lattice.proofs.Fitting.{both}
-use Rattle.path_wire.specs.Wires.{MovesLead, IsNetWalk, unless_straight, goes_on, corners, wire_from, copper_from, copper_of}
-use Rattle.path_wire.specs.Joins.{HasNode, Connect, last_node, IsStep}
+use Rattle.path_wire.specs.Wires.{IsNetWalk, unless_straight, goes_on, corners, wire_from, copper_from, copper_of}
+use Rattle.path_wire.specs.Joins.{HasNode, Connect, last_node}
 use Rattle.path_wire.proofs.Dirs.{x_at, y_at, layer_at}
 use Rattle.path_wire.proofs.Walking.{Walks, walks_on, move_straight, IsViaOf, move_via}
 
@@ -148,50 +148,3 @@ module _ (d : Design) (m : Mesh) (net : ℕ) where
     walk_connects v [] (a ∷ ms) w = absurd w.leads
     walk_connects v (x ∷ vs) (move.Via padstack layer ∷ ms) w = connects_from true v (x ∷ vs) (move.Via padstack layer ∷ ms) (record { there = w.there; leads = w.leads; laid = λ k p l. tt })
     walk_connects v (x ∷ vs) (move.Step dir ∷ ms) w = connects_from true v (x ∷ vs) (move.Step dir ∷ ms) (record { there = w.there; leads = w.leads; laid = λ k p l. tt })
-
--- ---- steps alone
-none_after : (m : Mesh) (width v : ℕ) (vs : List ℕ) (ms : List Move) → All IsStep ms → copper_from m width false (v ∷ vs) ms ≡ []
-none_after m width v vs [] h = refl
-none_after m width v [] (move.Step dir ∷ []) h = refl
-none_after m width v [] (move.Step dir ∷ a ∷ ms) h = refl
-none_after m width v (w ∷ vs) (move.Step dir ∷ ms) h = none_after m width w vs ms (All-tail IsStep (move.Step dir) ms h)
-none_after m width v vs (move.Via padstack layer ∷ ms) h = absurd (All-head IsStep (move.Via padstack layer) ms h)
-
-pub one_wire : (d : Design) (m : Mesh) (net v : ℕ) (vs : List ℕ) (ms : List Move) → IsNetWalk d m net (v ∷ vs) ms → All IsStep ms →
-    (chain : List Point) × (copper_of d m net (v ∷ vs) ms ≡ metal.Wire (layer_of m v) (width_for d net) chain ∷ [])
-one_wire d m net v vs [] w h = (point_of m v ∷ point_of m v ∷ [], refl)
-one_wire d m net v vs (move.Via padstack layer ∷ ms) w h = absurd (All-head IsStep (move.Via padstack layer) ms h)
-one_wire d m net v [] (move.Step dir ∷ ms) w h = absurd w.leads
-one_wire d m net v (x ∷ vs) (move.Step dir ∷ ms) w h =
-    (map (point_of m) (v ∷ corners (x ∷ vs) (move.Step dir ∷ ms)), ap (λ cs. wire_from m (width_for d net) v (x ∷ vs) (move.Step dir ∷ ms) ∷ cs) (none_after m (width_for d net) x vs ms (All-tail IsStep (move.Step dir) ms h)))
-
--- ---- one layer
-module _ (d : Design) (m : Mesh) (net : ℕ) (one : length m.layers ≤ 1) where
-  no_join : (ps : List Piece) (at : Point) (from to : ℕ) → from ≡ to → can_join ps at from to ≡ true → ⊥
-  no_join ps at from to e h =
-      let a = (both (not (from == to)) (has_copper ps from && (has_copper ps to && are_near_at at ps)) h).0 in
-      differ (from == to) (subst (λ (n : ℕ). (from == n) ≡ true) e (itself from)) a
-    where
-      itself : (n : ℕ) → (n == n) ≡ true
-      itself n = search rules
-
-      differ : (t : Bool) → t ≡ true → not t ≡ true → ⊥
-      differ true e h = cc
-      differ false e h = cc
-
-  via_barred : (v padstack layer w : ℕ) → v < node_count m → IsViaOf d m net v padstack layer w → ⊥
-  via_barred v padstack layer w h via =
-      let l = level_below (length m.xs) (length m.ys) (length m.layers) v h in
-      no_join (padstack_pieces d padstack) (point_of m v) (layer_of m v) layer (ap (slice_index m.layers) (same (level m v) via.level l via.level_below) ∙ via.layer_is) via.joins
-    where
-      same : (a b : ℕ) → a < length m.layers → b < length m.layers → a ≡ b
-      same a b h k = omega arith
-
-  pub all_steps : (nodes : List ℕ) (ms : List Move) → All (λ x. x < node_count m) nodes → MovesLead d m net nodes ms → All IsStep ms
-  all_steps [] [] there h = absurd h
-  all_steps [] (a ∷ ms) there h = absurd h
-  all_steps (v ∷ []) [] there h = All-nil IsStep
-  all_steps (v ∷ []) (a ∷ ms) there h = absurd h
-  all_steps (v ∷ w ∷ vs) [] there h = absurd h
-  all_steps (v ∷ w ∷ vs) (move.Step dir ∷ ms) there h = All-cons IsStep (move.Step dir) ms tt (all_steps (w ∷ vs) ms (All-tail (λ x. x < node_count m) v (w ∷ vs) there) h.1)
-  all_steps (v ∷ w ∷ vs) (move.Via padstack layer ∷ ms) there h = absurd (via_barred v padstack layer w (All-head (λ x. x < node_count m) v (w ∷ vs) there) (move_via d m net v padstack layer w h.0))

@@ -4,8 +4,6 @@ use Rattle.pcb_model.specs.declared.item.Metal.{Metal}
 use Rattle.pcb_model.specs.declared.item.Metal.TheVariants.{Wire, Via, Pad, Ban}
 use Rattle.pcb_model.specs.declared.design.Design.{Design}
 use Rattle.pcb_model.specs.Pieces.{padstack_pieces}
-use Rattle.route_lattice.specs.declared.moves.Move.{Move}
-use Rattle.route_lattice.specs.declared.moves.Move.TheVariants as move
 use Rattle.route_lattice.specs.Mesh.{Mesh, point_of, layer_of}
 use Rattle.route_lattice.specs.Ways.{has_copper}
 
@@ -26,7 +24,3 @@ Connect d m v (a ∷ b ∷ metals) w = HasNode d m v a × (u : ℕ) × HasNode d
 abbrev pub last_node : ℕ → List ℕ → ℕ
 last_node v [] = v
 last_node v (w ∷ vs) = last_node w vs
-
-abbrev pub IsStep : Move → Type 0
-IsStep (move.Step dir) = Unit {0}
-IsStep (move.Via padstack layer) = ⊥

@@ -8,7 +8,7 @@ mod tests;
 mod wires;
 
 pub use laws::{
-    copper_agrees, copper_connects, copper_inside, copper_well_laid, net_walks, one_layer_steps,
-    own_copper_agrees, wires_touch,
+    common_points_touch, copper_agrees, copper_connects, copper_inside, copper_touches,
+    copper_well_laid, net_walks, own_copper_agrees,
 };
 pub use wires::walk_items;

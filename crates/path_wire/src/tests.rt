@@ -3,8 +3,8 @@
 
 use crate::wires::goes_on;
 use crate::{
-    copper_agrees, copper_connects, copper_inside, copper_well_laid, net_walks, one_layer_steps,
-    own_copper_agrees, wires_touch,
+    common_points_touch, copper_agrees, copper_connects, copper_inside, copper_touches,
+    copper_well_laid, net_walks, own_copper_agrees,
 };
 use route_lattice::Move;
 use std::test::Fail;
@@ -35,6 +35,6 @@ fn laws_are_calls_that_do_nothing() {
     copper_well_laid();
     own_copper_agrees();
     copper_connects();
-    wires_touch();
-    one_layer_steps();
+    common_points_touch();
+    copper_touches();
 }

@@ -13,14 +13,14 @@ use Rattle.wave_search.specs.Cells.{next_cell, price_of, cells_graph}
 below : (a b : ℕ) → nat_lt a b ≡ true → a < b
 below a b h = grind (arith, nat_tests)
 
-leads_if : (b : Bool) (x n : ℕ) → nat_lt x n ≡ b → (m : Move) (to : ℕ) → cond {A = Option (Move × ℕ)} b (Some (Step 0, x)) None ≡ Some (m, to) → to < n
-leads_if false x n h m to e = absurd (none-some (m, to) e)
-leads_if true x n h m to e = subst (λ (y : ℕ). y < n) (some_pair_parts (Step 0) m x to e).1 (below x n h)
+leads_if : (i : ℕ) (b : Bool) (x n : ℕ) → nat_lt x n ≡ b → (m : Move) (to : ℕ) → cond {A = Option (Move × ℕ)} b (Some (Step i, x)) None ≡ Some (m, to) → to < n
+leads_if i false x n h m to e = absurd (none-some (m, to) e)
+leads_if i true x n h m to e = subst (λ (y : ℕ). y < n) (some_pair_parts (Step i) m x to e).1 (below x n h)
 
 pub sound : (prices offsets : List ℕ) (width : ℕ) → length prices ≤ 2 ^ 24 → IsSound (cells_graph prices offsets width)
 sound prices offsets width h = record {
   nodes = omega (arith, h);
-  leads = λ v i m to a b e. leads_if (nat_lt (next_cell offsets width v i) (length prices)) (next_cell offsets width v i) (length prices) refl m to e;
+  leads = λ v i m to a b e. leads_if i (nat_lt (next_cell offsets width v i) (length prices)) (next_cell offsets width v i) (length prices) refl m to e;
   small_price = λ v i p a b c. c.1;
   one_price = λ v i p q a b c d. c.0 ∙ sym d.0;
 }

@@ -4,5 +4,6 @@ pub mod Steps
 pub mod Cells
 pub mod Kept
 pub mod Ends
-pub mod Trace
+pub mod Tracing
 pub mod Run
+pub mod Around

@@ -6,9 +6,9 @@ use Rattle.wave_search.specs.declared.front.Entry.{Entry}
 use Rattle.wave_search.specs.Waiting.{IsTaken}
 use Rattle.route_lattice.specs.Walks.{MoveGraph, IsSound, NoneCostsLess, NoneLeads, IsReach}
 use Rattle.wave_search.specs.Bounds.{IsBound}
-use Rattle.wave_search.specs.State.{label_at, IsPut, Comes, Roots, IsListed, IsState}
+use Rattle.wave_search.specs.State.{label_at, IsPut, KeepsDone, Comes, Roots, IsListed, IsState}
 use Rattle.wave_search.proofs.Table.{within, at_most, more_to_do}
-use Rattle.wave_search.proofs.Steps.{finished, key_is, raise, none_less, closed_none, closed_complete, closed_reached, not_done, one_label}
+use Rattle.wave_search.proofs.Steps.{finished, key_is, none_less, closed_none, closed_complete, closed_reached, not_done, one_label, done_kept}
 
 -- the price of a label is small
 pub price_small : {graph : MoveGraph} {starts goals : List ℕ} {low : ℕ → ℕ} {t : List (Option Label)} {q : List Entry} {level fin cur j : ℕ} → IsSound graph → IsState graph starts goals low t q level fin cur j
@@ -22,6 +22,30 @@ origin_small {graph} {starts} {t} sound roots v l h = small l.origin (roots.come
     small : (o : Option ℕ) → Comes graph starts t v l.price l.rank o → IfSome o (λ x. x < 2 ^ 25)
     small None c = tt
     small (Some x) c = omega (arith, within t x c.label c.there, roots.size, sound.nodes)
+
+pub none_in : (xs : List ℕ) → xs ≡ [] → (v : ℕ) → Contains xs v → ⊥
+none_in xs e v c = let k = subst (λ (ys : List ℕ). Contains ys v) e c in omega (arith, k.1)
+
+-- a bound is one for no goals
+pub unbound : {graph : MoveGraph} {goals : List ℕ} {low : ℕ → ℕ} (xs : List ℕ) → xs ≡ [] → IsBound graph goals low → IsBound graph xs low
+unbound xs e b = record { limit = b.limit; at_goals = λ v c. absurd (none_in xs e v c); falls = b.falls }
+
+-- the state of a search is one for no goals
+pub goalless : {graph : MoveGraph} {starts goals : List ℕ} {low : ℕ → ℕ} {t : List (Option Label)} {q : List Entry} {level fin cur j : ℕ} (xs : List ℕ) → xs ≡ [] → IsState graph starts goals low t q level fin cur j
+    → IsState graph starts xs low t q level fin cur j
+goalless xs e i = record {
+  roots = i.roots;
+  seeded = i.seeded;
+  priced = i.priced;
+  ranked = i.ranked;
+  waits = i.waits;
+  settled = i.settled;
+  no_goal = λ v l h d c. none_in xs e v c;
+  relaxed = i.relaxed;
+  above = i.above;
+  labelled = i.labelled;
+  done = i.done;
+}
 
 module _ {graph : MoveGraph} {starts goals : List ℕ} {low : ℕ → ℕ} (sound : IsSound graph) (bound : IsBound graph goals low)
     {t : List (Option Label)} {q : List Entry} {fin : ℕ} (state : (level : ℕ) × IsState graph starts goals low t q level fin 0 graph.arity) {e : Entry} {q' : List Entry} (taken : IsTaken q e q') where
@@ -38,8 +62,8 @@ module _ {graph : MoveGraph} {starts goals : List ℕ} {low : ℕ → ℕ} (soun
     pub room : fin < graph.count
     room = omega (arith, more_to_do t e.node node_in (not_done (label_at t e.node) waits), state.1.done, state.1.roots.size)
 
-    pub comes_now : Comes graph starts t e.node l.price (fin + 1) l.origin
-    comes_now = raise graph starts goals low sound bound t q state.0 fin 0 state.1 e q' taken l there rank_is e.node l.price l.rank (fin + 1) l.origin (omega arith) (state.1.roots.comes e.node l there)
+    pub put_keeps : (k : Label) (t' : List (Option Label)) → IsPut t e.node k t' → KeepsDone t t'
+    put_keeps k t' w = done_kept t e.node k t' w waits
 
     pub none_less_now : Contains goals e.node → NoneCostsLess graph starts goals l.price
     none_less_now ge = none_less graph starts goals low sound bound t q state.0 fin 0 state.1 e q' taken l there rank_is ge

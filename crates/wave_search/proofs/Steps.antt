@@ -1,6 +1,6 @@
 -- The steps of a search keep its invariant.
-use Rattle.std.proofs.Common.{◌≡◌, ℕ, ◌+◌, ◌*◌, ◌^◌, ◌<◌, ◌≤◌, List, [], ◌∷◌, ◌++◌, length, Option, Some, None, sym, refl, ap, ◌∙◌, subst, inl, inr, arith, ◌⊎◌}
-use Rattle.std.specs.Prelude.{Contains, IfSome, nat_lt}
+use Rattle.std.proofs.Common.{◌≡◌, ℕ, ◌+◌, ◌*◌, ◌^◌, ◌<◌, ◌≤◌, List, [], ◌∷◌, ◌++◌, Option, Some, None, sym, refl, ap, ◌∙◌, subst, inl, inr, arith, ◌⊎◌}
+use Rattle.std.specs.Prelude.{Contains, nat_lt}
 use Prim.Native.Nat.{zero, suc}
 use Rattle.wave_search.specs.declared.labels.Label.{Label}
 use Rattle.wave_search.specs.declared.front.Entry.{Entry}
@@ -8,7 +8,7 @@ use Rattle.wave_search.specs.Waiting.{Waits, IsAdded, IsTaken}
 use Rattle.route_lattice.specs.declared.moves.Move.{Move}
 use Rattle.route_lattice.specs.Walks.{MoveGraph, Hop, Opens, Leads, cost, IsSound, NoneCostsLess, NoneLeads, Reaches}
 use Rattle.wave_search.specs.Bounds.{IsBound}
-use Rattle.wave_search.specs.State.{label_at, done_of, done_by, IsPut, entry, Comes, IsCheap, IsTurned, IsTurnedOrKept, IsState, improves_on}
+use Rattle.wave_search.specs.State.{label_at, done_of, done_by, IsPut, KeepsDone, entry, Comes, IsCheap, IsState, improves_on}
 use Rattle.std.proofs.lemmas.Option.{some_pair_parts, none-some}
 use Rattle.std.proofs.Common.{true, false}
 use Rattle.std.proofs.lemmas.Bool.Decides.{nat_tests}
@@ -41,6 +41,13 @@ cheap_kept t v l t' w low u q c = elim (same_or_not u v) [
   | inr graph ↦ record { label = c.label; there = w.others u graph ∙ c.there; cheap = c.cheap }
 ]
 
+-- a write to a node that is not done leaves those that are
+pub done_kept : (t : List (Option Label)) (v : ℕ) (l : Label) (t' : List (Option Label)) → IsPut t v l t' → ((k : Label) → label_at t v ≡ Some k → k.rank ≡ 0) → KeepsDone t t'
+done_kept t v l t' w waiting u k h d = elim (same_or_not u v) [
+  | inl p ↦ let z : k.rank ≡ 0 = waiting k (subst (λ x. label_at t x ≡ Some k) p h) in absurd (omega (arith, z, d))
+  | inr n ↦ w.others u n ∙ h
+]
+
 -- an origin that is done keeps its label where the write is to a node that is not done, or keeps price and raises the rank from 0
 pub comes_kept : (graph : MoveGraph) (starts : List ℕ) (t : List (Option Label)) (v : ℕ) (l : Label) (t' : List (Option Label)) → IsPut t v l t'
     → ((k : Label) → label_at t v ≡ Some k → k.rank ≡ 0) → (u p r : ℕ) (o : Option ℕ) → Comes graph starts t u p r o → Comes graph starts t' u p r o
@@ -49,11 +56,6 @@ comes_kept graph starts t v l t' w waiting u p r (Some o) c = elim (same_or_not 
   | inl e ↦ let z : c.label.rank ≡ 0 = waiting c.label (subst (λ x. label_at t x ≡ Some c.label) e c.there) in absurd (omega (arith, z, c.done))
   | inr ne ↦ record { label = c.label; there = w.others o ne ∙ c.there; done = c.done; before = c.before; tight = c.tight }
 ]
-
--- the origin of a label is a node
-pub origin_within : (graph : MoveGraph) (starts : List ℕ) (t : List (Option Label)) (v p r : ℕ) (o : Option ℕ) → Comes graph starts t v p r o → IfSome o (λ x. x < length t)
-origin_within graph starts t v p r None c = tt
-origin_within graph starts t v p r (Some o) c = within t o c.label c.there
 
 done_pos : (r : ℕ) → 0 < r → done_by r ≡ 1
 done_pos zero h = absurd (omega arith)
@@ -206,6 +208,9 @@ module _ (graph : MoveGraph) (starts goals : List ℕ) (low : ℕ → ℕ) (soun
     same_to : (v : ℕ) (h : Hop) → v ≡ cur → h.index ≡ j → Opens graph v h → h.to ≡ to
     same_to v h e f p = sym (some_pair_parts m h.move to h.to (sym o.leads ∙ ((λ x. graph.at (sym e x) (sym f x)) ∙ p.leads))).1
 
+    pub relabel_keeps : (t' : List (Option Label)) → IsPut t to l t' → KeepsDone t t'
+    relabel_keeps t' w = done_kept t to l t' w waiting
+
     pub relabelled : (t' : List (Option Label)) (q' : List Entry) → IsPut t to l t' → IsAdded q (entry (l.price + low to) to) q' → IsState graph starts goals low t' q' level fin cur (j + 1)
     relabelled t' q' w a = record {
       roots = record {
@@ -260,94 +265,6 @@ module _ (graph : MoveGraph) (starts goals : List ℕ) (low : ℕ → ℕ) (soun
       ];
       done = omega (arith, w.done, not_done (label_at t to) waiting, done_zero l.rank rank_is, i.done);
     }
-
-  -- a node that waits comes, at the same price, from the node that is done
-  module _ (t : List (Option Label)) (q : List Entry) (level fin cur j : ℕ) (lu : Label) (i : IsState graph starts goals low t q level fin cur j)
-      (there : label_at t cur ≡ Some lu) (is_done : 0 < lu.rank)
-      (m : Move) (to paid : ℕ) (o : Opens graph cur (hop j m to paid)) (t' : List (Option Label)) (turned : IsTurned t cur to (lu.price + paid) t') where
-    abbrev new_label : Label
-    new_label = record { price = lu.price + paid; rank = 0; origin = Some cur }
-
-    still_waits : (k : Label) → label_at t to ≡ Some k → k.rank ≡ 0
-    still_waits k e = ap (λ (x : Label). x.rank) (one_label t to k turned.label e turned.there) ∙ turned.waits
-
-    same_price : (k : Label) → label_at t to ≡ Some k → new_label.price ≤ k.price
-    same_price k e = omega (arith, turned.price_is, ap (λ (x : Label). x.price) (one_label t to k turned.label e turned.there))
-
-    is_other : cur ≡ to → ⊥
-    is_other e = omega (arith, is_done, still_waits lu (subst (λ (x : ℕ). label_at t x ≡ Some lu) e there))
-
-    pub there_still : label_at t' cur ≡ Some lu
-    there_still = turned.put.others cur is_other ∙ there
-
-    turned_comes : Comes graph starts t' to (lu.price + paid) 0 (Some cur)
-    turned_comes = record {
-      label = lu;
-      there = there_still;
-      done = is_done;
-      before = λ d. absurd (omega (arith, d));
-      tight = record { hop = hop j m to paid; opens = o; to_is = refl; price_is = refl };
-    }
-
-    turned_price : lu.price + paid + 2 ^ 35 * done_by 0 ≤ 2 ^ 35 * fin
-    turned_price = omega (arith, turned.price_is, i.priced to turned.label turned.there, done_zero turned.label.rank turned.waits)
-
-    turned_state : IsState graph starts goals low t' q level fin cur j
-    turned_state = record {
-      roots = record {
-        size = turned.put.size ∙ i.roots.size;
-        comes = λ v k h. elim (put_cases t to new_label t' turned.put v k h) [
-          | inl p ↦ subst (λ (y : ℕ × Label). Comes graph starts t' y.0 y.1.price y.1.rank y.1.origin) (λ x. (sym p.0 x, sym p.1 x)) turned_comes
-          | inr p ↦ comes_kept graph starts t to new_label t' turned.put still_waits v k.price k.rank k.origin (i.roots.comes v k p.1)
-        ];
-      };
-      seeded = λ s c. cheap_kept t to new_label t' turned.put same_price s 0 (i.seeded s c);
-      priced = λ v k h. elim (put_cases t to new_label t' turned.put v k h) [
-        | inl p ↦ subst (λ (y : Label). y.price + 2 ^ 35 * done_by y.rank ≤ 2 ^ 35 * fin) (sym p.1) turned_price
-        | inr p ↦ i.priced v k p.1
-      ];
-      ranked = λ v k h. elim (put_cases t to new_label t' turned.put v k h) [
-        | inl p ↦ omega (arith, ap (λ (x : Label). x.rank) p.1)
-        | inr p ↦ i.ranked v k p.1
-      ];
-      waits = λ v k h z. elim (put_cases t to new_label t' turned.put v k h) [
-        | inl p ↦ subst (λ (e : Entry). Waits q e) (λ x. entry ((turned.price_is ∙ sym (ap (λ (y : Label). y.price) p.1)) x + low (sym p.0 x)) (sym p.0 x)) (i.waits to turned.label turned.there turned.waits)
-        | inr p ↦ i.waits v k p.1 z
-      ];
-      settled = λ v k h d. elim (put_cases t to new_label t' turned.put v k h) [
-        | inl p ↦ absurd (omega (arith, d, ap (λ (x : Label). x.rank) p.1))
-        | inr p ↦ i.settled v k p.1 d
-      ];
-      no_goal = λ v k h d g. elim (put_cases t to new_label t' turned.put v k h) [
-        | inl p ↦ omega (arith, d, ap (λ (x : Label). x.rank) p.1)
-        | inr p ↦ i.no_goal v k p.1 d g
-      ];
-      relaxed = λ v k h e d c o2. elim (put_cases t to new_label t' turned.put v k e) [
-        | inl p ↦ absurd (omega (arith, d, ap (λ (x : Label). x.rank) p.1))
-        | inr p ↦ cheap_kept t to new_label t' turned.put same_price h.to (k.price + h.price) (i.relaxed v k h p.1 d c o2)
-      ];
-      above = i.above;
-      labelled = λ e h. let b = i.labelled e h in (b.0, cheap_kept t to new_label t' turned.put same_price e.node b.0 b.1, b.2);
-      done = omega (arith, turned.put.done, not_done (label_at t to) still_waits, i.done);
-    }
-
-    pub turned_on : IsState graph starts goals low t' q level fin cur (j + 1)
-    turned_on = unchanged t' q level fin cur j lu turned_state there_still m to paid o.leads o.costs (record { label = new_label; there = turned.put.here; cheap = omega arith })
-
-  -- move j leads to a node that has a label with no greater price, which may come from the node now
-  pub turned_or_kept : (t : List (Option Label)) (q : List Entry) (level fin cur j : ℕ) (lu : Label) → IsState graph starts goals low t q level fin cur j → label_at t cur ≡ Some lu → 0 < lu.rank
-      → (m : Move) (to paid : ℕ) → Opens graph cur (hop j m to paid) → improves_on (lu.price + paid) (label_at t to) ≡ false → (t' : List (Option Label)) → IsTurnedOrKept t cur to (lu.price + paid) t'
-      → (label_at t' cur ≡ Some lu) × IsState graph starts goals low t' q level fin cur (j + 1)
-  turned_or_kept t q level fin cur j lu i there is_done m to paid o worse t' c = elim c [
-    | inl turned ↦ (
-      there_still t q level fin cur j lu i there is_done m to paid o t' turned,
-      turned_on t q level fin cur j lu i there is_done m to paid o t' turned,
-    )
-    | inr same ↦ subst (λ (x : List (Option Label)). (label_at x cur ≡ Some lu) × IsState graph starts goals low x q level fin cur (j + 1)) (sym same) (
-      there,
-      unchanged t q level fin cur j lu i there m to paid o.leads o.costs (cheap_from t to (lu.price + paid) worse),
-    )
-  ]
 
   -- the least entry is of a node that waits: it is done now
   module _ (t : List (Option Label)) (q : List Entry) (level fin cur : ℕ) (i : IsState graph starts goals low t q level fin cur graph.arity)

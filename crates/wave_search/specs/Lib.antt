@@ -4,3 +4,5 @@ pub mod Order
 pub mod State
 pub mod Rows
 pub mod Cells
+pub mod Around
+pub mod Directions

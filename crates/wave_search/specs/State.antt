@@ -1,5 +1,5 @@
 -- What a search keeps true.
-use Rattle.std.specs.Prelude.{◌≡◌, ℕ, ◌+◌, ◌*◌, ◌^◌, ◌≤◌, ◌<◌, List, [], ◌∷◌, length, Option, Some, None, slice_get, Contains, Bool, true, nat_lt, ◌⊎◌}
+use Rattle.std.specs.Prelude.{◌≡◌, ℕ, ◌+◌, ◌*◌, ◌^◌, ◌≤◌, ◌<◌, List, [], ◌∷◌, length, Option, Some, None, slice_get, Contains, Bool, true, nat_lt}
 use Rattle.std.specs.List.Sorted.{IsStrictlyIncreasing}
 use Prim.Native.Nat.{zero, suc}
 use Rattle.wave_search.specs.declared.labels.Label.{Label}
@@ -41,16 +41,9 @@ pub record IsPut (old : List (Option Label)) (v : ℕ) (l : Label) (new : List (
   pub size : length new ≡ length old
   pub done : done_count new + done_of (label_at old v) ≡ done_count old + done_by l.rank
 
--- node v, which waited at the price p, does so still, and comes from another node
-pub record IsTurned (old : List (Option Label)) (from v p : ℕ) (new : List (Option Label)) : Type 0 where
-  pub label : Label
-  pub there : label_at old v ≡ Some label
-  pub waits : label.rank ≡ 0
-  pub price_is : label.price ≡ p
-  pub put : IsPut old v (record { price = p; rank = 0; origin = Some from }) new
-
-abbrev pub IsTurnedOrKept : List (Option Label) → ℕ → ℕ → ℕ → List (Option Label) → Type 0
-IsTurnedOrKept old from v p new = IsTurned old from v p new ⊎ (new ≡ old)
+-- a node that is done in the one has its label in the other
+abbrev pub KeepsDone : List (Option Label) → List (Option Label) → Type 0
+KeepsDone old new = (v : ℕ) (l : Label) → label_at old v ≡ Some l → 0 < l.rank → label_at new v ≡ Some l
 
 abbrev pub entry : ℕ → ℕ → Entry
 entry k v = record { key = k; node = v }

@@ -3,6 +3,9 @@
 #![tactic(auto)]
 
 mod bound;
+mod box_bound;
+mod choices;
+mod choose;
 mod front;
 mod labels;
 mod marks;
@@ -10,6 +13,10 @@ mod search;
 mod task;
 #[cfg(test)]
 mod tests;
+mod ties;
+mod trace;
 
 pub use bound::{Bound, NoBound};
+pub use box_bound::{BoxBound, box_bound_sound};
 pub use search::{Search, guided_walk, least_walk};
+pub use ties::{Heading, LayerDirections, NoTies, Ties, heading_of};

@@ -9,6 +9,7 @@ use crate::bound::{Bound, NoBound};
 use crate::labels::Labels;
 use crate::marks::Marks;
 use crate::task::Task;
+use crate::ties::{NoTies, Ties};
 use geo_kernel::List;
 use route_lattice::{Found, Moves};
 use std::alloc::{AllocError, Global};
@@ -42,12 +43,14 @@ impl Search {
     }
 
     /// A walk over open moves from a start to a goal such that none costs less; Closed exactly where there is none,
-    /// with all nodes that open moves reach from the starts. A goal that is no node is none.
-    pub fn guided_walk<M: Moves, B: Bound>(
+    /// with all nodes that open moves reach from the starts. A goal that is no node is none. Of several such walks one is taken
+    /// that costs little by the rule of ties.
+    pub fn tied_walk<M: Moves, B: Bound, T: Ties>(
         &mut self,
         alloc: Global,
         m: &M,
         b: &B,
+        ties: &T,
         starts: &List<u32>,
         goals: &List<u32>,
     ) -> Result<Found, AllocError>
@@ -64,6 +67,7 @@ impl Search {
         let task = Task {
             m,
             b,
+            ties,
             starts,
             goals,
             marks: &self.marks,
@@ -71,7 +75,27 @@ impl Search {
         task.run(alloc, &mut self.labels)
     }
 
-    /// The same without a bound.
+    /// The same without a rule of ties.
+    pub fn guided_walk<M: Moves, B: Bound>(
+        &mut self,
+        alloc: Global,
+        m: &M,
+        b: &B,
+        starts: &List<u32>,
+        goals: &List<u32>,
+    ) -> Result<Found, AllocError>
+        requires size { self.old ≡ (M.graph m.now).count }
+        requires ready { M.ready m.now }
+        requires sound { IsSound (M.graph m.now) }
+        requires bound { IsBound (M.graph m.now) goals.now (B.low_of b.now) }
+        requires starts { All (λ s. s < (M.graph m.now).count) starts.now }
+        ensures answers { IfOk result (Answers (M.graph m.now) starts.now goals.now) }
+        ensures size { self.new ≡ self.old }
+    {
+        self.tied_walk(alloc, m, b, &NoTies, starts, goals)
+    }
+
+    /// The same without a bound either.
     pub fn least_walk<M: Moves>(
         &mut self,
         alloc: Global,

@@ -6,7 +6,7 @@ ghost use Rattle.route_lattice.specs.Walks.{IsSound};
 ghost use Rattle.wave_search.specs.Bounds.{IsBound};
 ghost use Rattle.wave_search.specs.Cells.{next_cell, price_of, cells_graph};
 
-use crate::{Bound, Search, guided_walk, least_walk};
+use crate::{Bound, Heading, NoBound, Search, Ties, guided_walk, heading_of, least_walk};
 use geo_kernel::List;
 use route_lattice::{Found, Move, Moves};
 use std::alloc::{AllocError, Global};
@@ -80,7 +80,7 @@ impl Moves for Cells {
     fn at(&self, node: u32, i: u32) -> Option<(Move, u32)> {
         let to = self.next(node, i);
         if to < self.prices.len() as u64 {
-            Some((Move::Step { dir: 0 }, to as u32))
+            Some((Move::Step { dir: i as u8 }, to as u32))
         } else {
             None
         }
@@ -211,24 +211,6 @@ fn memory_serves_one_search_after_another(rt: HostRuntime) -> Result<(), Fail> {
     Ok(())
 }
 
-#[test]
-fn a_straight_walk_comes_before_an_equally_cheap_one_with_turns(
-    rt: HostRuntime,
-) -> Result<(), Fail> {
-    let alloc = rt.alloc();
-    let prices = [
-        0, 0, 0, 0, 0, 0, 0, //
-        0, 1, 1, 1, 1, 0, 0, //
-        0, 1, 1, 3, 1, 1, 0, //
-        0, 0, 0, 0, 0, 0, 0,
-    ];
-    let cells = Cells::of(alloc, 7, &prices)?;
-    let (price, nodes) = search(alloc, &cells, 15, 19)?;
-    assert_eq!(rt; price, 6);
-    assert_eq!(rt; nodes.as_slice(), [15, 16, 17, 18, 19].as_slice());
-    Ok(())
-}
-
 /// One more step is to be paid for wherever the goal isn't.
 #[derive(Drop)]
 struct OneStep {
@@ -261,6 +243,70 @@ fn a_bound_changes_no_price(rt: HostRuntime) -> Result<(), Fail> {
     let (price, nodes) = told(found);
     assert_eq!(rt; price, 13);
     assert_eq!(rt; nodes.as_slice(), [9, 10, 11, 12, 13, 14].as_slice());
+    Ok(())
+}
+
+/// Few turns.
+struct FewTurns;
+
+impl Ties for FewTurns {
+    fn tells(&self) -> bool {
+        true
+    }
+
+    fn cost(&self, _node: u32, m: Move, _price: u64, next: Heading) -> u64 {
+        match (heading_of(m), next) {
+            (Heading::Across, Heading::Up) | (Heading::Up, Heading::Across) => 1,
+            _ => 0,
+        }
+    }
+}
+
+#[test]
+fn of_equally_cheap_walks_the_one_with_the_fewest_turns_is_taken(
+    rt: HostRuntime,
+) -> Result<(), Fail> {
+    let alloc = rt.alloc();
+    let prices = [
+        0, 0, 0, 0, 0, 0, //
+        0, 1, 1, 1, 0, 0, //
+        0, 1, 1, 1, 1, 0, //
+        0, 1, 1, 1, 1, 0, //
+        0, 1, 1, 1, 1, 0, //
+        0, 0, 0, 0, 0, 0,
+    ];
+    let cells = Cells::of(alloc, 6, &prices)?;
+    let starts = List::from_slice(alloc, &[7])?;
+    let goals = List::from_slice(alloc, &[28, 35])?;
+    let mut search = Search::new(alloc, cells.count())?;
+    cells_sound(&cells);
+    let found = search.tied_walk(alloc, &cells, &NoBound, &FewTurns, &starts, &goals)?;
+    let (price, nodes) = told(found);
+    assert_eq!(rt; price, 6);
+    assert_eq!(rt; nodes.as_slice(), [7, 13, 19, 25, 26, 27, 28].as_slice());
+    Ok(())
+}
+
+#[test]
+fn of_equally_cheap_goals_the_one_that_ties_prefer_is_reached(rt: HostRuntime) -> Result<(), Fail> {
+    let alloc = rt.alloc();
+    let prices = [
+        0, 0, 0, 0, 0, 0, //
+        0, 1, 1, 0, 0, 0, //
+        0, 1, 1, 1, 1, 0, //
+        0, 1, 1, 1, 1, 0, //
+        0, 1, 1, 1, 1, 0, //
+        0, 0, 0, 0, 0, 0,
+    ];
+    let cells = Cells::of(alloc, 6, &prices)?;
+    let starts = List::from_slice(alloc, &[7])?;
+    let goals = List::from_slice(alloc, &[15, 20, 25])?;
+    let mut search = Search::new(alloc, cells.count())?;
+    cells_sound(&cells);
+    let found = search.tied_walk(alloc, &cells, &NoBound, &FewTurns, &starts, &goals)?;
+    let (price, nodes) = told(found);
+    assert_eq!(rt; price, 3);
+    assert_eq!(rt; nodes.as_slice(), [7, 13, 19, 25].as_slice());
     Ok(())
 }
 

@@ -10,10 +10,10 @@ add_item-requires-clause-fits c =
     let same : length c.as_slice-item-items.result.now ≡ length c.args.d.now.fixed = ap length c.as_slice-item-items.ensures in
     let within : c.loop-item.item-index < length c.args.d.now.fixed = omega (arith, same) in
     let is : c.item-item.result ≡ get_or c.args.d.now.fixed c.loop-item.item-index c.item-item.result = c.item-item.is ∙ ap (λ xs. get_or xs c.loop-item.item-index c.item-item.result) c.as_slice-item-items.ensures in
-    subst IsItemFit (sym c.in_ok-copy.ensures) (subst IsItemFit (sym is) (fixed_at c.args.d.now c.requires c.loop-item.item-index c.item-item.result within).item.fits)
+    subst IsItemFit (sym c.in_ok-copy.ensures) (subst IsItemFit (sym is) (fixed_at c.args.d.now c.requires.sound c.loop-item.item-index c.item-item.result within).item.fits)
 
 pub returns-clause-board : goal.returns-clause-board
 returns-clause-board c =
     let same : length c.as_slice-item-items.result.now ≡ length c.args.d.now.fixed = ap length c.as_slice-item-items.ensures in
     let past = c.loop-item-test.false in
-    subst (IsBoard c.args.d.now) (sym (c.loop-item.invariant ∙ take_all c.loop-item.item-index c.args.d.now.fixed (omega (arith, same, past)))) (start_board c.args.d.now c.requires)
+    subst (IsBoard c.args.d.now) (sym (c.loop-item.invariant ∙ take_all c.loop-item.item-index c.args.d.now.fixed (omega (arith, same, past)))) (start_board c.args.d.now c.requires.sound c.requires.plain)

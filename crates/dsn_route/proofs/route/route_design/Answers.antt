@@ -1,7 +1,6 @@
 use Rattle.std.proofs.Common.{Ok, inr, refl, ap}
-use Rattle.route_lattice.specs.Mesh.{node_count}
 use Rattle.dsn_route.specs.declared.status.Status.TheVariants.{Limit}
-use Rattle.dsn_route.specs.Answers.{mesh_of, nodes_line}
+use Rattle.dsn_route.specs.Answers.{nodes_line}
 use Rattle.dsn_route.specs.Said.{command_from}
 use Rattle.dsn_route.proofs.Ended.{stopped, routed}
 use Rattle.dsn_route.proofs.route.route_design.Goals as goal

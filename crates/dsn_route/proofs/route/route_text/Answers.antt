@@ -3,11 +3,11 @@ use Rattle.dsn_route.specs.declared.status.Status.TheVariants.{Refused}
 use Rattle.dsn_route.specs.Answers.{refused_line}
 use Rattle.dsn_route.specs.Said.{command_from}
 use Rattle.dsn_route.proofs.Ended.{stopped}
-use Rattle.dsn_route.proofs.Flat.{design_flat}
+use Rattle.dsn_route.proofs.Plain.{design_plain}
 use Rattle.dsn_route.proofs.route.route_text.Goals as goal
 
-pub route_design-requires-clause-flat : goal.route_design-requires-clause-flat
-route_design-requires-clause-flat g c = design_flat c.args.text.now c.in-Ok.design c.in-Ok.ensures.value
+pub route_design-requires-clause-plain : goal.route_design-requires-clause-plain
+route_design-requires-clause-plain g c = design_plain c.args.text.now c.in-Ok.design c.in-Ok.ensures.value
 
 pub returns-in-Err-NotOfTheForm : goal.returns-in-Err-NotOfTheForm
 returns-in-Err-NotOfTheForm g c =

@@ -1,4 +1,4 @@
-use Rattle.std.proofs.Common.{◌≡◌, ◌∙◌, sym, subst, IsTrue, length, arith}
+use Rattle.std.proofs.Common.{◌∙◌, sym, subst, IsTrue, arith}
 use Rattle.std.specs.List.{All}
 use Rattle.std.proofs.lemmas.List.{take_all}
 use Rattle.dsn_route.specs.Report.{is_complete}

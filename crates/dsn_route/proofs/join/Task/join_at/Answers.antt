@@ -1,4 +1,4 @@
-use Rattle.std.proofs.Common.{◌≡◌, ◌∙◌, ap, sym, subst, ℕ, List}
+use Rattle.std.proofs.Common.{◌≡◌, ◌∙◌, ap, subst, ℕ, List}
 use Rattle.std.specs.List.{Contains, insert}
 use Rattle.pcb_islands.specs.declared.net.Island.{Island}
 use Rattle.pcb_islands.specs.Islands.{pins_of}
@@ -40,4 +40,4 @@ returns-clause-fewer c = λ t later islands_later.
     c.joining_falls.ensures.fewer c.args.self.now.d.now c.args.copper.now c.join.new.copper c.args.net c.args.found later c.requires.task.sound c.requires.board.serves
     (numbered_ascend c.args.copper.now c.requires.board.numbered) (grown_has c.remove-island.result.net c.args.copper.now c.join.new.copper c.in_ok-joined.ensures.grows) c.requires.islands islands_later
     c.args.place other.place link.from link.to link.from_there link.to_there
-    (record { island = c.remove-island.result; there = c.remove-island.ensures.value; has = link.from_in }) (record { island = link.other; there = other.there; has = link.to_in }) other.other link.linked
+    (record { island = c.remove-island.result; there = c.remove-island.ensures.value; has = link.from_in }) (record { island = link.other; there = other.there; has = link.to_in }) other.other (λ none. none link.linked)

@@ -1,4 +1,4 @@
-use Rattle.std.proofs.Common.{◌≡◌, ◌∙◌, ap, sym, subst, ℕ, List, ◌∷◌, length}
+use Rattle.std.proofs.Common.{◌∙◌, ap, sym, subst, ℕ, List, ◌∷◌}
 use Rattle.std.specs.List.{All}
 use Rattle.pcb_model.specs.declared.item.Item.{Item}
 use Rattle.pcb_model.specs.declared.item.Metal.{Metal}
@@ -7,7 +7,7 @@ use Rattle.path_wire.specs.Wires.{IsNetWalk, copper_of}
 use Rattle.dsn_route.specs.Joins.{with_metals}
 use Rattle.dsn_route.specs.Boards.{IsBoard}
 use Rattle.dsn_route.proofs.Boards.{AreLaidOn, metals_board, metals_grow}
-use Rattle.dsn_route.proofs.Walking.{starts_there, probes_legal, walk_laid, all_steps}
+use Rattle.dsn_route.proofs.Walking.{starts_there, probes_legal, walk_laid}
 use Rattle.dsn_route.proofs.Linking.{walk_links}
 use Rattle.dsn_route.proofs.join.Task.lay.Goals as goal
 
@@ -43,7 +43,8 @@ returns-clause-board c =
     (c.pairs_are_symmetric.ensures.agree c.args.self.now.d.now) in
     subst (λ (xs : List Item). IsBoard c.args.self.now.d.now xs)
     (sym (c.in_ok-add_metals.ensures ∙ ap (λ (ms : List Metal). with_metals c.args.self.now.d.now c.args.island.now.net c.args.copper.now ms) c.in_ok-metals.ensures))
-    (metals_board c.args.self.now.d.now c.args.island.now.net c.args.copper.now _ c.requires.board laid (c.own_copper_agrees.ensures c.args.self.now.d.now c.args.island.now.net))
+    (metals_board c.args.self.now.d.now c.args.island.now.net c.args.copper.now _ c.requires.board laid (c.own_copper_agrees.ensures c.args.self.now.d.now c.args.island.now.net)
+    (λ id a. c.copper_touches.ensures.plain c.args.self.now.d.now c.args.island.now.net id a c.requires.task.plain))
 
 pub returns-clause-grows : goal.returns-clause-grows
 returns-clause-grows c = metals_grow c.args.self.now.d.now c.args.island.now.net c.args.copper.now _ c.in_ok-metals.metals c.in_ok-add_metals.ensures
@@ -55,10 +56,12 @@ returns-clause-linked c =
     let ends = c.net_walks.ensures.ends c.args.self.now.d.now c.args.self.now.lat.now c.args.copper.now c.args.island.now.net c.args.self.now.via_cost leads.starts leads.goals c.args.walk.now leads.least.walk in
     let walk_from : IsNetWalk c.args.self.now.d.now c.args.self.now.lat.now c.args.island.now.net (ends.0 ∷ ends.1) c.args.walk.now.moves =
     subst (λ (ns : List ℕ). IsNetWalk c.args.self.now.d.now c.args.self.now.lat.now c.args.island.now.net ns c.args.walk.now.moves) ends.2 net_walk in
-    let steps = all_steps c.args.self.now.d.now c.args.self.now.lat.now c.args.island.now.net (ends.0 ∷ ends.1) c.args.walk.now.moves (c.requires.task.flat.no_vias c.args.island.now.net) walk_from.leads in
-    let one = c.copper_connects.ensures.one_wire c.args.self.now.d.now c.args.self.now.lat.now c.args.island.now.net ends.0 ends.1 c.args.walk.now.moves walk_from steps in
-    walk_links c.args.self.now.d.now c.args.self.now.lat.now c.args.copper.now _ c.args.island.now.net ends.0 ends.1 c.args.walk.now.nodes c.args.walk.now.moves one.0 c.args.island.now c.args.others.now ends.2
+    let well = c.copper_well_laid.ensures c.args.self.now.d.now c.args.self.now.lat.now c.args.island.now.net 0 c.args.walk.now.nodes c.args.walk.now.moves c.requires.task.sound c.requires.task.fits c.requires.net net_walk in
+    walk_links c.args.self.now.d.now c.args.self.now.lat.now c.args.copper.now _ c.args.island.now.net ends.0 ends.1 c.args.walk.now.nodes c.args.walk.now.moves c.args.island.now c.args.others.now
+    (λ id v a b. c.copper_touches.ensures.anchored c.args.self.now.d.now c.args.self.now.lat.now c.args.island.now.net id v a b c.requires.task.sound c.requires.task.plain)
+    (λ i j v a b. c.copper_touches.ensures.neighbours c.args.self.now.d.now c.args.self.now.lat.now c.args.island.now.net i j v a b c.requires.task.sound c.requires.task.plain)
+    c.pairs_are_symmetric.ensures.touch ends.2
     (c.in_ok-add_metals.ensures ∙ ap (λ (ms : List Metal). with_metals c.args.self.now.d.now c.args.island.now.net c.args.copper.now ms) c.in_ok-metals.ensures)
-    one.1
-    (λ b net_is anchors. c.wires_touch.ensures.ends c.args.self.now.d.now c.args.self.now.lat.now c.args.island.now.net (length c.args.copper.now) ends.0 ends.1 c.args.walk.now.moves b c.requires.task.fits walk_from steps (c.requires.task.flat.some_width c.args.island.now.net c.requires.net) net_is anchors)
-    c.pairs_are_symmetric.ensures.touch c.requires.own c.requires.others_own ((leads.starts_are.exact ends.0).0 ends.3) ((leads.goals_are.exact _).0 ends.4)
+    (c.copper_connects.ensures c.args.self.now.d.now c.args.self.now.lat.now c.args.island.now.net ends.0 ends.1 c.args.walk.now.moves c.requires.task.fits walk_from)
+    (λ k a within. (well k a within).laid) c.requires.board.plain
+    c.requires.own c.requires.others_own ((leads.starts_are.exact ends.0).0 ends.3) ((leads.goals_are.exact _).0 ends.4)

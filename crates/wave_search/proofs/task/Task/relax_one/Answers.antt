@@ -2,7 +2,7 @@ use Rattle.std.proofs.Common.{arith, ◌≡◌, ℕ, ◌+◌, Option, Some, refl
 use Rattle.wave_search.specs.Waiting.{IsAdded}
 use Rattle.wave_search.specs.declared.labels.Label.{Label}
 use Rattle.wave_search.specs.State.{label_at, improves_on, entry}
-use Rattle.wave_search.proofs.Steps.{price_room, relabelled, better_from, origin_within, turned_or_kept}
+use Rattle.wave_search.proofs.Steps.{price_room, relabel_keeps, relabelled, better_from, unchanged, cheap_from}
 use Rattle.wave_search.proofs.task.Task.relax_one.Goals as goal
 
 pub overflow_add-price : goal.overflow_add-price
@@ -37,35 +37,22 @@ returns-clause-state g c =
     l refl refl refl (better_from c.args.table.now c.in-Some.to l.price better)
     c.put.new.self c.push.new.self c.in_ok-put.ensures.ok (subst (λ (x : ℕ). IsAdded c.args.front.now (entry (c.args.label.price + c.price.result + x) c.in-Some.to) c.push.new.self) c.low-low.ensures c.in_ok-push.ensures.ok)
 
-pub turn-requires-clause-to : goal.turn-requires-clause-to
-turn-requires-clause-to g c = omega (arith, c.requires.state.roots.size, c.requires.sound.leads c.args.node c.args.i c.in-Some.field-0-0 c.in-Some.to c.requires.node c.requires.index (sym c.at.ensures ∙ c.in-Some.is))
-
-pub turn-requires-clause-price : goal.turn-requires-clause-price
-turn-requires-clause-price g c =
-    let room = price_room (g.M.Moves.graph c.args.self.now.m.now) c.args.self.now.starts.now c.args.self.now.goals.now (g.B.Bound.low_of c.args.self.now.b.now) c.requires.sound c.requires.bound _ _ _ _ _ _ c.requires.state c.args.node c.args.label c.requires.there c.requires.is_done in
-    omega (arith, room, c.requires.sound.small_price c.args.node c.args.i c.price.result c.requires.node c.requires.index c.price.ensures)
-
-pub turn-requires-clause-node : goal.turn-requires-clause-node
-turn-requires-clause-node g c = omega (arith, c.requires.node, c.requires.sound.nodes)
-
-pub turn-requires-clause-origins : goal.turn-requires-clause-origins
-turn-requires-clause-origins g c = λ l h. origin_within (g.M.Moves.graph c.args.self.now.m.now) c.args.self.now.starts.now c.args.table.now c.in-Some.to l.price l.rank l.origin (c.requires.state.roots.comes c.in-Some.to l h)
-
-pub returns-then-not-improves-clause-there : goal.returns-then-not-improves-clause-there
-returns-then-not-improves-clause-there g c =
-    let worse : improves_on (c.args.label.price + c.price.result) (label_at c.args.table.now c.in-Some.to) ≡ false = subst (λ (o : Option Label). improves_on (c.args.label.price + c.price.result) o ≡ false) c.get.ensures (sym c.if-not-improves.ensures) in
-    (turned_or_kept (g.M.Moves.graph c.args.self.now.m.now) c.args.self.now.starts.now c.args.self.now.goals.now (g.B.Bound.low_of c.args.self.now.b.now) c.requires.sound c.requires.bound
-    c.args.table.now c.args.front.now (c.args.label.price + g.B.Bound.low_of c.args.self.now.b.now c.args.node) c.args.label.rank c.args.node c.args.i c.args.label c.requires.state c.requires.there c.requires.is_done
+pub returns-clause-kept : goal.returns-clause-kept
+returns-clause-kept g c =
+    let l : Label = record { price = c.args.label.price + c.price.result; rank = 0; origin = Some c.args.node } in
+    let better : improves_on l.price (label_at c.args.table.now c.in-Some.to) ≡ true = subst (λ (o : Option Label). improves_on (c.args.label.price + c.price.result) o ≡ true) c.get.ensures (sym c.if-not-improves.ensures) in
+    relabel_keeps (g.M.Moves.graph c.args.self.now.m.now) c.args.self.now.starts.now c.args.self.now.goals.now (g.B.Bound.low_of c.args.self.now.b.now) c.requires.sound c.requires.bound
+    c.args.table.now c.args.front.now (c.args.label.price + g.B.Bound.low_of c.args.self.now.b.now c.args.node) c.args.label.rank c.args.node c.args.i c.args.label c.requires.state c.requires.there c.requires.is_done refl
     c.in-Some.field-0-0 c.in-Some.to c.price.result (record { listed = c.requires.index; leads = sym c.at.ensures ∙ c.in-Some.is; is_open = c.if-not-is_open.ensures.opens; costs = c.price.ensures })
-    worse c.turn.new.table c.in_ok-turn.ensures.turned).0
+    l refl refl refl (better_from c.args.table.now c.in-Some.to l.price better)
+    c.put.new.self c.in_ok-put.ensures.ok
 
 pub returns-then-not-improves-clause-state : goal.returns-then-not-improves-clause-state
 returns-then-not-improves-clause-state g c =
     let worse : improves_on (c.args.label.price + c.price.result) (label_at c.args.table.now c.in-Some.to) ≡ false = subst (λ (o : Option Label). improves_on (c.args.label.price + c.price.result) o ≡ false) c.get.ensures (sym c.if-not-improves.ensures) in
-    (turned_or_kept (g.M.Moves.graph c.args.self.now.m.now) c.args.self.now.starts.now c.args.self.now.goals.now (g.B.Bound.low_of c.args.self.now.b.now) c.requires.sound c.requires.bound
-    c.args.table.now c.args.front.now (c.args.label.price + g.B.Bound.low_of c.args.self.now.b.now c.args.node) c.args.label.rank c.args.node c.args.i c.args.label c.requires.state c.requires.there c.requires.is_done
-    c.in-Some.field-0-0 c.in-Some.to c.price.result (record { listed = c.requires.index; leads = sym c.at.ensures ∙ c.in-Some.is; is_open = c.if-not-is_open.ensures.opens; costs = c.price.ensures })
-    worse c.turn.new.table c.in_ok-turn.ensures.turned).1
+    unchanged (g.M.Moves.graph c.args.self.now.m.now) c.args.self.now.starts.now c.args.self.now.goals.now (g.B.Bound.low_of c.args.self.now.b.now) c.requires.sound c.requires.bound
+    c.args.table.now c.args.front.now (c.args.label.price + g.B.Bound.low_of c.args.self.now.b.now c.args.node) c.args.label.rank c.args.node c.args.i c.args.label c.requires.state c.requires.there
+    c.in-Some.field-0-0 c.in-Some.to c.price.result (sym c.at.ensures ∙ c.in-Some.is) c.price.ensures (cheap_from c.args.table.now c.in-Some.to (c.args.label.price + c.price.result) worse)
 
 pub put-requires-clause-price : goal.put-requires-clause-price
 put-requires-clause-price g c =

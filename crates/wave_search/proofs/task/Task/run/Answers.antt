@@ -1,8 +1,8 @@
-use Rattle.std.proofs.Common.{ℕ, ◌+◌, arith, sym, ◌∙◌, subst, length}
+use Rattle.std.proofs.Common.{ℕ, ◌+◌, arith, sym, ◌∙◌, subst, length, [], refl}
 use Rattle.std.proofs.lemmas.Bool.{false≢true}
 use Rattle.route_lattice.specs.Walks.{NoneCostsLess}
 use Rattle.wave_search.proofs.Steps.{whole}
-use Rattle.wave_search.proofs.Run.{node_in, node_below, price_small, origin_small, room, comes_now, none_less_now, state_now, falls, closed}
+use Rattle.wave_search.proofs.Run.{node_in, node_below, price_small, origin_small, room, unbound, goalless, none_in, none_less_now, state_now, falls, closed}
 use Rattle.wave_search.proofs.task.Task.run.Goals as goal
 
 pub get-requires : goal.get-requires
@@ -15,15 +15,16 @@ overflow_add-label g c =
 pub has-requires : goal.has-requires
 has-requires g c = let b = node_below c.requires.sound c.requires.bound c.search.invariant.state c.in-Some.ensures in omega (arith, b, c.requires.marks)
 
-pub trace-requires-clause-comes : goal.trace-requires-clause-comes
-trace-requires-clause-comes g c = comes_now c.requires.sound c.requires.bound c.search.invariant.state c.in-Some.ensures (sym c.get.ensures ∙ c.in-Some-get.is) c.if-found-ne0.false
+pub end-requires-clause-there : goal.end-requires-clause-there
+end-requires-clause-there g c = c.in_ok-put.ensures.ok.here
 
-pub trace-requires-clause-small : goal.trace-requires-clause-small
-trace-requires-clause-small g c = price_small c.requires.sound c.search.invariant.state.1
-
-pub trace-requires-clause-goal : goal.trace-requires-clause-goal
-trace-requires-clause-goal g c =
+pub end-requires-clause-goal : goal.end-requires-clause-goal
+end-requires-clause-goal g c =
     let b = node_below c.requires.sound c.requires.bound c.search.invariant.state c.in-Some.ensures in (c.requires.marked c.in-Some.entry.node b).0 (c.has.ensures.0 c.if-has.true)
+
+pub end-requires-clause-state : goal.end-requires-clause-state
+end-requires-clause-state g c = state_now c.requires.sound (unbound [] refl c.requires.bound) (c.search.invariant.state.0, goalless [] refl c.search.invariant.state.1) c.in-Some.ensures (sym c.get.ensures ∙ c.in-Some-get.is) c.if-found-ne0.false
+    (none_in [] refl c.in-Some.entry.node) c.put.new.self c.in_ok-put.ensures.ok
 
 pub returns-then-has-clause-answers : goal.returns-then-has-clause-answers
 returns-then-has-clause-answers g c =

@@ -1,0 +1,152 @@
+//! The library of a design: the padstacks and the images of all its sections together.
+//! Source: SPECCTRA reference, library descriptor. Names may be defined after their use.
+
+ghost use Rattle.std.specs.Prelude.{◌≡◌, IfOk, OnOk};
+ghost use Rattle.dsn_shapes.specs.Lists.{capped};
+ghost use Rattle.dsn_shapes.specs.Refusals.{Reads, noted};
+ghost use Rattle.dsn_shapes.specs.Within.{IsLibraryWithin};
+ghost use Rattle.dsn_library.specs.Images.{keepouts_in};
+ghost use Rattle.dsn_library.specs.Padstacks.{shapes_in};
+ghost use Rattle.dsn_library.specs.Sound.{IsLibrarySound};
+ghost use Rattle.dsn_library.specs.Whole.{forms_passed, images, libraries, library_left_out, library_notes, library_of, library_refusals, padstacks, parts_left_out, parts_passed, sections_left_out, sections_passed};
+
+use crate::image::{keepouts_in, read_images};
+use crate::padstack::read_stacks;
+use dsn_shapes::{
+    Layer, Library, NameIndex, ReadFault, Refusal, Trees, ban_notes, pass_over, shape_notes,
+};
+use dsn_tree::Tree;
+use dsn_units::Scale;
+use geo_kernel::List;
+use std::alloc::{AllocError, Global};
+
+// The sections of a library, and the padstacks and images in them.
+#[derive(Drop)]
+struct Sections<'a> {
+    libraries: Trees<'a>,
+    padstacks: Trees<'a>,
+    images: Trees<'a>,
+}
+
+fn sections_of<'a>(alloc: Global, pcb: &'a Tree) -> Result<Sections<'a>, AllocError>
+    ensures libraries { IfOk result (λ s. s.libraries ≡ libraries pcb.now) }
+    ensures padstacks { IfOk result (λ s. s.padstacks ≡ padstacks pcb.now) }
+    ensures images { IfOk result (λ s. s.images ≡ images pcb.now) }
+{
+    let libraries = Trees::one(alloc, pcb)?.lists(alloc, &[b"library".as_slice()])?;
+    let padstacks = libraries.lists(alloc, &[b"padstack".as_slice()])?;
+    let images = libraries.lists(alloc, &[b"image".as_slice()])?;
+    Ok(Sections {
+        libraries,
+        padstacks,
+        images,
+    })
+}
+
+// Passes over what stands directly in the sections and the images.
+#[tactic(auto, unfolding(crate::specs::Whole::sections_left_out, crate::specs::Whole::sections_passed))]
+fn pass_over_sections(first: &mut Option<Refusal>, libraries: &Trees, images: &Trees) -> u64
+    ensures noted { first.new ≡ noted first.old (sections_left_out libraries.now images.now) }
+    ensures value { result ≡ capped (sections_passed libraries.now images.now) }
+{
+    let in_libraries = pass_over(first, libraries, &[b"image".as_slice(), b"padstack"]);
+    let in_images = pass_over(
+        first,
+        images,
+        &[
+            b"pin".as_slice(),
+            b"keepout",
+            b"via_keepout",
+            b"wire_keepout",
+            b"outline",
+        ],
+    );
+    in_libraries.saturating_add(in_images)
+}
+
+// Passes over what stands directly in the pins and the padstacks.
+#[tactic(auto, unfolding(crate::specs::Whole::parts_left_out, crate::specs::Whole::parts_passed))]
+fn pass_over_parts(first: &mut Option<Refusal>, pins: &Trees, padstacks: &Trees) -> u64
+    ensures noted { first.new ≡ noted first.old (parts_left_out pins.now padstacks.now) }
+    ensures value { result ≡ capped (parts_passed pins.now padstacks.now) }
+{
+    let in_pins = pass_over(first, pins, &[b"rotate".as_slice()]);
+    let in_padstacks = pass_over(first, padstacks, &[b"shape".as_slice(), b"attach"]);
+    in_pins.saturating_add(in_padstacks)
+}
+
+// How many lists stand beside the forms of shapes and keepouts.
+#[tactic(auto, unfolding(crate::specs::Whole::forms_passed))]
+fn forms_passed(alloc: Global, padstacks: &Trees, images: &Trees) -> Result<u64, AllocError>
+    ensures { IfOk result (λ n. n ≡ capped (forms_passed (shapes_in padstacks.now) (keepouts_in images.now))) }
+{
+    let shapes = padstacks.lists(alloc, &[b"shape".as_slice()])?;
+    let keepouts = keepouts_in(alloc, images)?;
+    Ok(shape_notes(&shapes).saturating_add(ban_notes(&keepouts)))
+}
+
+#[tactic(auto, unfolding(crate::specs::Whole::library_left_out, crate::specs::Whole::library_notes))]
+fn pass_over_library(
+    alloc: Global,
+    first: &mut Option<Refusal>,
+    parts: &Sections,
+) -> Result<u64, AllocError>
+    ensures noted { OnOk result (first.new ≡ noted first.old (library_left_out parts.now.libraries parts.now.images parts.now.padstacks)) }
+    ensures value { IfOk result (λ n. n ≡ capped (library_notes parts.now.libraries parts.now.images parts.now.padstacks)) }
+{
+    let pins = parts.images.lists(alloc, &[b"pin".as_slice()])?;
+    let in_sections = pass_over_sections(first, &parts.libraries, &parts.images);
+    let in_parts = pass_over_parts(first, &pins, &parts.padstacks);
+    let beside = forms_passed(alloc, &parts.padstacks, &parts.images)?;
+    Ok(in_sections.saturating_add(in_parts).saturating_add(beside))
+}
+
+fn note_library(
+    alloc: Global,
+    first: &mut Option<Refusal>,
+    pcb: &Tree,
+    s: Scale,
+    layers: &List<Layer>,
+) -> Result<Library, AllocError>
+    ensures noted { OnOk result (first.new ≡ noted first.old (library_refusals s.nm layers.now pcb.now)) }
+    ensures value { IfOk result (λ v. v ≡ library_of s.nm layers.now pcb.now) }
+{
+    let parts = sections_of(alloc, pcb)?;
+    let notes = pass_over_library(alloc, first, &parts)?;
+    let names = NameIndex::new(alloc, &parts.padstacks, 1)?;
+    let stacks = read_stacks(alloc, first, &parts.padstacks, &names, s, layers)?;
+    let images = read_images(alloc, first, &parts.images, &names, s, layers)?;
+    Ok(Library {
+        stacks,
+        images,
+        notes,
+    })
+}
+
+/// The padstacks and images of all `library` sections of a design together.
+/// Lengths are in nm; a pin's padstack and its layers are indices that count from 0.
+///
+/// # Errors
+///
+/// The first of the refusals 9, 10, 12, 13, 14, 21, 22 and 23 (vertices of a shape) in these sections,
+/// or want of memory.
+pub fn read_library(
+    alloc: Global,
+    pcb: &Tree,
+    s: Scale,
+    layers: &List<Layer>,
+) -> Result<Library, ReadFault>
+    ensures reads { Reads (library_refusals s.nm layers.now pcb.now) (λ v. v ≡ library_of s.nm layers.now pcb.now) result }
+    ensures within { IfOk result IsLibraryWithin }
+    ensures sound { IfOk result IsLibrarySound }
+{
+    let mut first = None;
+    let library = match note_library(alloc, &mut first, pcb, s, layers) {
+        Ok(library) => library,
+        Err(error) => return Err(ReadFault::Memory(error)),
+    };
+    match first {
+        Some(refusal) => Err(ReadFault::Refused(refusal)),
+        None => Ok(library),
+    }
+}

@@ -1,0 +1,4 @@
+pub mod Fitting
+pub mod Owning
+pub mod Naming
+pub mod Sound

@@ -1,0 +1,192 @@
+//! The network of a design: the nets and the classes of all its sections together.
+//! Source: SPECCTRA reference, network descriptor. Classes may name nets that stand behind them.
+
+ghost use Rattle.std.specs.Prelude.{◌≡◌, map, IfOk, OnOk};
+ghost use Rattle.std.specs.List.{flat_map};
+ghost use Rattle.dsn_shapes.specs.Lists.{capped};
+ghost use Rattle.dsn_shapes.specs.Names.{names_at};
+ghost use Rattle.dsn_shapes.specs.Refusals.{Reads, noted};
+ghost use Rattle.dsn_network.specs.Classes.{class_refusals, read_class_of, stack_names};
+ghost use Rattle.dsn_network.specs.Nets.{net_of, nets_refusals};
+ghost use Rattle.dsn_network.specs.Sound.{HasFewPlaces, IsNetworkSound};
+ghost use Rattle.dsn_network.specs.Whole.{class_lists, classes_left_out, classes_passed, net_lists, nets_left_out, nets_passed, network_left_out, network_of, network_passed, network_refusals, networks, refusals_of, rules_passed, value_of};
+
+use crate::class::{Classes, read_classes};
+use crate::classes::{ClassIndex, stray_names};
+use crate::named::names_of;
+use crate::net::{Nets, read_nets};
+use crate::pins::PinIndex;
+use dsn_shapes::{Library, NameIndex, Network, Placing, ReadFault, Refusal, Trees, pass_over};
+use dsn_tree::Tree;
+use dsn_units::Scale;
+use std::alloc::{AllocError, Global};
+
+// The sections of a network, and the nets and classes in them.
+#[derive(Drop)]
+struct Sections<'a> {
+    networks: Trees<'a>,
+    nets: Trees<'a>,
+    classes: Trees<'a>,
+}
+
+fn sections_of<'a>(alloc: Global, pcb: &'a Tree) -> Result<Sections<'a>, AllocError>
+    ensures networks { IfOk result (λ s. s.networks ≡ networks pcb.now) }
+    ensures nets { IfOk result (λ s. s.nets ≡ net_lists pcb.now) }
+    ensures classes { IfOk result (λ s. s.classes ≡ class_lists pcb.now) }
+{
+    let networks = Trees::in_list(alloc, pcb, b"network")?;
+    let nets = networks.headed(alloc, b"net")?;
+    let classes = networks.headed(alloc, b"class")?;
+    Ok(Sections {
+        networks,
+        nets,
+        classes,
+    })
+}
+
+// Passes over what stands directly in the sections and the nets.
+#[tactic(auto, unfolding(crate::specs::Whole::nets_left_out, crate::specs::Whole::nets_passed))]
+fn pass_over_nets(first: &mut Option<Refusal>, sections: &Trees, nets: &Trees) -> u64
+    ensures noted { first.new ≡ noted first.old (nets_left_out sections.now nets.now) }
+    ensures value { result ≡ capped (nets_passed sections.now nets.now) }
+{
+    let in_sections = pass_over(first, sections, &[b"net".as_slice(), b"class"]);
+    let in_nets = pass_over(first, nets, &[b"pins".as_slice(), b"rule"]);
+    in_sections.saturating_add(in_nets)
+}
+
+// Passes over what stands directly in the classes and their circuits.
+#[tactic(auto, unfolding(crate::specs::Whole::classes_left_out, crate::specs::Whole::classes_passed))]
+fn pass_over_classes(
+    alloc: Global,
+    first: &mut Option<Refusal>,
+    classes: &Trees,
+) -> Result<u64, AllocError>
+    ensures noted { OnOk result (first.new ≡ noted first.old (classes_left_out classes.now)) }
+    ensures value { IfOk result (λ n. n ≡ capped (classes_passed classes.now)) }
+{
+    let circuits = classes.headed(alloc, b"circuit")?;
+    let heads = [b"circuit".as_slice(), b"rule", b"use_via"];
+    let in_classes = pass_over(first, classes, &heads);
+    let in_circuits = pass_over(first, &circuits, &heads);
+    Ok(in_classes.saturating_add(in_circuits))
+}
+
+// Passes over what stands beside the parts; `names` are those of the nets.
+#[tactic(auto, unfolding(crate::specs::Whole::network_left_out, crate::specs::Whole::network_passed))]
+fn pass_over_network(
+    alloc: Global,
+    first: &mut Option<Refusal>,
+    parts: &Sections,
+    names: &NameIndex,
+) -> Result<u64, AllocError>
+    requires { names.now ≡ names_at 1 parts.now.nets }
+    ensures noted { OnOk result (first.new ≡ noted first.old (network_left_out parts.now.networks parts.now.nets parts.now.classes)) }
+    ensures value { IfOk result (λ n. n ≡ capped (network_passed parts.now.networks parts.now.nets parts.now.classes)) }
+{
+    let in_nets = pass_over_nets(first, &parts.networks, &parts.nets);
+    let in_classes = pass_over_classes(alloc, first, &parts.classes)?;
+    let strays = stray_names(alloc, names, &parts.classes)?;
+    Ok(in_nets.saturating_add(in_classes.saturating_add(strays)))
+}
+
+fn nets_of(
+    alloc: Global,
+    first: &mut Option<Refusal>,
+    parts: &Sections,
+    names: &NameIndex,
+    scale: Scale,
+    lib: &Library,
+    placing: &Placing,
+) -> Result<Nets, AllocError>
+    requires { names.now ≡ names_at 1 parts.now.nets }
+    ensures noted { OnOk result (first.new ≡ noted first.old (nets_refusals scale.nm lib.now placing.now parts.now.nets)) }
+    ensures nets { IfOk result (λ v. v.nets ≡ map (net_of scale.nm lib.now placing.now parts.now.classes) parts.now.nets) }
+    ensures notes { IfOk result (λ v. v.notes ≡ capped (rules_passed parts.now.nets)) }
+{
+    let pins = PinIndex::of(alloc, lib, placing)?;
+    let index = ClassIndex::of(alloc, &parts.classes)?;
+    read_nets(alloc, first, &parts.nets, names, scale, &pins, &index)
+}
+
+fn classes_of(
+    alloc: Global,
+    first: &mut Option<Refusal>,
+    lists: &Trees,
+    scale: Scale,
+    lib: &Library,
+) -> Result<Classes, AllocError>
+    ensures noted { OnOk result (first.new ≡ noted first.old (flat_map (class_refusals scale.nm (stack_names lib.now.stacks)) lists.now)) }
+    ensures classes { IfOk result (λ v. v.classes ≡ map (read_class_of scale.nm (stack_names lib.now.stacks)) lists.now) }
+    ensures notes { IfOk result (λ v. v.notes ≡ capped (rules_passed lists.now)) }
+{
+    let stacks = names_of(alloc, lib.stacks.as_slice())?;
+    read_classes(alloc, first, lists, &stacks, scale)
+}
+
+#[tactic(auto, unfolding(crate::specs::Whole::refusals_of, crate::specs::Whole::value_of))]
+fn read_sections(
+    alloc: Global,
+    first: &mut Option<Refusal>,
+    parts: &Sections,
+    scale: Scale,
+    lib: &Library,
+    placing: &Placing,
+) -> Result<Network, AllocError>
+    ensures noted { OnOk result (first.new ≡ noted first.old (refusals_of scale.nm lib.now placing.now parts.now.networks parts.now.nets parts.now.classes)) }
+    ensures value { IfOk result (λ v. v ≡ value_of scale.nm lib.now placing.now parts.now.networks parts.now.nets parts.now.classes) }
+{
+    let names = NameIndex::new(alloc, &parts.nets, 1)?;
+    let beside = pass_over_network(alloc, first, parts, &names)?;
+    let nets = nets_of(alloc, first, parts, &names, scale, lib, placing)?;
+    let classes = classes_of(alloc, first, &parts.classes, scale, lib)?;
+    let in_rules = nets.notes.saturating_add(classes.notes);
+    Ok(Network {
+        nets: nets.nets,
+        classes: classes.classes,
+        notes: beside.saturating_add(in_rules),
+    })
+}
+
+fn note_network(
+    alloc: Global,
+    first: &mut Option<Refusal>,
+    pcb: &Tree,
+    scale: Scale,
+    lib: &Library,
+    placing: &Placing,
+) -> Result<Network, AllocError>
+    ensures noted { OnOk result (first.new ≡ noted first.old (network_refusals scale.nm lib.now placing.now pcb.now)) }
+    ensures value { IfOk result (λ v. v ≡ network_of scale.nm lib.now placing.now pcb.now) }
+{
+    let parts = sections_of(alloc, pcb)?;
+    read_sections(alloc, first, &parts, scale, lib, placing)
+}
+
+/// The nets and classes of all `network` sections of a design together.
+/// Lengths are in nm; components, pins, padstacks and classes are indices that count from 0.
+///
+/// # Errors
+///
+/// The first of the refusals 9, 10, 13, 14, 16, 17, 18, 19, 21 and 23 (nets) in these sections,
+/// or want of memory.
+pub fn read_network(
+    alloc: Global,
+    pcb: &Tree,
+    s: Scale,
+    lib: &Library,
+    placing: &Placing,
+) -> Result<Network, ReadFault>
+    ensures reads { Reads (network_refusals s.nm lib.now placing.now pcb.now) (λ v. v ≡ network_of s.nm lib.now placing.now pcb.now) result }
+    ensures sound { HasFewPlaces placing.now → IfOk result (IsNetworkSound lib.now placing.now) }
+{
+    let mut first = None;
+    let network = match note_network(alloc, &mut first, pcb, s, lib, placing) {
+        Ok(network) => network,
+        Err(error) => return Err(ReadFault::Memory(error)),
+    };
+    match first {
+        Some(refusal) => Err(ReadFault::Refused(refusal)),
+        None => Ok(network),
+    }
+}

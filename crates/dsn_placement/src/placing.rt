@@ -1,0 +1,207 @@
+//! The placement of a design: the components of all its sections together.
+//! Source: SPECCTRA reference, placement descriptor. Names may be defined after their use.
+
+ghost use Rattle.std.specs.Prelude.{◌≡◌, ◌∷◌, ◌+◌, ◌<◌, [], IfOk, OnOk, length, map};
+ghost use Rattle.dsn_shapes.specs.Lists.{capped, heads_of};
+ghost use Rattle.dsn_shapes.specs.Refusals.{Reads, noted};
+ghost use Rattle.dsn_shapes.specs.Within.{IsLibraryWithin};
+ghost use Rattle.dsn_placement.specs.declared.place.Laid.{Laid as TheLaid};
+ghost use Rattle.dsn_shapes.specs.declared.parts.Image.{Image as TheImage};
+ghost use Rattle.std.specs.List.{flat_map};
+ghost use Rattle.dsn_placement.specs.Places.{component_laid, component_refusals, image_names, places_in};
+ghost use Rattle.dsn_placement.specs.Placing.{adds, all_laid, components, items_before, limit_refusals, lists_left_out, lists_passed, past_limit, placement_refusals, placements, placing_of};
+ghost use Rattle.dsn_placement.specs.Sound.{HasFewImages, IsPlacingSound};
+
+use crate::place::{Around, Laid, read_components};
+use dsn_shapes::{
+    Image, Library, NameIndex, Place, Placing, ReadFault, Refusal, Structure, Trees, What, note,
+    pass_over,
+};
+use dsn_tree::Tree;
+use dsn_units::Scale;
+use geo_kernel::List;
+use std::alloc::{AllocError, Global};
+
+// The sections of a placement, the component lists in them, and the components in these.
+#[derive(Drop)]
+struct Sections<'a> {
+    placements: Trees<'a>,
+    components: Trees<'a>,
+    places: Trees<'a>,
+}
+
+fn sections_of<'a>(alloc: Global, pcb: &'a Tree) -> Result<Sections<'a>, AllocError>
+    ensures placements { IfOk result (λ s. s.placements ≡ placements pcb.now) }
+    ensures components { IfOk result (λ s. s.components ≡ components pcb.now) }
+    ensures places { IfOk result (λ s. s.places ≡ places_in (components pcb.now)) }
+{
+    let placements = Trees::in_list(alloc, pcb, b"placement")?;
+    let components = placements.headed(alloc, b"component")?;
+    let places = components.headed(alloc, b"place")?;
+    Ok(Sections {
+        placements,
+        components,
+        places,
+    })
+}
+
+// Passes over what stands directly in the sections, the component lists and the components.
+#[tactic(auto, unfolding(crate::specs::Placing::lists_left_out, crate::specs::Placing::lists_passed))]
+fn pass_over_lists(first: &mut Option<Refusal>, parts: &Sections) -> u64
+    ensures noted { first.new ≡ noted first.old (lists_left_out parts.now.placements parts.now.components parts.now.places) }
+    ensures value { result ≡ capped (lists_passed parts.now.placements parts.now.components parts.now.places) }
+{
+    let placement_heads: [&[u8]; 2] = [b"component", b"place_control"];
+    let component_heads: [&[u8]; 2] = [b"place", b"PN"];
+    let beside = pass_over(first, &parts.placements, &placement_heads);
+    let in_components = pass_over(first, &parts.components, &component_heads);
+    let in_places = pass_over(first, &parts.places, &component_heads);
+    beside.saturating_add(in_components.saturating_add(in_places))
+}
+
+fn names_of<'a>(alloc: Global, images: &'a [Image]) -> Result<Vec<&'a [u8]>, AllocError>
+    ensures { IfOk result (λ ns. heads_of ns.items ≡ map (λ (i : TheImage). i.name) images.now) }
+{
+    let mut names = Vec::new(alloc);
+    for image in images {
+        names.push(image.name.as_slice())?;
+    }
+    Ok(names)
+}
+
+fn adds(what: What, laid: &Laid) -> u64
+    ensures { result ≡ adds what laid.now }
+{
+    match what {
+        What::Pins => laid.pins,
+        What::Items => laid.items,
+        _ => 0,
+    }
+}
+
+// Refuses the component with which a count first passes its limit.
+fn refuse_past(first: &mut Option<Refusal>, what: What, limit: u64, before: u64, laid: &[Laid])
+    requires { limit < 4000000000 }
+    ensures { first.new ≡ noted first.old (past_limit what limit before laid.now) }
+{
+    let mut count = before;
+    for component in laid {
+        count = count.saturating_add(adds(what, component));
+        if count > limit {
+            note(
+                first,
+                Refusal {
+                    number: 23,
+                    at: component.at,
+                    what,
+                    limit,
+                },
+            );
+            return;
+        }
+    }
+}
+
+#[tactic(auto, unfolding(crate::specs::Placing::limit_refusals))]
+fn refuse_many(first: &mut Option<Refusal>, before: u64, laid: &[Laid])
+    ensures { first.new ≡ noted first.old (limit_refusals before laid.now) }
+{
+    refuse_past(first, What::Pins, 262_144, 0, laid);
+    refuse_past(first, What::Items, 1_048_576, before, laid);
+}
+
+fn items_before(st: &Structure) -> u64
+    ensures { result ≡ items_before st.now }
+{
+    (st.bounds.len() as u64).saturating_add(st.bans.len() as u64)
+}
+
+// All components, of the images of the library.
+#[tactic(auto, unfolding(crate::specs::Placing::all_laid))]
+fn read_laid(
+    alloc: Global,
+    first: &mut Option<Refusal>,
+    components: &Trees,
+    around: Around,
+) -> Result<List<Laid>, AllocError>
+    requires { IsLibraryWithin around.library.now }
+    ensures noted { OnOk result (first.new ≡ noted first.old (flat_map (component_refusals around.entry.scale.nm around.entry.flip_last around.entry.library.now) components.now)) }
+    ensures value { IfOk result (λ ls. ls ≡ flat_map (component_laid around.entry.scale.nm around.entry.flip_last around.entry.library.now) components.now) }
+{
+    let names = NameIndex::of(alloc, names_of(alloc, around.library.images.as_slice())?)?;
+    read_components(alloc, first, components.as_slice(), around, &names)
+}
+
+fn places_of(alloc: Global, laid: List<Laid>) -> Result<List<Place>, AllocError>
+    ensures { IfOk result (λ ps. ps ≡ map (λ (l : TheLaid). l.place) laid) }
+{
+    let mut places = List::new(alloc);
+    for component in laid.into_vec() {
+        let Laid {
+            place,
+            at: _,
+            pins: _,
+            items: _,
+        } = component;
+        places.push(place)?;
+    }
+    Ok(places)
+}
+
+#[tactic(auto, unfolding(crate::specs::Placing::all_laid, dsn_shapes::specs::Names::same_names))]
+fn note_placement(
+    alloc: Global,
+    first: &mut Option<Refusal>,
+    pcb: &Tree,
+    s: Scale,
+    st: &Structure,
+    lib: &Library,
+) -> Result<Placing, AllocError>
+    requires { IsLibraryWithin lib.now }
+    ensures noted { OnOk result (first.new ≡ noted first.old (placement_refusals s.nm st.now lib.now pcb.now)) }
+    ensures value { IfOk result (λ v. v ≡ placing_of s.nm st.now lib.now pcb.now) }
+{
+    let parts = sections_of(alloc, pcb)?;
+    let notes = pass_over_lists(first, &parts);
+    let names = NameIndex::new(alloc, &parts.places, 1)?;
+    names.refuse_same(first, &parts.places, 1);
+    let around = Around {
+        scale: s,
+        flip_last: st.flip_last,
+        library: lib,
+    };
+    let laid = read_laid(alloc, first, &parts.components, around)?;
+    refuse_many(first, items_before(st), laid.as_slice());
+    let places = places_of(alloc, laid)?;
+    Ok(Placing { places, notes })
+}
+
+/// The components of all `placement` sections of a design together, of the images of `lib`.
+/// Lengths are in nm; a component's image is an index that counts from 0.
+/// A component without coordinates isn't placed.
+///
+/// # Errors
+///
+/// The first of the refusals 9, 10, 13, 15, 21, 22 and 23 (placed pins; items) in these sections,
+/// or want of memory.
+pub fn read_placement(
+    alloc: Global,
+    pcb: &Tree,
+    s: Scale,
+    st: &Structure,
+    lib: &Library,
+) -> Result<Placing, ReadFault>
+    requires { IsLibraryWithin lib.now }
+    ensures reads { Reads (placement_refusals s.nm st.now lib.now pcb.now) (λ v. v ≡ placing_of s.nm st.now lib.now pcb.now) result }
+    ensures sound { HasFewImages lib.now → IfOk result (IsPlacingSound st.now lib.now) }
+{
+    let mut first = None;
+    let placing = match note_placement(alloc, &mut first, pcb, s, st, lib) {
+        Ok(placing) => placing,
+        Err(error) => return Err(ReadFault::Memory(error)),
+    };
+    match first {
+        Some(refusal) => Err(ReadFault::Refused(refusal)),
+        None => Ok(placing),
+    }
+}

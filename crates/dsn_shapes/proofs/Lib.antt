@@ -1,0 +1,4 @@
+pub mod Again
+pub mod Within
+pub mod Fits
+pub mod Few

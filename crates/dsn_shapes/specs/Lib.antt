@@ -1,0 +1,12 @@
+pub mod Refusals
+pub mod Lists
+pub mod Numbers
+pub mod Angles
+pub mod Layers
+pub mod Forms
+pub mod Shapes
+pub mod Names
+pub mod Index
+pub mod Rules
+pub mod Within
+pub mod Fits

@@ -1,0 +1,276 @@
+//! Rule sets of a structure, a class or a net: widths and clearances in nm.
+//! Source: SPECCTRA reference, rule, width and clearance descriptors.
+
+ghost use Rattle.std.specs.Prelude.{◌==◌, ◌<◌, length, position, IfSome, ◌≡◌, ◌++◌, ◌∷◌, [], map, codes, count_by, IfOk, OnOk, None, if◌then◌else◌};
+ghost use Rattle.std.specs.List.{flat_map};
+ghost use Rattle.std.specs.Option.{option_map_or};
+ghost use Rattle.std.specs.Str.{str_eq_ignore_ascii_case};
+ghost use Rattle.dsn_shapes.specs.Lists.{capped, left_out_in, nth_word, trees_of};
+ghost use Rattle.dsn_shapes.specs.Numbers.{extent_at, extent_refusal, word_extent};
+ghost use Rattle.dsn_shapes.specs.Refusals.{noted};
+ghost use Rattle.dsn_shapes.specs.Rules.{both, clearances_in, is_plain, is_unknown, is_zero, kind_of, last_of, pair_of, pairing_of, plain_at, notes_with, rule_notes, rule_refusals, rule_set, rules_left_out, set_of, set_refusals, split_pair, typed_at, typed_by, width_refusals, widths_in, zero_width};
+
+use crate::lists::{name_of, nth_word, place_of};
+use crate::numbers::{extent_at, peek_extent};
+use crate::refusal::{Refusal, note, refused};
+use crate::trees::{Trees, pass_over};
+use dsn_tree::{Tree, child};
+use dsn_units::Scale;
+use geo_kernel::List;
+use pcb_model::{Kind, RuleSet, Typed};
+use std::alloc::{AllocError, Global};
+
+/// Which pairs of kinds a clearance is for.
+#[derive(Clone, Copy, Debug, PartialEq, Eq)]
+pub(crate) enum Pairing {
+    Plain,
+    Unknown,
+    Known(Kind, Option<Kind>),
+}
+
+fn kind_of(text: &[u8]) -> Option<Kind>
+    ensures { result ≡ kind_of text.now }
+{
+    if text.eq_ignore_ascii_case(b"wire") {
+        Some(Kind::Wire)
+    } else if text.eq_ignore_ascii_case(b"via") {
+        Some(Kind::Via)
+    } else if text.eq_ignore_ascii_case(b"pin") {
+        Some(Kind::Pin)
+    } else if text.eq_ignore_ascii_case(b"smd") {
+        Some(Kind::Smd)
+    } else if text.eq_ignore_ascii_case(b"area") {
+        Some(Kind::Area)
+    } else {
+        None
+    }
+}
+
+fn both(a: Option<Kind>, b: Option<Kind>) -> Pairing
+    ensures { result ≡ both a b }
+{
+    match (a, b) {
+        (Some(a), Some(b)) => Pairing::Known(a, Some(b)),
+        _ => Pairing::Unknown,
+    }
+}
+
+fn underscore(text: &[u8]) -> Option<usize>
+    ensures value { result ≡ position (λ b. b == 95) text.now }
+    ensures within { IfSome result (λ i. i < length text.now) }
+{
+    text.iter().position(|b| *b == b'_')
+}
+
+fn split_pair(text: &[u8], at: Option<usize>) -> Pairing
+    requires { IfSome at (λ i. i < length text.now) }
+    ensures { result ≡ split_pair text.now at }
+{
+    match at {
+        None => Pairing::Unknown,
+        Some(i) => {
+            let (front, _) = text.split_at(i);
+            let (_, back) = text.split_at(i + 1);
+            both(kind_of(front), kind_of(back))
+        }
+    }
+}
+
+fn pair_of(text: &[u8]) -> Pairing
+    ensures { result ≡ pair_of text.now }
+{
+    if text.eq_ignore_ascii_case(b"default_smd") {
+        return Pairing::Known(Kind::Smd, None);
+    }
+    split_pair(text, underscore(text))
+}
+
+#[tactic(auto, unfolding(crate::specs::Rules::pairing_of))]
+fn pairing_of(tree: &Tree) -> Pairing
+    ensures { result ≡ pairing_of tree.now }
+{
+    match child(tree, b"type") {
+        Some(found) => pair_of(name_of(found, 1)),
+        None => Pairing::Plain,
+    }
+}
+
+fn is_plain(pairing: Pairing) -> bool
+    ensures { result ≡ is_plain pairing }
+{
+    match pairing {
+        Pairing::Plain => true,
+        Pairing::Unknown => false,
+        Pairing::Known(_, _) => false,
+    }
+}
+
+fn is_unknown(pairing: Pairing) -> bool
+    ensures { result ≡ is_unknown pairing }
+{
+    match pairing {
+        Pairing::Plain => false,
+        Pairing::Unknown => true,
+        Pairing::Known(_, _) => false,
+    }
+}
+
+fn last_of(values: &[u64]) -> Option<u64>
+    ensures { result ≡ last_of values.now }
+{
+    let n = values.len();
+    values.get(n.saturating_sub(1)).copied()
+}
+
+fn refuse_zero_width(first: &mut Option<Refusal>, tree: &Tree, s: Scale)
+    ensures { first.new ≡ noted first.old (zero_width s.nm tree.now) }
+{
+    if is_zero_width(tree, s) {
+        note(first, refused(9, place_of(tree, 1)));
+    }
+}
+
+fn is_zero_width(tree: &Tree, s: Scale) -> bool
+    ensures { result ≡ is_zero (option_map_or (word_extent s.nm) (nth_word tree.now 1) None) }
+{
+    match nth_word(tree, 1) {
+        Some(word) => is_zero(peek_extent(word, s)),
+        None => false,
+    }
+}
+
+fn is_zero(value: Option<u64>) -> bool
+    ensures { result ≡ is_zero value }
+{
+    match value {
+        Some(n) => n == 0,
+        None => false,
+    }
+}
+
+fn read_widths(
+    alloc: Global,
+    first: &mut Option<Refusal>,
+    trees: &[&Tree],
+    s: Scale,
+) -> Result<List<u64>, AllocError>
+    ensures noted { OnOk result (first.new ≡ noted first.old (flat_map (width_refusals s.nm) (trees_of trees.now))) }
+    ensures value { IfOk result (λ vs. vs ≡ map (λ t. extent_at s.nm t 1) (trees_of trees.now)) }
+{
+    let mut widths = List::new(alloc);
+    for tree in trees {
+        let width = extent_at(first, tree, 1, s);
+        refuse_zero_width(first, tree, s);
+        widths.push(width)?;
+    }
+    Ok(widths)
+}
+
+// The clearances: their values by what they are for.
+#[derive(Drop)]
+struct Clearances {
+    plain: List<u64>,
+    typed: List<Typed>,
+}
+
+fn add_clearance(clearances: &mut Clearances, tree: &Tree, value: u64) -> Result<(), AllocError>
+    ensures plain { OnOk result (clearances.new.plain ≡ clearances.old.plain ++ (if is_plain (pairing_of tree.now) then value ∷ [] else [])) }
+    ensures typed { OnOk result (clearances.new.typed ≡ clearances.old.typed ++ typed_by value (pairing_of tree.now)) }
+{
+    match pairing_of(tree) {
+        Pairing::Plain => clearances.plain.push(value)?,
+        Pairing::Unknown => {}
+        Pairing::Known(a, b) => clearances.typed.push(Typed { a, b, value })?,
+    }
+    Ok(())
+}
+
+fn read_clearances(
+    alloc: Global,
+    first: &mut Option<Refusal>,
+    trees: &[&Tree],
+    s: Scale,
+) -> Result<Clearances, AllocError>
+    ensures noted { OnOk result (first.new ≡ noted first.old (flat_map (λ t. extent_refusal s.nm t 1) (trees_of trees.now))) }
+    ensures plain { IfOk result (λ v. v.plain ≡ flat_map (plain_at s.nm) (trees_of trees.now)) }
+    ensures typed { IfOk result (λ v. v.typed ≡ flat_map (typed_at s.nm) (trees_of trees.now)) }
+{
+    let mut clearances = Clearances {
+        plain: List::new(alloc),
+        typed: List::new(alloc),
+    };
+    for tree in trees {
+        let value = extent_at(first, tree, 1, s);
+        add_clearance(&mut clearances, tree, value)?;
+    }
+    Ok(clearances)
+}
+
+fn unknown_pairings(trees: &[&Tree]) -> u64
+    ensures { result ≡ count_by (λ t. is_unknown (pairing_of t)) (trees_of trees.now) }
+{
+    let mut count = 0;
+    for tree in trees {
+        if is_unknown(pairing_of(tree)) {
+            count += 1;
+        }
+    }
+    count
+}
+
+#[tactic(auto, unfolding(crate::specs::Rules::set_of, crate::specs::Rules::set_refusals))]
+fn read_set(
+    alloc: Global,
+    first: &mut Option<Refusal>,
+    widths: &Trees,
+    clearances: &Trees,
+    s: Scale,
+) -> Result<RuleSet, AllocError>
+    ensures noted { OnOk result (first.new ≡ noted first.old (set_refusals s.nm widths.now clearances.now)) }
+    ensures value { IfOk result (λ v. v ≡ set_of s.nm widths.now clearances.now) }
+{
+    let width = read_widths(alloc, first, widths.as_slice(), s)?;
+    let values = read_clearances(alloc, first, clearances.as_slice(), s)?;
+    Ok(RuleSet {
+        width: last_of(width.as_slice()),
+        plain: last_of(values.plain.as_slice()),
+        typed: values.typed,
+    })
+}
+
+#[tactic(auto, unfolding(crate::specs::Rules::notes_with, crate::specs::Rules::rules_left_out))]
+fn pass_over_rules(first: &mut Option<Refusal>, rules: &Trees, clearances: &Trees) -> u64
+    ensures noted { first.new ≡ noted first.old (rules_left_out rules.now clearances.now) }
+    ensures value { result ≡ capped (notes_with rules.now clearances.now) }
+{
+    let heads = [b"width".as_slice(), b"clearance", b"type"];
+    let beside = pass_over(first, rules, &heads);
+    let inside = pass_over(first, clearances, &heads);
+    let unknown = unknown_pairings(clearances.as_slice());
+    beside.saturating_add(inside).saturating_add(unknown)
+}
+
+/// A rule set, and how many lists in its rules were passed over.
+#[derive(Debug, Drop)]
+pub struct Rules {
+    pub set: RuleSet,
+    pub notes: u64,
+}
+
+/// The rule set of some rules, each a list such as `(rule (width 200) (clearance 200))`.
+pub fn read_rules(
+    alloc: Global,
+    first: &mut Option<Refusal>,
+    rules: &Trees,
+    s: Scale,
+) -> Result<Rules, AllocError>
+    ensures noted { OnOk result (first.new ≡ noted first.old (rule_refusals s.nm rules.now)) }
+    ensures set { IfOk result (λ v. v.set ≡ rule_set s.nm rules.now) }
+    ensures notes { IfOk result (λ v. v.notes ≡ capped (rule_notes rules.now)) }
+{
+    let widths = rules.lists(alloc, &[b"width".as_slice()])?;
+    let clearances = rules.lists(alloc, &[b"clearance".as_slice()])?;
+    let notes = pass_over_rules(first, rules, &clearances);
+    let set = read_set(alloc, first, &widths, &clearances, s)?;
+    Ok(Rules { set, notes })
+}

@@ -1,0 +1,83 @@
+//! The boundaries and keepouts of a structure.
+//! Source: SPECCTRA reference, boundary, keepout and window descriptors.
+
+ghost use Rattle.std.specs.Prelude.{◌≡◌, ◌++◌, map, sum_by, IfOk, OnOk};
+ghost use Rattle.dsn_shapes.specs.Lists.{capped, trees_of};
+ghost use Rattle.dsn_shapes.specs.Refusals.{noted};
+ghost use Rattle.dsn_shapes.specs.Shapes.{ban_notes, ban_of, bound_of};
+ghost use Rattle.dsn_structure.specs.Layout.{area_refusals, keepouts};
+
+use crate::layers::refuse_past;
+use dsn_shapes::{
+    BanShape, Bounds, Keepouts, Layer, LayerShape, Refusal, Trees, What, ban_notes, read_each,
+};
+use dsn_tree::Tree;
+use dsn_units::Scale;
+use geo_kernel::List;
+use std::alloc::{AllocError, Global};
+
+/// The keepouts of the three kinds that stand in the structure.
+pub(crate) fn keepouts<'a>(alloc: Global, structs: &Trees<'a>) -> Result<Trees<'a>, AllocError>
+    ensures { IfOk result (λ ts. ts ≡ keepouts structs.now) }
+{
+    let heads: [&[u8]; 3] = [b"keepout", b"via_keepout", b"wire_keepout"];
+    structs.lists(alloc, &heads)
+}
+
+/// The boundaries and the keepouts, and how many lists the keepouts have beside their forms.
+#[derive(Drop)]
+pub(crate) struct Areas {
+    pub(crate) bounds: List<LayerShape>,
+    pub(crate) bans: List<BanShape>,
+    pub(crate) notes: u64,
+}
+
+// Appends these trees.
+fn push_all<'a>(all: &mut Trees<'a>, trees: &[&'a Tree]) -> Result<(), AllocError>
+    ensures { OnOk result (all.new ≡ all.old ++ trees_of trees.now) }
+{
+    for tree in trees {
+        all.push(tree)?;
+    }
+    Ok(())
+}
+
+// The items of the structure in their order: the boundaries, and then the keepouts.
+fn all_areas<'a>(
+    alloc: Global,
+    bounds: &Trees<'a>,
+    bans: &Trees<'a>,
+) -> Result<Trees<'a>, AllocError>
+    ensures { IfOk result (λ ts. ts ≡ bounds.now ++ bans.now) }
+{
+    let mut all = Trees::new(alloc);
+    push_all(&mut all, bounds.as_slice())?;
+    push_all(&mut all, bans.as_slice())?;
+    Ok(all)
+}
+
+/// Reads the boundaries and the keepouts.
+#[tactic(auto, unfolding(crate::specs::Layout::area_refusals))]
+pub(crate) fn read_areas(
+    alloc: Global,
+    first: &mut Option<Refusal>,
+    bounds: &Trees,
+    bans: &Trees,
+    scale: Scale,
+    layers: &List<Layer>,
+) -> Result<Areas, AllocError>
+    ensures noted { OnOk result (first.new ≡ noted first.old (area_refusals scale.nm layers.now bounds.now bans.now)) }
+    ensures bounds { IfOk result (λ a. a.bounds ≡ map (bound_of scale.nm layers.now) bounds.now) }
+    ensures bans { IfOk result (λ a. a.bans ≡ map (ban_of scale.nm layers.now) bans.now) }
+    ensures notes { IfOk result (λ a. a.notes ≡ capped (sum_by ban_notes bans.now)) }
+{
+    let all = all_areas(alloc, bounds, bans)?;
+    let bound_shapes = read_each(alloc, &Bounds { scale, layers }, first, bounds)?;
+    let ban_shapes = read_each(alloc, &Keepouts { scale, layers }, first, bans)?;
+    refuse_past(first, &all, What::Items, 1_048_576);
+    Ok(Areas {
+        bounds: bound_shapes,
+        bans: ban_shapes,
+        notes: ban_notes(bans),
+    })
+}

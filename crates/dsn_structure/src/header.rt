@@ -1,0 +1,310 @@
+//! What stands before the sections: the design's name, its resolution and unit, and what wrote it.
+//! Source: SPECCTRA reference, pcb, parser, resolution and unit descriptors.
+
+ghost use Rattle.std.specs.Prelude.{◌≡◌, ◌∷◌, [], IfOk, OnOk};
+ghost use Rattle.dsn_shapes.specs.Refusals.{Reads, noted};
+ghost use Rattle.dsn_shapes.specs.Lists.{capped, left_out_in, name_of, notes_in};
+ghost use Rattle.dsn_structure.specs.Header.{count_of, count_refusal, first_of, head_of, head_refusals, header_left_out, header_notes, host_in, host_of, host_refusal, hosts, not_pcb, parser_heads, parsers, pcb_heads, resolution_count, resolution_refusals, resolution_unit, resolutions, scale_of, scale_refusals, some_count, unit_in, unit_of, unit_refusal, units};
+ghost use Rattle.dsn_structure.specs.Sound.{IsHeadSound};
+ghost use Rattle.std.specs.Option.{option_map_or};
+ghost use Rattle.std.specs.Prelude.{codes, unwrap_or};
+
+use dsn_shapes::{
+    Head, ReadFault, Refusal, Trees, at_of, name_of, note, nth_word, pass_over, place_of,
+    refuse_quoted_name, refused, text_of,
+};
+use dsn_tree::{Tree, is_headed, word};
+use dsn_units::{Scale, read_decimal, whole_number};
+use geo_kernel::{List, Name, Unit};
+use std::alloc::{AllocError, Global};
+
+fn refuse_no_pcb(first: &mut Option<Refusal>, pcb: &Tree)
+    ensures { first.new ≡ noted first.old (not_pcb pcb.now) }
+{
+    if !(is_headed(pcb, b"pcb") && word(pcb, 1).is_some()) {
+        note(first, refused(7, at_of(pcb)));
+    }
+}
+
+fn unit_of(text: &[u8]) -> Option<Unit>
+    ensures { result ≡ unit_of text.now }
+{
+    if text.eq_ignore_ascii_case(b"inch") {
+        Some(Unit::Inch)
+    } else if text.eq_ignore_ascii_case(b"mil") {
+        Some(Unit::Mil)
+    } else if text.eq_ignore_ascii_case(b"cm") {
+        Some(Unit::Cm)
+    } else if text.eq_ignore_ascii_case(b"mm") {
+        Some(Unit::Mm)
+    } else if text.eq_ignore_ascii_case(b"um") {
+        Some(Unit::Um)
+    } else {
+        None
+    }
+}
+
+fn unit_in(tree: &Tree) -> Unit
+    ensures { result ≡ unit_in tree.now }
+{
+    match unit_of(name_of(tree, 1)) {
+        Some(unit) => unit,
+        None => Unit::Um,
+    }
+}
+
+fn refuse_unit(first: &mut Option<Refusal>, tree: &Tree)
+    ensures { first.new ≡ noted first.old (unit_refusal tree.now) }
+{
+    if unit_of(name_of(tree, 1)).is_none() {
+        note(first, refused(11, place_of(tree, 1)));
+    }
+}
+
+fn some_count(count: Option<u32>) -> Option<u32>
+    ensures { result ≡ some_count count }
+{
+    match count {
+        Some(n) => { if n == 0 { None } else { Some(n) } }
+        None => None,
+    }
+}
+
+// How many units of a resolution are one of its unit, from 1 to 1,000,000.
+fn count_of(tree: &Tree) -> Option<u32>
+    ensures { result ≡ count_of tree.now }
+{
+    match read_decimal(name_of(tree, 2)) {
+        Some(decimal) => some_count(whole_number(&decimal, 1_000_000)),
+        None => None,
+    }
+}
+
+fn refuse_count(first: &mut Option<Refusal>, tree: &Tree)
+    ensures { first.new ≡ noted first.old (count_refusal tree.now) }
+{
+    if count_of(tree).is_none() {
+        note(first, refused(9, place_of(tree, 2)));
+    }
+}
+
+fn refuse_resolution(first: &mut Option<Refusal>, pcb: &Tree, resolutions: &Trees)
+    ensures { first.new ≡ noted first.old (resolution_refusals pcb.now (first_of resolutions.now)) }
+{
+    match resolutions.get(0) {
+        Some(tree) => {
+            refuse_unit(first, tree);
+            refuse_count(first, tree);
+        }
+        None => note(first, refused(8, at_of(pcb))),
+    }
+}
+
+#[tactic(auto, unfolding(crate::specs::Header::resolution_count))]
+fn per_of(resolutions: &Trees) -> u64
+    ensures { result ≡ resolution_count resolutions.now }
+{
+    match resolutions.get(0) {
+        Some(tree) => match count_of(tree) {
+            Some(count) => count as u64,
+            None => 0,
+        },
+        None => 0,
+    }
+}
+
+fn unit_or(lists: &Trees, other: Unit) -> Unit
+    ensures { result ≡ option_map_or unit_in (first_of lists.now) other }
+{
+    match lists.get(0) {
+        Some(tree) => unit_in(tree),
+        None => other,
+    }
+}
+
+fn refuse_first_unit(first: &mut Option<Refusal>, lists: &Trees)
+    ensures { first.new ≡ noted first.old (option_map_or unit_refusal (first_of lists.now) []) }
+{
+    if let Some(tree) = lists.get(0) {
+        refuse_unit(first, tree);
+    }
+}
+
+// The resolution, and the scale of the design's numbers.
+#[derive(Clone, Copy)]
+struct Resolution {
+    unit: Unit,
+    per: u64,
+    scale: Scale,
+}
+
+#[tactic(auto, unfolding(crate::specs::Header::scale_refusals))]
+fn refuse_scale(first: &mut Option<Refusal>, pcb: &Tree, resolutions: &Trees, units: &Trees)
+    ensures { first.new ≡ noted first.old (scale_refusals pcb.now resolutions.now units.now) }
+{
+    refuse_resolution(first, pcb, resolutions);
+    refuse_first_unit(first, units);
+}
+
+#[tactic(auto, unfolding(crate::specs::Header::resolution_unit))]
+fn resolution_unit(resolutions: &Trees) -> Unit
+    ensures { result ≡ resolution_unit resolutions.now }
+{
+    unit_or(resolutions, Unit::Um)
+}
+
+#[tactic(auto, unfolding(crate::specs::Header::scale_of))]
+fn scale_of(units: &Trees, resolutions: &Trees) -> Scale
+    ensures { result ≡ scale_of units.now resolutions.now }
+{
+    Scale::of(unit_or(units, resolution_unit(resolutions)))
+}
+
+fn read_resolution(
+    alloc: Global,
+    first: &mut Option<Refusal>,
+    pcb: &Tree,
+) -> Result<Resolution, AllocError>
+    ensures noted { OnOk result (first.new ≡ noted first.old (scale_refusals pcb.now (resolutions pcb.now) (units pcb.now))) }
+    ensures unit { IfOk result (λ r. r.unit ≡ resolution_unit (resolutions pcb.now)) }
+    ensures per { IfOk result (λ r. r.per ≡ resolution_count (resolutions pcb.now)) }
+    ensures scale { IfOk result (λ r. r.scale ≡ scale_of (units pcb.now) (resolutions pcb.now)) }
+{
+    let resolutions = Trees::in_list(alloc, pcb, b"resolution")?;
+    let units = Trees::in_list(alloc, pcb, b"unit")?;
+    refuse_scale(first, pcb, &resolutions, &units);
+    Ok(Resolution {
+        unit: resolution_unit(&resolutions),
+        per: per_of(&resolutions),
+        scale: scale_of(&units, &resolutions),
+    })
+}
+
+fn host_in(alloc: Global, tree: &Tree) -> Result<Option<Name>, AllocError>
+    ensures { IfOk result (λ n. n ≡ host_in tree.now) }
+{
+    match nth_word(tree, 1) {
+        Some(word) => Ok(Some(List::from_slice(alloc, text_of(word))?)),
+        None => Ok(None),
+    }
+}
+
+#[tactic(auto, unfolding(crate::specs::Header::host_of, crate::specs::Header::host_refusal))]
+fn first_host(
+    alloc: Global,
+    first: &mut Option<Refusal>,
+    hosts: &Trees,
+) -> Result<Option<Name>, AllocError>
+    ensures noted { OnOk result (first.new ≡ noted first.old (host_refusal hosts.now)) }
+    ensures value { IfOk result (λ n. n ≡ host_of hosts.now) }
+{
+    match hosts.get(0) {
+        Some(tree) => {
+            refuse_quoted_name(first, tree, 1);
+            host_in(alloc, tree)
+        }
+        None => Ok(None),
+    }
+}
+
+// The tool that wrote the design, or its version.
+fn read_host(
+    alloc: Global,
+    first: &mut Option<Refusal>,
+    pcb: &Tree,
+    head: &[u8],
+) -> Result<Option<Name>, AllocError>
+    ensures noted { OnOk result (first.new ≡ noted first.old (host_refusal (hosts head.now pcb.now))) }
+    ensures value { IfOk result (λ n. n ≡ host_of (hosts head.now pcb.now)) }
+{
+    let parsers = Trees::in_list(alloc, pcb, b"parser")?;
+    let hosts = parsers.headed(alloc, head)?;
+    first_host(alloc, first, &hosts)
+}
+
+fn pass_over_pcb(first: &mut Option<Refusal>, whole: &Trees) -> u64
+    ensures noted { first.new ≡ noted first.old (left_out_in whole.now) }
+    ensures value { result ≡ capped (notes_in pcb_heads whole.now) }
+{
+    let heads: [&[u8]; 8] = [
+        b"parser",
+        b"resolution",
+        b"unit",
+        b"structure",
+        b"placement",
+        b"library",
+        b"network",
+        b"wiring",
+    ];
+    pass_over(first, whole, &heads)
+}
+
+fn pass_over_parsers(first: &mut Option<Refusal>, parsers: &Trees) -> u64
+    ensures noted { first.new ≡ noted first.old (left_out_in parsers.now) }
+    ensures value { result ≡ capped (notes_in parser_heads parsers.now) }
+{
+    let heads: [&[u8]; 4] = [
+        b"string_quote",
+        b"host_cad",
+        b"host_version",
+        b"space_in_quoted_tokens",
+    ];
+    pass_over(first, parsers, &heads)
+}
+
+fn pass_over_header(
+    alloc: Global,
+    first: &mut Option<Refusal>,
+    pcb: &Tree,
+) -> Result<u64, AllocError>
+    ensures noted { OnOk result (first.new ≡ noted first.old (header_left_out pcb.now)) }
+    ensures value { IfOk result (λ n. n ≡ header_notes pcb.now) }
+{
+    let whole = Trees::one(alloc, pcb)?;
+    let parsers = Trees::in_list(alloc, pcb, b"parser")?;
+    let beside = pass_over_pcb(first, &whole);
+    let inside = pass_over_parsers(first, &parsers);
+    Ok(beside.saturating_add(inside))
+}
+
+fn note_head(alloc: Global, first: &mut Option<Refusal>, pcb: &Tree) -> Result<Head, AllocError>
+    ensures noted { OnOk result (first.new ≡ noted first.old (head_refusals pcb.now)) }
+    ensures value { IfOk result (λ v. v ≡ head_of pcb.now) }
+{
+    refuse_no_pcb(first, pcb);
+    refuse_quoted_name(first, pcb, 1);
+    let resolution = read_resolution(alloc, first, pcb)?;
+    let host_cad = read_host(alloc, first, pcb, b"host_cad")?;
+    let host_version = read_host(alloc, first, pcb, b"host_version")?;
+    let notes = pass_over_header(alloc, first, pcb)?;
+    let name = List::from_slice(alloc, name_of(pcb, 1))?;
+    Ok(Head {
+        name,
+        unit: resolution.unit,
+        per: resolution.per,
+        scale: resolution.scale,
+        host_cad,
+        host_version,
+        notes,
+    })
+}
+
+/// What stands before the sections of a design.
+///
+/// # Errors
+///
+/// The first of the refusals 7, 8 (no resolution), 9, 11 and 21 outside the sections, or want of memory.
+pub fn read_head(alloc: Global, pcb: &Tree) -> Result<Head, ReadFault>
+    ensures reads { Reads (head_refusals pcb.now) (λ v. v ≡ head_of pcb.now) result }
+    ensures sound { IfOk result IsHeadSound }
+{
+    let mut first = None;
+    let head = match note_head(alloc, &mut first, pcb) {
+        Ok(head) => head,
+        Err(error) => return Err(ReadFault::Memory(error)),
+    };
+    match first {
+        Some(refusal) => Err(ReadFault::Refused(refusal)),
+        None => Ok(head),
+    }
+}

@@ -1,0 +1,82 @@
+//! How many items stand before the wiring: boundaries, keepouts, and the pins and keepouts of placed components.
+//! Together with the wires and vias there may be 1,048,576.
+
+ghost use Rattle.std.specs.Prelude.{◌≡◌, ◌∷◌, sum_by};
+ghost use Rattle.dsn_shapes.specs.Lists.{capped};
+ghost use Rattle.dsn_shapes.specs.Refusals.{noted};
+ghost use Rattle.dsn_wiring.specs.Counts.{image_items, items_before, place_items, too_many};
+
+use dsn_shapes::{Image, Library, Place, Placing, Refusal, Structure, Trees, What, at_of, note};
+use geo_kernel::List;
+
+fn image_items(image: &Image) -> u64
+    ensures { result ≡ capped (image_items image.now) }
+{
+    (image.pins.len() as u64).saturating_add(image.bans.len() as u64)
+}
+
+fn place_items(images: &List<Image>, place: &Place) -> u64
+    ensures { result ≡ capped (place_items images.now place.now) }
+{
+    if place.at.is_none() {
+        return 0;
+    }
+    match images.get(place.image as usize) {
+        Some(image) => image_items(image),
+        None => 0,
+    }
+}
+
+fn placed_items(images: &List<Image>, places: &[Place]) -> u64
+    ensures { result ≡ capped (sum_by (place_items images.now) places.now) }
+{
+    let mut count: u64 = 0;
+    for place in places {
+        count = count.saturating_add(place_items(images, place));
+    }
+    count
+}
+
+// How many items stand before the wiring; the count ends at 2^64 - 1.
+#[tactic(auto, unfolding(crate::specs::Counts::items_before))]
+fn items_before(st: &Structure, lib: &Library, placing: &Placing) -> u64
+    ensures { result ≡ capped (items_before st.now lib.now placing.now) }
+{
+    let placed = placed_items(&lib.images, placing.places.as_slice());
+    let areas = (st.bounds.len() as u64).saturating_add(st.bans.len() as u64);
+    areas.saturating_add(placed)
+}
+
+// The most items of a design.
+const MOST_ITEMS: u64 = 1_048_576;
+
+// Refuses the first wire or via past the limit, where `before` items stand before them.
+#[tactic(auto, unfolding(crate::specs::Counts::too_many))]
+fn refuse_behind(first: &mut Option<Refusal>, before: u64, wires: &Trees)
+    ensures { first.new ≡ noted first.old (too_many before wires.now) }
+{
+    if let Some(tree) = wires.get(MOST_ITEMS.saturating_sub(before) as usize) {
+        note(
+            first,
+            Refusal {
+                number: 23,
+                at: at_of(tree),
+                what: What::Items,
+                limit: MOST_ITEMS,
+            },
+        );
+    }
+}
+
+/// Refuses the first wire or via past the limit of items.
+pub(crate) fn refuse_many(
+    first: &mut Option<Refusal>,
+    st: &Structure,
+    lib: &Library,
+    placing: &Placing,
+    wires: &Trees,
+)
+    ensures { first.new ≡ noted first.old (too_many (items_before st.now lib.now placing.now) wires.now) }
+{
+    refuse_behind(first, items_before(st, lib, placing), wires);
+}

@@ -1,0 +1,186 @@
+//! Vias: a padstack of the library and its place, which its copper may not carry past the board.
+//! Source: SPECCTRA reference, via descriptor of the wiring; coordinates in nm.
+
+ghost use Rattle.std.specs.Prelude.{◌≡◌, IfOk};
+ghost use Rattle.std.specs.List.{list_any};
+ghost use Rattle.dsn_shapes.specs.Lists.{heads_of};
+ghost use Rattle.dsn_shapes.specs.Numbers.{coord_refusal};
+ghost use Rattle.dsn_shapes.specs.Refusals.{noted};
+ghost use Rattle.dsn_wiring.specs.Vias.{coord_of, is_far, is_past, origin, past_refusal, point_by, spine_past, stack_names, stack_past, stack_place, unknown_stack, via_metal, via_place, via_place_refusals, via_refusals};
+
+use crate::net::index;
+use dsn_shapes::{
+    NameIndex, Refusal, Stack, at_of, coord_in, name_of, note, nth_word, place_of, refused,
+};
+use dsn_tree::Tree;
+use dsn_units::Scale;
+use geo_kernel::{List, Point, Spine};
+use pcb_model::Metal;
+use std::alloc::{AllocError, Global};
+
+fn names_of<'a>(alloc: Global, stacks: &'a [Stack]) -> Result<Vec<&'a [u8]>, AllocError>
+    ensures { IfOk result (λ names. heads_of names.items ≡ stack_names stacks.now) }
+{
+    let mut names = Vec::new(alloc);
+    for stack in stacks {
+        names.push(stack.name.as_slice())?;
+    }
+    Ok(names)
+}
+
+/// The index of the names of these padstacks.
+pub fn stack_names<'a>(alloc: Global, stacks: &'a List<Stack>) -> Result<NameIndex<'a>, AllocError>
+    ensures { IfOk result (λ x. x ≡ stack_names stacks.now) }
+{
+    NameIndex::of(alloc, names_of(alloc, stacks.as_slice())?)
+}
+
+// Where the padstack of a via stands among those of these names.
+#[tactic(auto, unfolding(crate::specs::Vias::unknown_stack))]
+fn stack_place(first: &mut Option<Refusal>, names: &NameIndex, via: &Tree) -> Option<usize>
+    ensures noted { first.new ≡ noted first.old (unknown_stack names.now via.now) }
+    ensures value { result ≡ stack_place names.now via.now }
+{
+    let place = names.first_place(name_of(via, 1));
+    if place.is_none() {
+        note(first, refused(14, place_of(via, 1)));
+    }
+    place
+}
+
+fn coord_of(first: &mut Option<Refusal>, via: &Tree, i: usize, s: Scale) -> Option<i64>
+    ensures noted { first.new ≡ noted first.old (coord_refusal s.nm via.now i) }
+    ensures value { result ≡ coord_of s.nm via.now i }
+{
+    match nth_word(via, i) {
+        Some(word) => coord_in(first, word, s),
+        None => {
+            note(first, refused(9, at_of(via)));
+            None
+        }
+    }
+}
+
+fn point_by(x: Option<i64>, y: Option<i64>) -> Option<Point>
+    ensures { result ≡ point_by x y }
+{
+    match (x, y) {
+        (Some(x), Some(y)) => Some(Point { x, y }),
+        _ => None,
+    }
+}
+
+// The place of a via, where neither of its numbers is refused.
+#[tactic(auto, unfolding(crate::specs::Vias::via_place, crate::specs::Vias::via_place_refusals))]
+fn via_place(first: &mut Option<Refusal>, via: &Tree, s: Scale) -> Option<Point>
+    ensures noted { first.new ≡ noted first.old (via_place_refusals s.nm via.now) }
+    ensures value { result ≡ via_place s.nm via.now }
+{
+    let x = coord_of(first, via, 2, s);
+    let y = coord_of(first, via, 3, s);
+    point_by(x, y)
+}
+
+// The greatest size of a coordinate, in nm.
+const FURTHEST: u64 = 0x2000_0000;
+
+fn is_far(a: i64, by: i64) -> bool
+    ensures { result ≡ is_far a by }
+{
+    match a.checked_add(by) {
+        Some(sum) => sum.unsigned_abs() > FURTHEST,
+        None => true,
+    }
+}
+
+fn is_past(at: Point, p: Point) -> bool
+    ensures { result ≡ is_past at p }
+{
+    is_far(p.x, at.x) || is_far(p.y, at.y)
+}
+
+fn some_past(at: Point, points: &[Point]) -> bool
+    ensures { result ≡ list_any (is_past at) points.now }
+{
+    points.iter().any(|p| is_past(at, *p))
+}
+
+fn loops_past(at: Point, loops: &[List<Point>]) -> bool
+    ensures { result ≡ list_any (list_any (is_past at)) loops.now }
+{
+    for points in loops {
+        if some_past(at, points.as_slice()) {
+            return true;
+        }
+    }
+    false
+}
+
+// Whether a vertex of the spine, moved by the point, has a coordinate past 2^29.
+fn spine_past(at: Point, spine: &Spine) -> bool
+    ensures { result ≡ spine_past at spine.now }
+{
+    match spine {
+        Spine::Chain(points) => some_past(at, points.as_slice()),
+        Spine::Area(loops) => loops_past(at, loops.as_slice()),
+    }
+}
+
+fn stack_past(at: Point, stack: &Stack) -> bool
+    ensures { result ≡ stack_past at stack.now }
+{
+    stack
+        .shapes
+        .as_slice()
+        .iter()
+        .any(|shape| spine_past(at, &shape.spine))
+}
+
+// Refuses a via whose copper lies past the greatest coordinate.
+#[tactic(auto, unfolding(crate::specs::Vias::past_refusal))]
+fn refuse_past(
+    first: &mut Option<Refusal>,
+    stacks: &List<Stack>,
+    place: Option<usize>,
+    at: Option<Point>,
+    via: &Tree,
+)
+    ensures { first.new ≡ noted first.old (past_refusal stacks.now place at via.now) }
+{
+    let (Some(place), Some(at)) = (place, at) else {
+        return;
+    };
+    let Some(stack) = stacks.get(place) else {
+        return;
+    };
+    if stack_past(at, stack) {
+        note(first, refused(10, at_of(via)));
+    }
+}
+
+fn origin() -> Point
+    ensures { result ≡ origin }
+{
+    Point { x: 0, y: 0 }
+}
+
+/// The padstack of a via, of those of these names, and its place.
+#[tactic(auto, unfolding(crate::specs::Vias::via_metal, crate::specs::Vias::via_refusals))]
+pub(crate) fn note_via(
+    first: &mut Option<Refusal>,
+    via: &Tree,
+    s: Scale,
+    stacks: &List<Stack>,
+    names: &NameIndex,
+) -> Metal
+    ensures noted { first.new ≡ noted first.old (via_refusals s.nm stacks.now names.now via.now) }
+    ensures value { result ≡ via_metal s.nm names.now via.now }
+{
+    let place = stack_place(first, names, via);
+    let at = via_place(first, via, s);
+    refuse_past(first, stacks, place, at, via);
+    Metal::Via {
+        padstack: index(place.unwrap_or(0)),
+        at: at.unwrap_or(origin()),
+    }
+}

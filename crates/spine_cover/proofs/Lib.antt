@@ -1,0 +1,9 @@
+pub mod Triangle
+pub mod Hits
+pub mod Stretching
+pub mod Apart
+pub mod Foremost
+pub mod Deciding
+pub mod Covering
+pub mod Moving
+pub mod Vertices

@@ -1,0 +1,167 @@
+//! The ways on from nodes to a goal that a rule of ties chooses among, with what each costs by the rule.
+//! They only advise a trace, which checks each move: so they have no contracts but that they are safe.
+
+use crate::ties::Heading;
+use std::alloc::{AllocError, Global};
+
+/// The slot of a rank without ways.
+const NO_SLOT: u32 = u32::MAX;
+
+/// Where the way of a goal leads.
+const NO_NODE: u32 = u32::MAX;
+
+/// The cost of no way.
+const NO_WAY: u32 = u32::MAX;
+
+/// The greatest cost that is kept.
+const MOST: u32 = u32::MAX - 1;
+
+/// A way on from a node to a goal: the node that its first move leads to, the heading there, and its cost by the rule.
+#[derive(Clone, Copy)]
+pub(crate) struct Way {
+    pub to: u32,
+    pub then: Heading,
+    pub cost: u32,
+}
+
+/// A start and the heading of its best way.
+#[derive(Clone, Copy)]
+pub(crate) struct Start {
+    pub node: u32,
+    pub heading: Heading,
+}
+
+/// For each node that is done, by its rank, the best way on of each heading: 4 bytes a node, and 36 more where there are ways.
+#[derive(Drop)]
+pub(crate) struct Choices {
+    slots: Vec<u32>,
+    ways: Vec<Way>,
+    start: Option<Start>,
+    start_cost: u32,
+}
+
+fn place_of(slot: u32, heading: Heading) -> usize {
+    let first = slot as usize;
+    match heading {
+        Heading::Across => first,
+        Heading::Up => first + 1,
+        Heading::Elsewhere => first + 2,
+    }
+}
+
+fn no_way() -> Way {
+    Way {
+        to: NO_NODE,
+        then: Heading::Elsewhere,
+        cost: NO_WAY,
+    }
+}
+
+/// The sum of two costs, as far as it is kept.
+pub(crate) fn cost_with(way: Way, cost: u64) -> u32 {
+    let sum = cost.saturating_add(way.cost as u64);
+    if sum < MOST as u64 { sum as u32 } else { MOST }
+}
+
+impl Choices {
+    /// No ways, for ranks up to `done`.
+    pub(crate) fn new(alloc: Global, done: usize) -> Result<Choices, AllocError> {
+        Ok(Choices {
+            slots: vec![in alloc; NO_SLOT; done.saturating_add(1)]?,
+            ways: Vec::new(alloc),
+            start: None,
+            start_cost: NO_WAY,
+        })
+    }
+
+    fn slot(&self, rank: u32) -> u32 {
+        self.slots.get(rank as usize).copied().unwrap_or(NO_SLOT)
+    }
+
+    /// Whether the node of that rank has any way on.
+    pub(crate) fn has(&self, rank: u32) -> bool {
+        self.slot(rank) != NO_SLOT
+    }
+
+    /// The best way on of a heading from the node of that rank.
+    pub(crate) fn way(&self, rank: u32, heading: Heading) -> Option<Way> {
+        let way = self.ways.get(place_of(self.slot(rank), heading)).copied()?;
+        if way.cost == NO_WAY {
+            return None;
+        }
+        Some(way)
+    }
+
+    /// The way on of a heading from the node of that rank, if it has a move.
+    pub(crate) fn on(&self, rank: u32, heading: Heading) -> Option<Way> {
+        let way = self.way(rank, heading)?;
+        if way.to == NO_NODE {
+            return None;
+        }
+        Some(way)
+    }
+
+    /// Where a start's walk begins, if any way on leads from a start.
+    pub(crate) fn start(&self) -> Option<Start> {
+        self.start
+    }
+
+    /// The slot of a rank, which gets one if it has none.
+    fn room(&mut self, rank: u32) -> Result<u32, AllocError> {
+        let old = self.slot(rank);
+        if old != NO_SLOT {
+            return Ok(old);
+        }
+        let new = u32::try_from(self.ways.len()).unwrap_or(NO_SLOT);
+        self.ways.push(no_way())?;
+        self.ways.push(no_way())?;
+        self.ways.push(no_way())?;
+        if let Some(slot) = self.slots.get_mut(rank as usize) {
+            *slot = new;
+        }
+        Ok(new)
+    }
+
+    /// A way on of that heading from the node of that rank, which is kept if it is the best.
+    pub(crate) fn offer(
+        &mut self,
+        rank: u32,
+        heading: Heading,
+        way: Way,
+    ) -> Result<(), AllocError> {
+        let slot = self.room(rank)?;
+        if let Some(kept) = self.ways.get_mut(place_of(slot, heading))
+            && way.cost < kept.cost
+        {
+            *kept = way;
+        }
+        Ok(())
+    }
+
+    /// A goal of that rank: its walk ends there.
+    pub(crate) fn offer_goal(&mut self, rank: u32) -> Result<(), AllocError> {
+        let then = Heading::Elsewhere;
+        let end = Way {
+            to: NO_NODE,
+            then,
+            cost: 0,
+        };
+        self.offer(rank, then, end)
+    }
+
+    fn start_by(&mut self, node: u32, rank: u32, heading: Heading) {
+        if let Some(way) = self.way(rank, heading)
+            && way.cost < self.start_cost
+        {
+            self.start = Some(Start { node, heading });
+            self.start_cost = way.cost;
+        }
+    }
+
+    /// A start, whose ways on are known by now.
+    pub(crate) fn offer_start(&mut self, node: u32, rank: u32) {
+        self.start_by(node, rank, Heading::Across);
+        self.start_by(node, rank, Heading::Up);
+        self.start_by(node, rank, Heading::Elsewhere);
+    }
+}

@@ -1,0 +1,178 @@
+//! The trace of a walk over the labels that a search leaves, by tight moves.
+//! A move is tight where it is open and leads from one node to another at exactly the other's price.
+
+ghost use Rattle.std.specs.Prelude.{◌≡◌, ℕ, ◌^◌, ◌<◌, length, None, IfOk, IfSome, Contains, Some, MatchOption};
+ghost use Rattle.route_lattice.specs.Walks.{IsSound, IsWalk};
+ghost use Rattle.wave_search.specs.declared.labels.Label.{Label as TheLabel};
+ghost use Rattle.wave_search.specs.Rows.{IsMarked};
+ghost use Rattle.wave_search.specs.State.{label_at, IsTight, IsTightBy, Roots};
+
+use crate::bound::Bound;
+use crate::choices::{Choices, Start};
+use crate::labels::{Label, Labels};
+use crate::task::Task;
+use crate::ties::Ties;
+use geo_kernel::List;
+use route_lattice::{Move, Moves, Walk};
+use std::alloc::{AllocError, Global};
+
+impl<'a, M: Moves, B: Bound, T: Ties> Task<'a, M, B, T> {
+    /// Move `i` of a node, if it is open and leads to the other node at exactly the other's price.
+    fn tight_at(&self, from: u32, before: u64, to: u32, price: u64, i: u32) -> Option<Move>
+        requires ready { M.ready self.now.m.now }
+        requires sound { IsSound (M.graph self.now.m.now) }
+        requires node { from < (M.graph self.now.m.now).count }
+        requires index { i < (M.graph self.now.m.now).arity }
+        requires small { before < 2 ^ 60 }
+        ensures { MatchOption result ((t : IsTight (M.graph self.now.m.now) from before to price) → t.hop.index ≡ i → ⊥) (λ mv. IsTightBy (M.graph self.now.m.now) from before to price mv) }
+    {
+        let Some((mv, there)) = self.m.at(from, i) else {
+            return None;
+        };
+        if there != to {
+            return None;
+        }
+        if before + self.m.price(from, i) != price {
+            return None;
+        }
+        if !self.m.is_open(from, i) {
+            return None;
+        }
+        Some(mv)
+    }
+
+    /// An open move that leads from a node to another at exactly the other's price; None where there is none.
+    pub(crate) fn tight_to(&self, from: u32, before: u64, to: u32, price: u64) -> Option<Move>
+        requires ready { M.ready self.now.m.now }
+        requires sound { IsSound (M.graph self.now.m.now) }
+        requires node { from < (M.graph self.now.m.now).count }
+        requires small { before < 2 ^ 60 }
+        ensures { MatchOption result (IsTight (M.graph self.now.m.now) from before to price → ⊥) (λ mv. IsTightBy (M.graph self.now.m.now) from before to price mv) }
+    {
+        for i in 0..self.m.arity() {
+            if let Some(mv) = self.tight_at(from, before, to, price, i) {
+                return Some(mv);
+            }
+        }
+        None
+    }
+
+    /// The walk that the label of a node stands for.
+    pub(crate) fn trace(
+        &self,
+        alloc: Global,
+        table: &Labels,
+        node: u32,
+        label: Label,
+    ) -> Result<Walk, AllocError>
+        requires ready { M.ready self.now.m.now }
+        requires sound { IsSound (M.graph self.now.m.now) }
+        requires roots { Roots (M.graph self.now.m.now) self.now.starts.now table.now }
+        requires small { (v : ℕ) (l : TheLabel) → label_at table.now v ≡ Some l → l.price < 2 ^ 60 }
+        requires there { label_at table.now node ≡ Some label }
+        requires is_done { 0 < label.rank }
+        requires goal { Contains self.now.goals.now node }
+        ensures walk { IfOk result (IsWalk (M.graph self.now.m.now) self.now.starts.now self.now.goals.now) }
+        ensures price { IfOk result (λ w. w.price ≡ label.price) }
+    {
+        let mut nodes = Vec::new(alloc);
+        let mut moves = Vec::new(alloc);
+        let mut at = node;
+        let mut here = label;
+        nodes.push(at)?;
+        while let Some(from) = here.origin {
+            let Some(before) = table.get(from) else {
+                unreachable!();
+            };
+            let Some(mv) = self.tight_to(from, before.price, at, here.price) else {
+                unreachable!();
+            };
+            moves.push(mv)?;
+            at = from;
+            here = before;
+            nodes.push(at)?;
+        }
+        nodes.reverse();
+        moves.reverse();
+        Ok(Walk {
+            nodes: List::from_vec(nodes),
+            moves: List::from_vec(moves),
+            price: label.price,
+        })
+    }
+
+    /// The label of a node that is done after one of that rank.
+    pub(crate) fn label_after(&self, table: &Labels, rank: u32, to: u32) -> Option<Label>
+        requires { length table.now ≡ (M.graph self.now.m.now).count }
+        ensures { IfSome result (λ l. (label_at table.now to ≡ Some l) × (rank < l.rank) × (to < (M.graph self.now.m.now).count) × (l.rank < 2 ^ 32)) }
+    {
+        if to >= self.m.count() {
+            return None;
+        }
+        let after = table.get(to)?;
+        if after.rank <= rank {
+            return None;
+        }
+        Some(after)
+    }
+
+    /// The label of a start that is done.
+    fn label_of_start(&self, table: &Labels, node: u32) -> Option<Label>
+        requires { length table.now ≡ (M.graph self.now.m.now).count }
+        ensures { IfSome result (λ l. (label_at table.now node ≡ Some l) × (0 < l.rank) × (l.origin ≡ None) × (node < (M.graph self.now.m.now).count) × (l.rank < 2 ^ 32)) }
+    {
+        let label = self.label_after(table, 0, node)?;
+        if label.origin.is_some() {
+            return None;
+        }
+        Some(label)
+    }
+
+    /// A walk from the start to a goal at the price, as the choices have it go on; None where they lead astray.
+    pub(crate) fn follow(
+        &self,
+        alloc: Global,
+        table: &Labels,
+        choices: &Choices,
+        start: Start,
+        price: u64,
+    ) -> Result<Option<Walk>, AllocError>
+        requires ready { M.ready self.now.m.now }
+        requires sound { IsSound (M.graph self.now.m.now) }
+        requires roots { Roots (M.graph self.now.m.now) self.now.starts.now table.now }
+        requires small { (v : ℕ) (l : TheLabel) → label_at table.now v ≡ Some l → l.price < 2 ^ 60 }
+        requires marked { (v : ℕ) → v < (M.graph self.now.m.now).count → IsMarked self.now.marks.now v → Contains self.now.goals.now v }
+        requires marks { length self.now.marks.now ≡ (M.graph self.now.m.now).count }
+        ensures { IfOk result (λ o. IfSome o (λ w. IsWalk (M.graph self.now.m.now) self.now.starts.now self.now.goals.now w × (w.price ≡ price))) }
+    {
+        let Some(mut here) = self.label_of_start(table, start.node) else {
+            return Ok(None);
+        };
+        let mut nodes = Vec::new(alloc);
+        let mut moves = Vec::new(alloc);
+        let mut at = start.node;
+        let mut heading = start.heading;
+        nodes.push(at)?;
+        while let Some(way) = choices.on(here.rank, heading) {
+            let Some(after) = self.label_after(table, here.rank, way.to) else {
+                return Ok(None);
+            };
+            let Some(mv) = self.tight_to(at, here.price, way.to, after.price) else {
+                return Ok(None);
+            };
+            moves.push(mv)?;
+            at = way.to;
+            here = after;
+            heading = way.then;
+            nodes.push(at)?;
+        }
+        if here.price != price || !self.marks.has(at) {
+            return Ok(None);
+        }
+        Ok(Some(Walk {
+            nodes: List::from_vec(nodes),
+            moves: List::from_vec(moves),
+            price,
+        }))
+    }
+}

@@ -10,7 +10,7 @@ use Rattle.dsn_route.specs.declared.words.WordFault.{WordFault}
 use Rattle.dsn_route.specs.Words.{Command}
 use Rattle.dsn_route.specs.Status.{ended_of}
 use Rattle.pcb_model.specs.declared.design.Design.{Design}
-use Rattle.dsn_route.specs.Texts.{HasDesign}
+use Rattle.dsn_design.specs.Reading.{HasDesign}
 use Rattle.dsn_route.specs.Answers.{IsInput, Stops, Said, Answers}
 use Rattle.dsn_route.specs.Said.{RoutesDesign}
 

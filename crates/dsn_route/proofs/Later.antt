@@ -19,7 +19,8 @@ module _ (command : Command) (desk later : DeskState) (sink after : SinkState) (
   stops Refused line why = record { text = why.text; number = why.number; place = why.place; input = record { file = why.input.file; fits = why.input.fits }; refused = why.refused; line_is = why.line_is }
   stops ReadFault line (fault, is) = (faulted fault, is)
   stops Limit line (inl long) = inl long
-  stops Limit line (inr crowded) = inr (record { text = crowded.text; design = crowded.design; input = record { file = crowded.input.file; fits = crowded.input.fits }; reads = crowded.reads; many = crowded.many; line_is = crowded.line_is })
+  stops Limit line (inr (inl over)) = inr (inl (record { text = over.text; what = over.what; limit = over.limit; input = record { file = over.input.file; fits = over.input.fits }; over = over.over; line_is = over.line_is }))
+  stops Limit line (inr (inr crowded)) = inr (inr (record { text = crowded.text; design = crowded.design; input = record { file = crowded.input.file; fits = crowded.input.fits }; reads = crowded.reads; many = crowded.many; line_is = crowded.line_is }))
   stops _ line why = absurd why
 
   put : (status : Status) → LinePut (Ok command) (at desk.files faults calm) later sink after status → LinePut (Ok command) desk later sink after status

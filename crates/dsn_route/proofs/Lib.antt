@@ -9,4 +9,6 @@ mod Places
 mod Closing
 mod Running
 mod Plain
+mod OneText
+mod Unread
 mod Dues

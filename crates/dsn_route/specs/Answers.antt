@@ -5,6 +5,8 @@ use Rattle.desk_io.specs.States.{DeskState, SinkState}
 use Rattle.desk_io.specs.Answers.{IsAbsent, IsFile, IsTooLong, written, appended, DeskFaulted, SinkFaulted}
 use Rattle.pcb_model.specs.declared.item.Item.{Item}
 use Rattle.pcb_model.specs.declared.design.Design.{Design}
+use Rattle.dsn_design.specs.Reading.{HasDesign}
+use Rattle.dsn_shapes.specs.declared.refusal.What.{What}
 use Rattle.route_lattice.specs.Mesh.{Mesh, node_count}
 use Rattle.route_lattice.specs.Whole.{default_grid, lattice_of}
 use Rattle.cut_certificate.specs.declared.cut.Cut.{Cut}
@@ -13,7 +15,7 @@ use Rattle.dsn_route.specs.declared.status.Status.{Status}
 use Rattle.dsn_route.specs.declared.status.Status.TheVariants.{Complete, SomeOpen, Usage, Refused, ReadFault, WriteFault, Limit, Memory}
 use Rattle.dsn_route.specs.declared.words.WordFault.{WordFault}
 use Rattle.dsn_route.specs.Words.{Command, number_of}
-use Rattle.dsn_route.specs.Texts.{HasDesign, IsRefused}
+use Rattle.dsn_route.specs.Texts.{IsRefused, IsOverLimit, what_word}
 use Rattle.dsn_route.specs.Joins.{IsRun}
 use Rattle.dsn_route.specs.Report.{is_complete, is_open, report_of}
 
@@ -37,6 +39,9 @@ read_fault_line = codes "read fault\n"
 abbrev pub limit_line : List ℕ
 limit_line = codes "limit bytes " ++ decimal max_bytes ++ codes "\n"
 
+abbrev pub over_line : What → ℕ → List ℕ
+over_line what limit = codes "limit " ++ what_word what ++ codes " " ++ decimal limit ++ codes "\n"
+
 abbrev pub nodes_line : ℕ → List ℕ
 nodes_line count = codes "limit nodes " ++ decimal count ++ codes "\n"
 
@@ -58,6 +63,15 @@ pub record IsRefusal (command : Command) (desk : DeskState) (line : List ℕ) : 
   pub refused : IsRefused text number place
   pub line_is : line ≡ refused_line number place
 
+-- a text that passes a limit on what it counts, and the line that says so
+pub record IsOverfull (command : Command) (desk : DeskState) (line : List ℕ) : Type 0 where
+  pub text : List ℕ
+  pub what : What
+  pub limit : ℕ
+  pub input : IsInput command desk text
+  pub over : IsOverLimit text what limit
+  pub line_is : line ≡ over_line what limit
+
 -- a design whose lattice has more than 2^24 nodes, and the line that says how many
 pub record IsCrowded (command : Command) (desk : DeskState) (line : List ℕ) : Type 0 where
   pub text : List ℕ
@@ -72,7 +86,7 @@ abbrev pub Stops : Result Command WordFault → DeskState → DeskState → Stat
 Stops (Err fault) desk later Usage line = line ≡ usage_line (number_of fault)
 Stops (Ok command) desk later Refused line = IsRefusal command desk line
 Stops (Ok command) desk later ReadFault line = DeskFaulted desk later (IsAbsent desk.files command.input) × (line ≡ read_fault_line)
-Stops (Ok command) desk later Limit line = (IsTooLong desk.files command.input max_bytes × (line ≡ limit_line)) ⊎ IsCrowded command desk line
+Stops (Ok command) desk later Limit line = (IsTooLong desk.files command.input max_bytes × (line ≡ limit_line)) ⊎ (IsOverfull command desk line ⊎ IsCrowded command desk line)
 Stops _ desk later _ line = ⊥
 
 -- the line was put

@@ -3,12 +3,14 @@ use Rattle.std.specs.Prelude.{◌≡◌, ◌≤◌, ◌<◌, ◌^◌, ◌⊎◌,
 use Rattle.desk_io.specs.States.{DeskState, SinkState, Rose}
 use Rattle.desk_io.specs.Answers.{IsAbsent, IsHeld}
 use Rattle.pcb_model.specs.declared.design.Design.{Design}
+use Rattle.dsn_design.specs.Reading.{HasDesign}
+use Rattle.dsn_shapes.specs.declared.refusal.What.{What}
 use Rattle.route_lattice.specs.Mesh.{node_count}
 use Rattle.dsn_route.specs.declared.status.Status.{Status}
 use Rattle.dsn_route.specs.declared.status.Status.TheVariants.{Complete, SomeOpen, ReadFault, WriteFault, Memory}
 use Rattle.dsn_route.specs.declared.words.WordFault.{WordFault}
 use Rattle.dsn_route.specs.Words.{Command}
-use Rattle.dsn_route.specs.Texts.{HasDesign, IsRefused}
+use Rattle.dsn_route.specs.Texts.{IsRefused, IsOverLimit}
 use Rattle.dsn_route.specs.Answers.{max_bytes, mesh_of}
 
 -- accepted words name an input that the desk tells to be absent
@@ -33,6 +35,13 @@ pub record IsUnfit (text : List ℕ) : Type 0 where
   pub number : ℕ
   pub place : ℕ
   pub refused : IsRefused text number place
+
+-- the text is within the limit of bytes, and passes one on what it counts
+pub record IsOver (text : List ℕ) : Type 0 where
+  pub fits : length text ≤ max_bytes
+  pub what : What
+  pub limit : ℕ
+  pub over : IsOverLimit text what limit
 
 -- the text is within the limit, and has a design on whose lattice, at the grid that is asked for, P holds of the number of nodes
 pub record IsFit (P : ℕ → Type 0) (command : Result Command WordFault) (text : List ℕ) : Type 0 where

@@ -46,7 +46,7 @@ verdict_words [] = codes " complete\n"
 verdict_words (cut ∷ cuts) = codes " open " ++ decimal (length (cut ∷ cuts)) ++ codes "\n"
 
 unfoldable pub net_line : Design → Net → List Cut → List ℕ
-net_line d net cuts = codes "net " ++ net.name ++ verdict_words cuts ++ cut_lines d cuts
+net_line d net cuts = codes "net " ++ spelled net.name ++ verdict_words cuts ++ cut_lines d cuts
 
 abbrev pub net_lines : Design → List Net → List (List Cut) → List ℕ
 net_lines d [] others = []

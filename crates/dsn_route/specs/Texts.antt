@@ -1,14 +1,66 @@
--- What a text of a design is.
-use Rattle.std.specs.Prelude.{◌≡◌, ℕ, List, None, Some}
-use Rattle.pcb_model.specs.declared.design.Design.{Design}
-use Rattle.first_form.specs.Board.{form_of}
+-- What a text without a design is: a text that is refused, or one that passes a limit.
+use Rattle.std.specs.Prelude.{◌≡◌, ◌≢◌, ◌⊎◌, ℕ, List, Option, None, Some, codes}
+use Rattle.dsn_tree.specs.declared.fault.TreeFault.{TreeFault}
+use Rattle.dsn_tree.specs.declared.fault.TreeFault.TheVariants.{Memory, QuoteOpen, BadQuoteByte, Unclosed, Surplus, TooDeep, Empty}
+use Rattle.dsn_tree.specs.Trees.{HasFault}
+use Rattle.dsn_shapes.specs.declared.refusal.Refusal.{Refusal}
+use Rattle.dsn_shapes.specs.declared.refusal.What.{What}
+use Rattle.dsn_shapes.specs.declared.refusal.What.TheVariants.{Nothing, Layers, Nets, Pins, Items, Vertices}
+use Rattle.dsn_shapes.specs.declared.refusal.DesignFault.{DesignFault}
+use Rattle.dsn_shapes.specs.declared.refusal.DesignFault.TheVariants as design
+use Rattle.dsn_shapes.specs.Refusals.{refused}
+use Rattle.dsn_design.specs.Reading.{HasRefusal}
 
--- the text is of the first form, and stands for this design
-abbrev pub HasDesign : List ℕ → Design → Type 0
-HasDesign text d = form_of text ≡ Some d
+-- the numbers of the faults of a tree, each at its byte offset; want of memory is no fault of a text
+abbrev pub tree_refusal : TreeFault → Option Refusal
+tree_refusal (QuoteOpen at) = Some (refused 1 at)
+tree_refusal (BadQuoteByte at) = Some (refused 2 at)
+tree_refusal (Unclosed at) = Some (refused 3 at)
+tree_refusal (Surplus at) = Some (refused 4 at)
+tree_refusal (TooDeep at) = Some (refused 5 at)
+tree_refusal Empty = Some (refused 6 0)
+tree_refusal (Memory e) = None
 
--- the text is refused with this number at this place, a byte offset: any text that isn't of the form, with 21 at 0
+abbrev pub refusal_of : DesignFault → Option Refusal
+refusal_of (design.Spelling f) = tree_refusal f
+refusal_of (design.Refused r) = Some r
+refusal_of (design.Memory e) = None
+
+-- the text has no tree, and this refusal says why
+pub record IsMisspelt (text : List ℕ) (r : Refusal) : Type 0 where
+  pub fault : TreeFault
+  pub has : HasFault text fault
+  pub refusal : tree_refusal fault ≡ Some r
+
+-- the text has no design, and this refusal says why: that of its tree, or the one that counts in its sections
+abbrev pub LacksDesign : List ℕ → Refusal → Type 0
+LacksDesign text r = IsMisspelt text r ⊎ HasRefusal text r
+
+-- the number of a limit that is passed
+abbrev pub limit_number : ℕ
+limit_number = 23
+
+-- the text is refused with this number at this place, a byte offset
 pub record IsRefused (text : List ℕ) (number place : ℕ) : Type 0 where
-  pub no_design : form_of text ≡ None
-  pub number_is : number ≡ 21
-  pub place_is : place ≡ 0
+  pub refusal : Refusal
+  pub lacks : LacksDesign text refusal
+  pub other : refusal.number ≢ limit_number
+  pub number_is : number ≡ refusal.number
+  pub place_is : place ≡ refusal.at
+
+-- the text passes this limit on what it counts
+pub record IsOverLimit (text : List ℕ) (what : What) (limit : ℕ) : Type 0 where
+  pub refusal : Refusal
+  pub lacks : LacksDesign text refusal
+  pub passed : refusal.number ≡ limit_number
+  pub what_is : what ≡ refusal.what
+  pub limit_is : limit ≡ refusal.limit
+
+-- the word for what a limit counts; a refusal that is of no limit counts nothing
+abbrev pub what_word : What → List ℕ
+what_word Nothing = codes "nothing"
+what_word Layers = codes "layers"
+what_word Nets = codes "nets"
+what_word Pins = codes "pins"
+what_word Items = codes "items"
+what_word Vertices = codes "vertices"

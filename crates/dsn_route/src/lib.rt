@@ -6,6 +6,7 @@ mod board;
 mod ends;
 mod join;
 mod lines;
+mod refusals;
 mod report;
 mod route;
 mod run;

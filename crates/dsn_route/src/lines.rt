@@ -4,11 +4,13 @@
 ghost use Rattle.std.specs.Prelude.{◌≡◌, ◌<◌, ◌^◌, IfOk};
 ghost use Rattle.desk_io.specs.Answers.{PutGives};
 ghost use Rattle.dsn_route.specs.Words.{number_of};
-ghost use Rattle.dsn_route.specs.Answers.{usage_line, refused_line, read_fault_line, limit_line, nodes_line};
+ghost use Rattle.dsn_route.specs.Answers.{usage_line, refused_line, read_fault_line, limit_line, over_line, nodes_line};
+ghost use Rattle.dsn_route.specs.Texts.{what_word};
 
 use crate::route::MAX_BYTES;
 use crate::words::WordFault;
 use desk_io::{Sink, SinkFail};
+use dsn_shapes::What;
 use itoa::Buffer;
 use std::alloc::{AllocError, Global};
 
@@ -41,6 +43,31 @@ fn limit_text(alloc: Global) -> Result<Vec<u8>, AllocError>
     let mut buffer = Buffer::new();
     let mut line = Vec::from_slice(alloc, b"limit bytes ")?;
     line.extend_from_slice(buffer.format(MAX_BYTES).as_bytes())?;
+    line.extend_from_slice(b"\n")?;
+    Ok(line)
+}
+
+fn what_word(what: What) -> &'static [u8]
+    ensures { result.now ≡ what_word what }
+{
+    match what {
+        What::Nothing => b"nothing",
+        What::Layers => b"layers",
+        What::Nets => b"nets",
+        What::Pins => b"pins",
+        What::Items => b"items",
+        What::Vertices => b"vertices",
+    }
+}
+
+fn over_text(alloc: Global, what: What, limit: u64) -> Result<Vec<u8>, AllocError>
+    ensures { IfOk result (λ line. line.items ≡ over_line what limit) }
+{
+    let mut buffer = Buffer::new();
+    let mut line = Vec::from_slice(alloc, b"limit ")?;
+    line.extend_from_slice(what_word(what))?;
+    line.extend_from_slice(b" ")?;
+    line.extend_from_slice(buffer.format(limit).as_bytes())?;
     line.extend_from_slice(b"\n")?;
     Ok(line)
 }
@@ -92,6 +119,21 @@ pub fn say_limit<R: Sink>(alloc: Global, report: &mut R) -> Result<(), SinkFail>
     ensures { PutGives (R.state report.old) (R.state report.new) limit_line result }
 {
     match limit_text(alloc) {
+        Ok(line) => report.put(&line),
+        Err(e) => Err(SinkFail::Memory(e)),
+    }
+}
+
+/// Puts `limit WHAT NUMBER`: what is counted, and how many there may be.
+pub fn say_over<R: Sink>(
+    alloc: Global,
+    what: What,
+    limit: u64,
+    report: &mut R,
+) -> Result<(), SinkFail>
+    ensures { PutGives (R.state report.old) (R.state report.new) (over_line what limit) result }
+{
+    match over_text(alloc, what, limit) {
         Ok(line) => report.put(&line),
         Err(e) => Err(SinkFail::Memory(e)),
     }

@@ -147,7 +147,7 @@ fn put_net(
     ensures { OnOk result (Appends out.old.items out.new.items (net_line d.now net.now cuts.now)) }
 {
     put(out, b"net ")?;
-    put(out, net.name.as_slice())?;
+    put_spelled(out, net.name.as_slice())?;
     put_verdict(cuts, out)?;
     put_cuts(alloc, d, cuts, out)
 }

@@ -5,22 +5,23 @@ ghost use Rattle.std.specs.Prelude.{◌≡◌, ◌≤◌, ◌^◌, ℕ, List as 
 ghost use Rattle.pcb_model.specs.Sound.{IsSound};
 ghost use Rattle.route_lattice.specs.Mesh.{node_count};
 ghost use Rattle.dsn_route.specs.Words.{texts, command_of};
-ghost use Rattle.dsn_route.specs.Status.{ended_of};
 ghost use Rattle.dsn_route.specs.Said.{command_from, IsVerdict, RoutesDesign};
-ghost use Rattle.dsn_route.specs.Texts.{HasDesign};
+ghost use Rattle.dsn_design.specs.Reading.{HasDesign};
 ghost use Rattle.path_wire.specs.Plain.{IsPlainCopper};
 ghost use Rattle.dsn_route.specs.Boards.{IsTask};
 ghost use Rattle.dsn_route.specs.Answers.{Answers, Leaves, IsInput, mesh_of, via_price};
-ghost use Rattle.dsn_route.specs.Due.{IsMissing, IsRead, IsLong, IsUnfit, IsTooFine, IsRoutable, IsDue, IsDueAfterRead, HasNoFault, IsDone};
+ghost use Rattle.dsn_route.specs.Due.{IsMissing, IsRead, IsLong, IsUnfit, IsOver, IsTooFine, IsRoutable, IsDue, IsDueAfterRead, HasNoFault, IsDone};
 
 use crate::Status;
-use crate::lines::{say_limit, say_nodes, say_read_fault, say_refused, say_usage};
+use crate::lines::{say_limit, say_nodes, say_read_fault, say_usage};
+use crate::refusals::{end_refused, refusal_of};
 use crate::report::report_text;
 use crate::run::{Laid, lay_nets};
+use crate::status::ended;
 use crate::words::{Asked, read_words};
 use cut_certificate::Cut;
-use desk_io::{Desk, DeskFail, Gate, Sink, SinkFail};
-use first_form::{FormFault, read_form};
+use desk_io::{Desk, DeskFail, Gate, Sink};
+use dsn_design::{one_outcome, read_design};
 use geo_kernel::List;
 use pcb_model::Design;
 use route_lattice::{Lattice, LatticeFault};
@@ -32,17 +33,6 @@ pub const MAX_BYTES: u64 = 33_554_432;
 
 /// The price of a via, in nm.
 const VIA_PRICE: u64 = 2_000_000;
-
-// The status after the last put.
-fn ended(put: Result<(), SinkFail>, status: Status) -> Status
-    ensures { result ≡ ended_of put status }
-{
-    match put {
-        Ok(()) => status,
-        Err(SinkFail::Failed) => Status::WriteFault,
-        Err(SinkFail::Memory(_)) => Status::Memory,
-    }
-}
 
 // Complete where each net is.
 fn verdict(ends: &[List<Cut>]) -> Status
@@ -137,10 +127,12 @@ fn route_text<D: Desk, R: Sink>(
     requires input { IsInput (command_from asked) (D.state desk.old) text.now }
     ensures { Answers (Ok (command_from asked.entry)) (D.state desk.old) (D.state desk.new) (R.state report.old) (R.state report.new) result }
 {
-    match read_form(alloc, text) {
+    match read_design(alloc, text) {
         Ok(design) => route_design(alloc, text, &design, asked, desk, report),
-        Err(FormFault::NotOfTheForm) => ended(say_refused(alloc, 21, 0, report), Status::Refused),
-        Err(FormFault::Memory(_)) => Status::Memory,
+        Err(fault) => match refusal_of(&fault) {
+            Some(refusal) => end_refused(alloc, refusal, report),
+            None => Status::Memory,
+        },
     }
 }
 
@@ -174,10 +166,12 @@ pub fn dsn_route<T, D: Desk, R: Sink, G: Gate + Sync>(
     ensures absent { IsMissing (command_of (texts words.now)) (D.state desk.old) → IsDue Status.ReadFault result }
     ensures limit { (text : Seq ℕ) → IsRead (command_of (texts words.now)) (D.state desk.old) text → IsLong text → IsDueAfterRead Status.Limit result }
     ensures refused { (text : Seq ℕ) → IsRead (command_of (texts words.now)) (D.state desk.old) text → IsUnfit text → IsDueAfterRead Status.Refused result }
+    ensures counted { (text : Seq ℕ) → IsRead (command_of (texts words.now)) (D.state desk.old) text → IsOver text → IsDueAfterRead Status.Limit result }
     ensures nodes { (text : Seq ℕ) → IsRead (command_of (texts words.now)) (D.state desk.old) text → IsTooFine (command_of (texts words.now)) text → IsDueAfterRead Status.Limit result }
     ensures complete { (text : Seq ℕ) → IsRead (command_of (texts words.now)) (D.state desk.old) text → IsRoutable (command_of (texts words.now)) text
         → HasNoFault (D.state desk.old) (D.state desk.new) (R.state report.old) (R.state report.new) → IsDone result }
 {
+    one_outcome();
     match read_words(words) {
         Ok(asked) => route(alloc, asked, desk, report),
         Err(fault) => ended(say_usage(alloc, fault, report), Status::Usage),

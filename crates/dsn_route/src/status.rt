@@ -1,6 +1,11 @@
 //! How a call ended.
 //! Each status has an exit code of its own.
 
+ghost use Rattle.std.specs.Prelude.{◌≡◌};
+ghost use Rattle.dsn_route.specs.Status.{ended_of};
+
+use desk_io::SinkFail;
+
 /// How a call ended: every net is complete; some net is open; the words are refused; the design is refused;
 /// the design couldn't be read; the session or the report couldn't be written; a limit is passed; memory is wanting.
 #[derive(Clone, Copy, Debug, PartialEq, Eq)]
@@ -33,5 +38,16 @@ impl Status {
             Status::Limit => 6,
             Status::Memory => 7,
         }
+    }
+}
+
+/// How a call ends after its last put, where `status` is due.
+pub fn ended(put: Result<(), SinkFail>, status: Status) -> Status
+    ensures { result ≡ ended_of put status }
+{
+    match put {
+        Ok(()) => status,
+        Err(SinkFail::Failed) => Status::WriteFault,
+        Err(SinkFail::Memory(_)) => Status::Memory,
     }
 }

@@ -64,11 +64,11 @@ impl<'a, M: Moves, B: Bound, T: Ties> Task<'a, M, B, T> {
         let Some((_, to)) = self.m.at(node, i) else {
             return Ok(());
         };
-        if !self.m.is_open(node, i) {
-            return Ok(());
-        }
         let price = label.price + self.m.price(node, i);
         if !improves(price, table.get(to)) {
+            return Ok(());
+        }
+        if !self.m.is_open(node, i) {
             return Ok(());
         }
         let origin = Some(node);

@@ -13,11 +13,11 @@ pub returns-in-Err-TooManyNodes : goal.returns-in-Err-TooManyNodes
 returns-in-Err-TooManyNodes g c =
     let gives = rw c.in-Err-TooManyNodes.field-0-is at c.in-Err-TooManyNodes.ensures.lattice in
     rw c.ended.ensures (stopped (Ok (command_from c.args.asked)) _ _ _ _ _ Limit (nodes_line c.in-Err-TooManyNodes.count)
-    (inr (record {
+    (inr (inr (record {
       text = c.args.text.now;
       design = c.args.design.now;
       input = c.requires.input;
       reads = c.requires.reads;
       many = gives.1;
       line_is = ap nodes_line gives.0;
-    })) refl c.say_nodes.ensures)
+    }))) refl c.say_nodes.ensures)

@@ -1,15 +1,16 @@
-use Rattle.std.proofs.Common.{Ok, refl}
-use Rattle.dsn_route.specs.declared.status.Status.TheVariants.{Refused}
-use Rattle.dsn_route.specs.Answers.{refused_line}
+use Rattle.std.proofs.Common.{arith, sym}
 use Rattle.dsn_route.specs.Said.{command_from}
-use Rattle.dsn_route.proofs.Ended.{stopped}
-use Rattle.dsn_route.proofs.Plain.{design_plain}
+use Rattle.dsn_route.proofs.Plain.{plain_copper}
+use Rattle.dsn_route.proofs.Unread.{unread, lacks}
 use Rattle.dsn_route.proofs.route.route_text.Goals as goal
 
 pub route_design-requires-clause-plain : goal.route_design-requires-clause-plain
-route_design-requires-clause-plain g c = design_plain c.args.text.now c.in-Ok.design c.in-Ok.ensures.value
+route_design-requires-clause-plain g c = plain_copper c.in-Ok.design c.in-Ok.ensures.plain
 
-pub returns-in-Err-NotOfTheForm : goal.returns-in-Err-NotOfTheForm
-returns-in-Err-NotOfTheForm g c =
-    rw c.ended.ensures (stopped (Ok (command_from c.args.asked)) _ _ _ _ _ Refused (refused_line 21 0)
-    (record { text = c.args.text.now; number = 21; place = 0; input = c.requires.input; refused = record { no_design = (rw c.in-Err-NotOfTheForm.field-0-is at c.in-Err-NotOfTheForm.ensures).value; number_is = refl; place_is = refl }; line_is = refl }) refl c.say_refused.ensures)
+pub read_design-requires : goal.read_design-requires
+read_design-requires g c = omega (arith, c.requires.input.fits)
+
+pub returns-in-Some : goal.returns-in-Some
+returns-in-Some g c =
+    unread (command_from c.args.asked) _ _ _ _ c.args.text.now c.in-Some.refusal c.requires.input
+    (lacks c.args.text.now c.in-Err.fault c.in-Some.refusal c.in-Err.ensures.reads (sym c.in-Some.ensures)) c.end_refused.ensures

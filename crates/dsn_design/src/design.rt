@@ -1,0 +1,91 @@
+//! The reader of a design: tree, head, structure, library, placement, network and wiring, in this order.
+//! It answers the design of a text, or the first refusal of the first phase that has one.
+
+ghost use Rattle.std.specs.Prelude.{◌≡◌, ◌≢◌, ◌≤◌, ◌^◌, ◌∷◌, [], IfOk, alloc_error, length};
+ghost use Rattle.pcb_model.specs.Sound.{IsSound};
+ghost use Rattle.dsn_design.specs.Plain.{HasPlainCopper};
+ghost use Rattle.dsn_design.specs.Reading.{ReadsDesign, ReadsParts};
+ghost use Rattle.dsn_design.specs.Sound.{ArePartsSound, weight};
+
+use crate::board::make_design;
+use crate::parts::Parts;
+use dsn_library::read_library;
+use dsn_network::read_network;
+use dsn_placement::read_placement;
+use dsn_shapes::{DesignFault, ReadFault};
+use dsn_structure::{read_head, read_structure};
+use dsn_tree::{Tree, TreeFault, read_tree};
+use dsn_wiring::read_wiring;
+use pcb_model::Design;
+use std::alloc::Global;
+
+// What the sections of a tree hold.
+fn read_parts(alloc: Global, pcb: &Tree) -> Result<Parts, ReadFault>
+    requires { weight (pcb.now ∷ []) ≤ 2 ^ 26 }
+    ensures reads { ReadsParts pcb.now result }
+    ensures sound { IfOk result ArePartsSound }
+{
+    let head = match read_head(alloc, pcb) {
+        Ok(head) => head,
+        Err(fault) => return Err(fault),
+    };
+    let s = head.scale;
+    let structure = match read_structure(alloc, pcb, s) {
+        Ok(structure) => structure,
+        Err(fault) => return Err(fault),
+    };
+    let library = match read_library(alloc, pcb, s, &structure.layers) {
+        Ok(library) => library,
+        Err(fault) => return Err(fault),
+    };
+    let placing = match read_placement(alloc, pcb, s, &structure, &library) {
+        Ok(placing) => placing,
+        Err(fault) => return Err(fault),
+    };
+    let network = match read_network(alloc, pcb, s, &library, &placing) {
+        Ok(network) => network,
+        Err(fault) => return Err(fault),
+    };
+    let wiring = match read_wiring(alloc, pcb, s, &structure, &library, &placing, &network) {
+        Ok(wiring) => wiring,
+        Err(fault) => return Err(fault),
+    };
+    Ok(Parts {
+        head,
+        structure,
+        library,
+        placing,
+        network,
+        wiring,
+    })
+}
+
+/// The design of a text of at most 2^26 bytes. All lengths are in nm; indices count from 0.
+/// It is sound: its numbers are within bounds, its indices in range, and each pin has its pad.
+///
+/// # Errors
+///
+/// The fault of the text's tree that is met first, or the refusal that counts in the first phase that has one:
+/// head, structure, library, placement, network, wiring; or want of memory.
+pub fn read_design(alloc: Global, text: &[u8]) -> Result<Design, DesignFault>
+    requires { length text.now ≤ 2 ^ 26 }
+    ensures reads { ReadsDesign text.now result }
+    ensures memory { result ≢ Err (DesignFault.Spelling (TreeFault.Memory alloc_error)) }
+    ensures sound { IfOk result IsSound }
+    ensures plain { IfOk result HasPlainCopper }
+{
+    let tree = match read_tree(alloc, text) {
+        Ok(tree) => tree,
+        Err(TreeFault::Memory(error)) => return Err(DesignFault::Memory(error)),
+        Err(fault) => return Err(DesignFault::Spelling(fault)),
+    };
+    let parts = match read_parts(alloc, &tree) {
+        Ok(parts) => parts,
+        Err(ReadFault::Refused(refusal)) => return Err(DesignFault::Refused(refusal)),
+        Err(ReadFault::Memory(error)) => return Err(DesignFault::Memory(error)),
+    };
+    match make_design(alloc, &parts) {
+        Ok(design) => Ok(design),
+        Err(error) => Err(DesignFault::Memory(error)),
+    }
+}

@@ -1,0 +1,273 @@
+//! Keepouts and pins as fixed items: those of the structure, and component by component those of the images.
+//! Source: SPECCTRA reference, keepout, image and padstack descriptors.
+
+ghost use Rattle.std.specs.Prelude.{◌≡◌, ◌≤◌, ◌^◌, ◌++◌, map, All, IfOk, OnOk, if◌then◌else◌};
+ghost use Rattle.geo_kernel.specs.Spine.{IsSpineWithin};
+ghost use Rattle.dsn_shapes.specs.declared.parts.BanShape.{BanShape as TheBan};
+ghost use Rattle.dsn_shapes.specs.Within.{IsPinWithin};
+ghost use Rattle.dsn_design.specs.Fit.{ArePartsFit, IsPlaceWithin};
+ghost use Rattle.dsn_design.specs.Items.{ban_item, edge_item, items_from, next_number, numbered, numbered_from, pad_item, pad_kind, pad_pieces, pads_at, place_items, placed_ban, placed_items};
+ghost use Rattle.dsn_design.specs.Pins.{layer_count};
+
+use crate::copper::{add_pieces, shape_pieces};
+use crate::edges::{edge_item, fixed_item};
+use crate::parts::{Parts, layer_count};
+use crate::pins::{Board, image_bans, image_pins, index, is_placed, is_smd, net_of_pin, stand_of};
+use dsn_placement::{ban_copper, pin_copper};
+use dsn_shapes::{BanShape, ImagePin, LayerShape, PinRef, Place};
+use geo_kernel::List;
+use pcb_model::{Item, Kind, Metal, Piece};
+use std::alloc::{AllocError, Global};
+
+#[tactic(auto, unfolding(crate::specs::Items::ban_item))]
+fn ban_item(alloc: Global, n: u8, ban: &BanShape) -> Result<Item, AllocError>
+    requires { n ≤ 32 }
+    ensures { IfOk result (λ a. a ≡ ban_item n ban.now) }
+{
+    let mut pieces = List::new(alloc);
+    add_pieces(alloc, &mut pieces, n, &ban.shape)?;
+    let metal = Metal::Ban {
+        wires: ban.wires,
+        vias: ban.vias,
+    };
+    Ok(fixed_item(None, Kind::Area, metal, pieces))
+}
+
+/// Appends the edges of boundaries on a board of `n` layers.
+pub(crate) fn push_edges(
+    alloc: Global,
+    items: &mut List<Item>,
+    n: u8,
+    bounds: &[LayerShape],
+) -> Result<(), AllocError>
+    ensures { OnOk result (items.new ≡ items.old ++ map (edge_item n) bounds.now) }
+{
+    for bound in bounds {
+        items.push(edge_item(alloc, n, bound)?)?;
+    }
+    Ok(())
+}
+
+/// Appends the keepouts of the structure on a board of `n` layers.
+pub(crate) fn push_bans(
+    alloc: Global,
+    items: &mut List<Item>,
+    n: u8,
+    bans: &[BanShape],
+) -> Result<(), AllocError>
+    requires { n ≤ 32 }
+    ensures { OnOk result (items.new ≡ items.old ++ map (ban_item n) bans.now) }
+{
+    for ban in bans {
+        items.push(ban_item(alloc, n, ban)?)?;
+    }
+    Ok(())
+}
+
+// A keepout of an image where its component stands.
+#[tactic(auto, unfolding(crate::specs::Items::placed_ban))]
+fn placed_ban(
+    alloc: Global,
+    parts: &Parts,
+    place: &Place,
+    ban: &BanShape,
+) -> Result<Item, AllocError>
+    requires parts_fit { ArePartsFit parts.now }
+    requires place_within { IsPlaceWithin place.now }
+    requires ban_within { IsSpineWithin (2 ^ 29) ban.now.shape.spine }
+    ensures { IfOk result (λ a. a ≡ placed_ban parts.now place.now ban.now) }
+{
+    let n = layer_count(parts);
+    let stand = stand_of(parts.structure.flip_last, place);
+    let mut pieces = List::new(alloc);
+    if let Some(shape) = ban_copper(alloc, n as u32, stand, ban)? {
+        add_pieces(alloc, &mut pieces, n, &shape)?;
+    }
+    let metal = Metal::Ban {
+        wires: ban.wires,
+        vias: ban.vias,
+    };
+    Ok(fixed_item(None, Kind::Area, metal, pieces))
+}
+
+fn push_placed_bans(
+    alloc: Global,
+    items: &mut List<Item>,
+    parts: &Parts,
+    place: &Place,
+    bans: &[BanShape],
+) -> Result<(), AllocError>
+    requires parts_fit { ArePartsFit parts.now }
+    requires place_within { IsPlaceWithin place.now }
+    requires bans_within { All (λ (ban : TheBan). IsSpineWithin (2 ^ 29) ban.shape.spine) bans.now }
+    ensures { OnOk result (items.new ≡ items.old ++ map (placed_ban parts.now place.now) bans.now) }
+{
+    for ban in bans {
+        items.push(placed_ban(alloc, parts, place, ban)?)?;
+    }
+    Ok(())
+}
+
+#[tactic(auto, unfolding(crate::specs::Items::pad_pieces))]
+fn pad_pieces(
+    alloc: Global,
+    parts: &Parts,
+    place: &Place,
+    pin: &ImagePin,
+) -> Result<List<Piece>, AllocError>
+    requires parts_fit { ArePartsFit parts.now }
+    requires place_within { IsPlaceWithin place.now }
+    requires pin_within { IsPinWithin pin.now }
+    ensures { IfOk result (λ ps. ps ≡ pad_pieces parts.now place.now pin.now) }
+{
+    let n = layer_count(parts);
+    let stand = stand_of(parts.structure.flip_last, place);
+    match pin_copper(alloc, n as u32, stand, &parts.library.stacks, pin)? {
+        Some(shapes) => shape_pieces(alloc, n, shapes.as_slice()),
+        None => Ok(List::new(alloc)),
+    }
+}
+
+fn pad_kind(smd: bool) -> Kind
+    ensures { result ≡ pad_kind smd }
+{
+    if smd { Kind::Smd } else { Kind::Pin }
+}
+
+// The pad of a pin, which is pin `pin` of the design.
+#[tactic(auto, unfolding(crate::specs::Items::pad_item))]
+fn pad_item(
+    alloc: Global,
+    board: &Board,
+    place: &Place,
+    number: PinRef,
+    pin: u32,
+    image_pin: &ImagePin,
+) -> Result<Item, AllocError>
+    requires parts_fit { ArePartsFit board.now.parts.now }
+    requires place_within { IsPlaceWithin place.now }
+    requires pin_within { IsPinWithin image_pin.now }
+    ensures { IfOk result (λ a. a ≡ pad_item board.now.parts.now board.now.stacks.now number.place place.now number.pin pin image_pin.now) }
+{
+    let pieces = pad_pieces(alloc, board.parts, place, image_pin)?;
+    let net = net_of_pin(&board.owners, number);
+    let kind = pad_kind(is_smd(board.stacks, image_pin));
+    Ok(fixed_item(net, kind, Metal::Pad { pin }, pieces))
+}
+
+fn push_pads(
+    alloc: Global,
+    items: &mut List<Item>,
+    board: &Board,
+    place: &Place,
+    number: u32,
+    first: u32,
+    pins: &[ImagePin],
+) -> Result<(), AllocError>
+    requires parts_fit { ArePartsFit board.now.parts.now }
+    requires place_within { IsPlaceWithin place.now }
+    requires pins_within { All IsPinWithin pins.now }
+    ensures { OnOk result (items.new ≡ items.old ++ pads_at board.now.parts.now board.now.stacks.now number place.now 0 first pins.now) }
+{
+    let mut next: u32 = 0;
+    let mut count = first;
+    for pin in pins {
+        let number = PinRef {
+            place: number,
+            pin: next,
+        };
+        items.push(pad_item(alloc, board, place, number, count, pin)?)?;
+        next = next.saturating_add(1);
+        count = count.saturating_add(1);
+    }
+    Ok(())
+}
+
+fn push_placed(
+    alloc: Global,
+    items: &mut List<Item>,
+    board: &Board,
+    place: &Place,
+    number: u32,
+    first: u32,
+) -> Result<(), AllocError>
+    requires parts_fit { ArePartsFit board.now.parts.now }
+    requires place_within { IsPlaceWithin place.now }
+    ensures { OnOk result (items.new ≡ items.old ++ placed_items board.now.parts.now board.now.stacks.now number first place.now) }
+{
+    let lib = &board.parts.library;
+    push_placed_bans(alloc, items, board.parts, place, image_bans(lib, place))?;
+    push_pads(
+        alloc,
+        items,
+        board,
+        place,
+        number,
+        first,
+        image_pins(lib, place),
+    )
+}
+
+#[tactic(auto, unfolding(crate::specs::Items::place_items))]
+fn push_place(
+    alloc: Global,
+    items: &mut List<Item>,
+    board: &Board,
+    place: &Place,
+    number: u32,
+    first: u32,
+) -> Result<(), AllocError>
+    requires parts_fit { ArePartsFit board.now.parts.now }
+    requires place_within { IsPlaceWithin place.now }
+    ensures { OnOk result (items.new ≡ items.old ++ place_items board.now.parts.now board.now.stacks.now number first place.now) }
+{
+    if is_placed(place) {
+        push_placed(alloc, items, board, place, number, first)?;
+    }
+    Ok(())
+}
+
+fn next_number(parts: &Parts, number: u32, place: &Place) -> u32
+    requires { ArePartsFit parts.now }
+    ensures { result ≡ next_number parts.now number place.now }
+{
+    if is_placed(place) {
+        number.saturating_add(index(image_pins(&parts.library, place).len()))
+    } else {
+        number
+    }
+}
+
+/// Appends the keepouts and pins of the placed components.
+pub(crate) fn push_places(
+    alloc: Global,
+    items: &mut List<Item>,
+    board: &Board,
+    places: &[Place],
+) -> Result<(), AllocError>
+    requires parts_fit { ArePartsFit board.now.parts.now }
+    requires places_within { All IsPlaceWithin places.now }
+    ensures { OnOk result (items.new ≡ items.old ++ items_from board.now.parts.now board.now.stacks.now 0 0 places.now) }
+{
+    let mut number: u32 = 0;
+    let mut first: u32 = 0;
+    for place in places {
+        push_place(alloc, items, board, place, number, first)?;
+        first = next_number(board.parts, first, place);
+        number = number.saturating_add(1);
+    }
+    Ok(())
+}
+
+/// The items with ids that count up from 0.
+#[tactic(auto, unfolding(crate::specs::Items::numbered))]
+pub(crate) fn numbered(alloc: Global, items: List<Item>) -> Result<List<Item>, AllocError>
+    ensures { IfOk result (λ rs. rs ≡ numbered items) }
+{
+    let mut all = List::new(alloc);
+    for mut item in items.into_vec() {
+        item.id = all.len() as u64;
+        all.push(item)?;
+    }
+    Ok(all)
+}

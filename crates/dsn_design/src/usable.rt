@@ -1,0 +1,73 @@
+//! Which padstacks may be vias: those with copper on at least two layers, and at the origin on each of them.
+//! Source: SPECCTRA reference, padstack descriptor.
+
+ghost use Rattle.std.specs.Prelude.{◌≡◌, ◌≤◌, ◌↔◌, All, Any, IfOk, IsTrue, map};
+ghost use Rattle.pcb_model.specs.Bounds.{IsFit};
+ghost use Rattle.pcb_model.specs.Sound.{Covers, IsUsable, origin};
+ghost use Rattle.pcb_model.specs.declared.item.Piece.{Piece as ThePiece};
+ghost use Rattle.dsn_design.specs.Usable.{CoversOn, HasOther, IsCovered, IsElsewhere, origin_spine};
+
+use geo_kernel::{List, Point, Spine, spine_touch};
+use pcb_model::Piece;
+use std::alloc::{AllocError, Global};
+
+/// The origin as a chain of one point.
+pub(crate) fn origin_spine(alloc: Global) -> Result<Spine, AllocError>
+    ensures { IfOk result (λ s. s ≡ origin_spine) }
+{
+    let points = List::from_slice(alloc, &[Point { x: 0, y: 0 }])?;
+    Ok(Spine::Chain(points))
+}
+
+fn covers(centre: &Spine, p: &Piece) -> bool
+    requires centre_is { centre.now ≡ origin_spine }
+    requires fit { IsFit p.now }
+    ensures { IsTrue result ↔ Covers origin p.now }
+{
+    spine_touch(centre, &p.spine, p.width)
+}
+
+fn covers_on(centre: &Spine, layer: u8, p: &Piece) -> bool
+    requires centre_is { centre.now ≡ origin_spine }
+    requires fit { IsFit p.now }
+    ensures { IsTrue result ↔ CoversOn layer p.now }
+{
+    p.layer == layer && covers(centre, p)
+}
+
+fn is_covered(centre: &Spine, all: &[Piece], p: &Piece) -> bool
+    requires centre_is { centre.now ≡ origin_spine }
+    requires fit { All IsFit all.now }
+    ensures { IsTrue result ↔ IsCovered all.now p.now }
+{
+    all.iter().any(|r| covers_on(centre, p.layer, r))
+}
+
+fn are_covered(centre: &Spine, all: &[Piece]) -> bool
+    requires centre_is { centre.now ≡ origin_spine }
+    requires fit { All IsFit all.now }
+    ensures { IsTrue result ↔ All (IsCovered all.now) all.now }
+{
+    all.iter().all(|p| is_covered(centre, all, p))
+}
+
+fn has_other(all: &[Piece], p: &Piece) -> bool
+    ensures { IsTrue result ↔ HasOther all.now p.now }
+{
+    all.iter().any(|r| p.layer != r.layer)
+}
+
+fn has_two_layers(all: &[Piece]) -> bool
+    ensures { IsTrue result ↔ Any (HasOther all.now) all.now }
+{
+    all.iter().any(|p| has_other(all, p))
+}
+
+/// Whether these pieces of a padstack have copper on at least two layers, and at the origin on each of them.
+pub(crate) fn is_usable(centre: &Spine, pieces: &[Piece]) -> bool
+    requires centre_is { centre.now ≡ origin_spine }
+    requires fit { All IsFit pieces.now }
+    ensures { IsTrue result ↔ IsUsable pieces.now }
+{
+    has_two_layers(pieces) && are_covered(centre, pieces)
+}

@@ -1,0 +1,60 @@
+//! Texts without a design: their refusals by number, and the line of each.
+//! Where a refusal is of a limit that is passed, the line and the status are those of the limit.
+
+ghost use Rattle.std.specs.Prelude.{◌≡◌};
+ghost use Rattle.dsn_route.specs.Texts.{refusal_of, tree_refusal};
+ghost use Rattle.dsn_route.specs.Said.{EndsBy, due_of, line_of};
+
+use crate::Status;
+use crate::lines::{say_over, say_refused};
+use crate::status::ended;
+use desk_io::Sink;
+use dsn_shapes::{DesignFault, Refusal, refused};
+use dsn_tree::TreeFault;
+use std::alloc::Global;
+
+/// The number of the refusal for a limit that is passed.
+const LIMIT_NUMBER: u8 = 23;
+
+// The faults of a tree have the numbers 1 to 6; want of memory has none.
+fn tree_refusal(fault: &TreeFault) -> Option<Refusal>
+    ensures { result ≡ tree_refusal fault.now }
+{
+    match fault {
+        TreeFault::QuoteOpen { at } => Some(refused(1, *at)),
+        TreeFault::BadQuoteByte { at } => Some(refused(2, *at)),
+        TreeFault::Unclosed { at } => Some(refused(3, *at)),
+        TreeFault::Surplus { at } => Some(refused(4, *at)),
+        TreeFault::TooDeep { at } => Some(refused(5, *at)),
+        TreeFault::Empty => Some(refused(6, 0)),
+        TreeFault::Memory(_) => None,
+    }
+}
+
+/// The refusal of a text that has no design, or None where memory was wanting. Offsets count the bytes before.
+pub fn refusal_of(fault: &DesignFault) -> Option<Refusal>
+    ensures { result ≡ refusal_of fault.now }
+{
+    match fault {
+        DesignFault::Spelling(fault) => tree_refusal(fault),
+        DesignFault::Refused(refusal) => Some(*refusal),
+        DesignFault::Memory(_) => None,
+    }
+}
+
+/// Puts the line of a refusal, or that of the limit which it says is passed, and answers how the call ends.
+pub fn end_refused<R: Sink>(alloc: Global, refusal: Refusal, report: &mut R) -> Status
+    ensures { EndsBy (line_of refusal) (due_of refusal) (R.state report.old) (R.state report.new) result }
+{
+    if refusal.number == LIMIT_NUMBER {
+        ended(
+            say_over(alloc, refusal.what, refusal.limit, report),
+            Status::Limit,
+        )
+    } else {
+        ended(
+            say_refused(alloc, refusal.number, refusal.at, report),
+            Status::Refused,
+        )
+    }
+}

@@ -1,9 +1,0 @@
-mod Fitting
-mod GroupSteps
-mod Numbered
-mod Apart
-mod Whole
-mod Distinct
-mod Layers
-mod Printable
-mod Sound

@@ -1,9 +1,0 @@
-pub mod Spaced
-pub mod Pieces
-pub mod Parts
-pub mod Form
-pub mod Views
-pub mod Fault
-pub mod Board
-pub mod Bounds
-pub mod OneLayer

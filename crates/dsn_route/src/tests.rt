@@ -300,6 +300,20 @@ fn walks_keep_clear_of_keepouts_and_fixed_wires_on_all_layers(rt: HostRuntime) -
 const CUT_IN_QUOTES: &str =
     "(pcb \"K board.dsn\"\n  (parser (string_quote \") (space_in_quoted_tokens on)\n    (host_cad \"KiCad's ";
 
+// A text that ends within its placement.
+const CUT_IN_PLACEMENT: &str = "(pcb T
+  (parser (string_quote \") (host_cad KiCad) (host_version 8))
+  (resolution um 10)
+  (unit um)
+  (structure
+    (layer F.Cu (type signal))
+    (layer B.Cu (type signal))
+    (boundary (rect pcb 0 0 10000 10000))
+    (via V)
+    (rule (width 200) (clearance 200)))
+  (placement (component P
+  ";
+
 const DEEP: &str = "(((((((((((((((((((((((((((((((((((((((((((((((((((((((((((((((((";
 
 const MANY_LAYERS: &str =
@@ -314,6 +328,12 @@ fn texts_without_a_design_are_refused(rt: HostRuntime) -> Result<(), Fail> {
         (DEEP, "refused 5 at 64\n"),
         (CUT_IN_QUOTES, "refused 1 at 88\n"),
         ("(", "refused 3 at 0\n"),
+        ("(pcb ", "refused 3 at 0\n"),
+        (
+            "(pcb T\n  (parser (string_quote \") (host_",
+            "refused 3 at 34\n",
+        ),
+        (CUT_IN_PLACEMENT, "refused 3 at 284\n"),
         ("(pcb T\n  (parser (string_quote %", "refused 2 at 31\n"),
     ] {
         let (answer, desk, sink) = called(&rt, alloc, text, ROUTE.as_slice())?;
@@ -329,7 +349,12 @@ fn designs_that_break_a_rule_are_refused_and_a_passed_limit_is_said(
     rt: HostRuntime,
 ) -> Result<(), Fail> {
     let alloc = rt.alloc();
-    let cases: [(&[(&str, &str)], Status, &str); 4] = [
+    let cases: [(&[(&str, &str)], Status, &str); 5] = [
+        (
+            &[("(wiring))\n", "(wiring")],
+            Status::Refused,
+            "refused 3 at 588\n",
+        ),
         (
             &[("    (boundary (rect pcb 0 0 10000 10000))\n", "")],
             Status::Refused,

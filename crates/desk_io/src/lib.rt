@@ -9,8 +9,6 @@ mod gate;
 mod host;
 mod memory;
 mod sink;
-#[cfg(test)]
-mod tests;
 
 pub use calm::CalmDesk;
 pub use desk::{Desk, DeskFail, Sink, SinkFail};

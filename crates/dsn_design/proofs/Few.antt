@@ -11,7 +11,7 @@ use Rattle.dsn_shapes.specs.declared.parts.Placing.{Placing}
 use Rattle.dsn_shapes.specs.declared.parts.ReadClass.{ReadClass}
 use Rattle.dsn_shapes.specs.declared.parts.Structure.{Structure}
 use Rattle.dsn_shapes.specs.Lists.{lists, text_of}
-use Rattle.dsn_shapes.specs.Names.{names_at}
+use Rattle.dsn_shapes.specs.Names.{names_at, stack_names}
 use Rattle.dsn_structure.specs.Layout.{structure_of, structures, value_of as structure_value, via_lists as structure_via_lists, via_names, via_words}
 use Rattle.dsn_library.specs.Padstacks.{stack_of}
 use Rattle.dsn_library.specs.Pins.{pin_of}
@@ -21,7 +21,7 @@ use Rattle.dsn_placement.specs.Places.{places_in}
 use Rattle.dsn_placement.specs.Placing.{components, placing_of}
 use Rattle.dsn_placement.proofs.Sound.{places_count}
 use Rattle.dsn_network.specs.Words.{words_in}
-use Rattle.dsn_network.specs.Classes.{circuits_in, read_class_of, stack_names, via_lists, via_stack, vias_of}
+use Rattle.dsn_network.specs.Classes.{circuits_in, read_class_of, via_lists, via_stack, vias_of}
 use Rattle.dsn_network.specs.Nets.{net_of}
 use Rattle.dsn_network.specs.Whole.{class_lists, net_lists, network_of, value_of}
 use Rattle.dsn_design.specs.Sound.{weight}

@@ -4,6 +4,7 @@ pub mod Laid
 pub mod Got
 pub mod Making
 pub mod Phases
+pub mod Tabled
 pub mod Counted
 pub mod Few
 pub mod Stands

@@ -1,5 +1,5 @@
 -- A text has one design, one fault of its tree or one refusal, and only one of these.
-use Rattle.std.proofs.Common.{◌≡◌, ◌⊎◌, ◌∙◌, refl, sym, ap, subst, inl, inr, ℕ, Bool, true, false, List, [], ◌∷◌, Option, Some, None, unwrap_or, Ok, Err, IsTrue, true≢false, ◌↔◌}
+use Rattle.std.proofs.Common.{◌≡◌, ◌⊎◌, ◌∙◌, refl, sym, ap, subst, inl, inr, ℕ, Bool, true, false, List, [], ◌∷◌, Option, Some, None, unwrap_or, Ok, IsTrue, true≢false, ◌↔◌}
 use Rattle.std.proofs.lemmas.Option.{none-some}
 use Rattle.pcb_model.specs.declared.design.Design.{Design}
 use Rattle.pcb_model.specs.declared.design.Padstack.{Padstack}
@@ -24,11 +24,10 @@ use Rattle.dsn_network.specs.Whole.{network_of, network_refusals}
 use Rattle.dsn_wiring.specs.Whole.{wiring_of, wiring_refusals}
 use Rattle.dsn_design.specs.declared.parts.Parts.{Parts}
 use Rattle.dsn_design.specs.Copper.{stack_pieces}
-use Rattle.dsn_design.specs.Items.{fixed_items, free_wiring}
 use Rattle.dsn_design.specs.Made.{ArePadstacksOf, IsDesignOf, design_from, design_with}
 use Rattle.dsn_design.specs.Pins.{layer_count}
 use Rattle.dsn_design.specs.Usable.{AreUsable, padstacks_of, usables}
-use Rattle.dsn_design.specs.Reading.{ArePartsOf, FirstRefusal, in_head, in_structure, in_library, in_placement, in_network, in_wiring, HasDesign, HasRefusal, OneOutcome, ReadsHead, ReadsStructure, ReadsLibrary, ReadsPlacing, ReadsNetwork, ReadsWiring}
+use Rattle.dsn_design.specs.Reading.{ArePartsOf, FirstRefusal, in_head, in_structure, in_library, in_placement, in_network, in_wiring, HasDesign, HasRefusal, OneOutcome, ReadsHead, ReadsStructure, ReadsLibrary, ReadsPlacing, ReadsNetwork}
 
 one_refusal : (r s : Refusal) (o : Option Refusal) → o ≡ Some r → o ≡ Some s → r ≡ s
 one_refusal r s o first second = ap (λ (p : Option Refusal). unwrap_or p r) (sym first ∙ second)

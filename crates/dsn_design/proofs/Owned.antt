@@ -21,7 +21,7 @@ use Rattle.dsn_shapes.proofs.Fits.{pairs_to_map}
 use Rattle.dsn_network.specs.Nets.{first_net, has_pin, is_pin}
 use Rattle.dsn_network.specs.Owners.{pins_of}
 use Rattle.dsn_network.specs.Sound.{IsImagePin, IsNetworkSound, IsPlacedPin, IsReadNetSound}
-use Rattle.dsn_wiring.specs.Nets.{index}
+use Rattle.dsn_shapes.specs.Names.{place_index}
 use Rattle.dsn_design.specs.declared.parts.Parts.{Parts}
 use Rattle.dsn_design.specs.Pins.{all_pins, first_pins, image_pins, is_placed, net_of_pin, pin_number, pin_ref}
 use Rattle.dsn_design.proofs.Numbered.{nets_are, number_is, ref_is_there, refs_from}
@@ -116,13 +116,13 @@ owner_is nets n net r few apart e c =
     (λ j ps l f. let m = mapped net_pins (slice_get nets j) ps (sym (slice_get-map net_pins nets j) ∙ f) in
     has_none r ps (λ d. pair_at (λ (a b : ReadNet). (r : PinRef) → Contains a.pins r → Contains b.pins r → ⊥) nets j n m.from net apart l m.from_is e r (subst (λ qs. Contains qs r) (sym m.to_is) d) c)) in
     let below = slice_get_within nets n net e in
-    let same : index (0 + n) ≡ n = omega arith in
-    ap (option_map index) place ∙ ap (λ (m : ℕ). Some m) same
+    let same : place_index (0 + n) ≡ n = omega arith in
+    ap (option_map place_index) place ∙ ap (λ (m : ℕ). Some m) same
 
 owner_then : (nets : List ReadNet) (n : ℕ) (net : ReadNet) (r : PinRef) → length nets ≤ 2 ^ 32 → slice_get nets n ≡ Some net → net_of_pin nets r ≡ Some n → Contains net.pins r
 unfolding net_of_pin first_net
 owner_then nets n net r few e h =
-    let m = mapped index (first_net r (pins_of nets)) n h in
+    let m = mapped place_index (first_net r (pins_of nets)) n h in
     let f = found_at (has_pin r) (pins_of nets) 0 m.from m.from_is in
     let g = mapped net_pins (slice_get nets f.k) f.x (sym (slice_get-map net_pins nets f.k) ∙ f.there) in
     let below = slice_get_within nets f.k g.from g.from_is in

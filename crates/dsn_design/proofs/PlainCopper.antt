@@ -13,6 +13,7 @@ use Rattle.pcb_model.specs.declared.item.Metal.{Metal}
 use Rattle.pcb_model.specs.declared.item.Metal.TheVariants.{Wire, Via, Pad, Ban}
 use Rattle.pcb_model.specs.declared.design.Design.{Design}
 use Rattle.pcb_model.specs.declared.design.Padstack.{Padstack}
+use Rattle.pcb_model.specs.Plain.{IsPlain, IsPlainCopper, IsPlainItem}
 use Rattle.pcb_model.specs.Pieces.{moved_piece, pieces_in, wire_piece}
 use Rattle.pcb_model.proofs.Within.{All-at}
 use Rattle.dsn_shapes.specs.declared.parts.BanShape.{BanShape}
@@ -31,7 +32,6 @@ use Rattle.dsn_design.specs.Copper.{piece_on, pieces_of, stack_pieces}
 use Rattle.dsn_design.specs.Items.{ban_item, edge_item, numbered_from, pad_item, pad_pieces, placed_ban, wiring_item, wiring_pieces, with_id}
 use Rattle.dsn_design.specs.Made.{ArePadstacksOf, IsDesignOf, design_from, design_with}
 use Rattle.dsn_design.specs.Pins.{image_bans, layer_count}
-use Rattle.dsn_design.specs.Plain.{HasPlainCopper, IsPlain, IsPlainIfNet}
 use Rattle.dsn_design.specs.Usable.{usables}
 use Rattle.dsn_design.proofs.Padstacks.{each_padstack}
 use Rattle.dsn_design.proofs.FixedItems.{all_made, fixed_all, unnumbered}
@@ -61,17 +61,17 @@ unfolding design_with
 padstacks_plain parts stacks own lib = stacks_plain parts stacks own lib
 
 -- ---- items
-edge_plain : (n : ℕ) (s : LayerShape) → IsPlainIfNet (edge_item n s)
+edge_plain : (n : ℕ) (s : LayerShape) → IsPlainItem (edge_item n s)
 unfolding edge_item
-edge_plain n s net e = absurd (cc)
+edge_plain n s = record { plain = λ net e. absurd (cc) }
 
-ban_plain : (n : ℕ) (b : BanShape) → IsPlainIfNet (ban_item n b)
+ban_plain : (n : ℕ) (b : BanShape) → IsPlainItem (ban_item n b)
 unfolding ban_item
-ban_plain n b net e = absurd (cc)
+ban_plain n b = record { plain = λ net e. absurd (cc) }
 
-placed_ban_plain : (parts : Parts) (p : Place) (b : BanShape) → IsPlainIfNet (placed_ban parts p b)
+placed_ban_plain : (parts : Parts) (p : Place) (b : BanShape) → IsPlainItem (placed_ban parts p b)
 unfolding placed_ban
-placed_ban_plain parts p b net e = absurd (cc)
+placed_ban_plain parts p b = record { plain = λ net e. absurd (cc) }
 
 plain_given : (o : Option (List LayerShape)) → ((ss : List LayerShape) → o ≡ Some ss → All IsPlainShape ss) → All IsPlainShape (unwrap_or o [])
 plain_given None h = All-nil IsPlainShape
@@ -86,9 +86,9 @@ pieces_plain parts lib p i =
     let plain = stack_shapes_all IsPlainShape stacks i (All-weaker IsStackSound (λ (s : Stack). All IsPlainShape s.shapes) (λ s h. h.shapes_plain) stacks lib.stacks) in
     shapes_plain n (unwrap_or (pin_copper n stand stacks i) []) (plain_given (pin_copper n stand stacks i) (λ ss f. pin_plain n stand stacks i ss plain f))
 
-pad_plain : (parts : Parts) (stacks : List Padstack) → IsLibrarySound parts.library → (place : ℕ) (p : Place) (pin number : ℕ) (i : ImagePin) → IsPlainIfNet (pad_item parts stacks place p pin number i)
+pad_plain : (parts : Parts) (stacks : List Padstack) → IsLibrarySound parts.library → (place : ℕ) (p : Place) (pin number : ℕ) (i : ImagePin) → IsPlainItem (pad_item parts stacks place p pin number i)
 unfolding pad_item
-pad_plain parts stacks lib place p pin number i net e = pieces_plain parts lib p i
+pad_plain parts stacks lib place p pin number i = record { plain = λ net e. pieces_plain parts lib p i }
 
 moved_plain : (at : Point) (s : Spine) → IsSimple s → IsSimple (moved_spine at s)
 moved_plain at (Chain ps) h = tt
@@ -106,15 +106,15 @@ copper_plain stacks (Via v at) h = via_plain at (slice_get stacks v) (All-at (λ
 copper_plain stacks (Pad pin) h = All-nil IsPlain
 copper_plain stacks (Ban wires vias) h = All-nil IsPlain
 
-wire_plain : (stacks : List Padstack) → All (λ (s : Padstack). All IsPlain s.pieces) stacks → (w : ReadWire) → IsPlainIfNet (wiring_item stacks w)
+wire_plain : (stacks : List Padstack) → All (λ (s : Padstack). All IsPlain s.pieces) stacks → (w : ReadWire) → IsPlainItem (wiring_item stacks w)
 unfolding wiring_item
-wire_plain stacks h w net e = copper_plain stacks w.metal h
+wire_plain stacks h w = record { plain = λ net e. copper_plain stacks w.metal h }
 
-all_plain : (parts : Parts) (stacks : List Padstack) → ArePadstacksOf parts stacks → IsLibrarySound parts.library → All IsPlainIfNet (unnumbered parts stacks)
+all_plain : (parts : Parts) (stacks : List Padstack) → ArePadstacksOf parts stacks → IsLibrarySound parts.library → All IsPlainItem (unnumbered parts stacks)
 all_plain parts stacks own lib =
     let n = layer_count parts in
     let plain = stacks_plain parts stacks own lib in
-    fixed_all IsPlainIfNet parts stacks
+    fixed_all IsPlainItem parts stacks
     (λ k d l. edge_plain n (get_or parts.structure.bounds k d))
     (λ k d l. ban_plain n (get_or parts.structure.bans k d))
     (record {
@@ -123,17 +123,17 @@ all_plain parts stacks own lib =
     })
     (λ k d l. wire_plain stacks plain (get_or parts.wiring.wires k d))
 
-numbered_plain : (id : ℕ) (items : List Item) → All IsPlainIfNet items → All IsPlainIfNet (numbered_from id items)
-numbered_plain id [] h = All-nil IsPlainIfNet
-numbered_plain id (a ∷ items) h = All-cons IsPlainIfNet (with_id id a) (numbered_from (id + 1) items) (All-head IsPlainIfNet a items h) (numbered_plain (id + 1) items (All-tail IsPlainIfNet a items h))
+numbered_plain : (id : ℕ) (items : List Item) → All IsPlainItem items → All IsPlainItem (numbered_from id items)
+numbered_plain id [] h = All-nil IsPlainItem
+numbered_plain id (a ∷ items) h = All-cons IsPlainItem (with_id id a) (numbered_from (id + 1) items) (record { plain = (All-head IsPlainItem a items h).plain }) (numbered_plain (id + 1) items (All-tail IsPlainItem a items h))
 
 -- the pieces of a fixed item that has a net are plain
-pub fixed_plain : (parts : Parts) (stacks : List Padstack) → ArePadstacksOf parts stacks → IsLibrarySound parts.library → All IsPlainIfNet (design_from parts stacks).fixed
-fixed_plain parts stacks own lib = subst (All IsPlainIfNet) (sym (fixed_are parts stacks)) (numbered_plain 0 (unnumbered parts stacks) (all_plain parts stacks own lib))
+pub fixed_plain : (parts : Parts) (stacks : List Padstack) → ArePadstacksOf parts stacks → IsLibrarySound parts.library → All IsPlainItem (design_from parts stacks).fixed
+fixed_plain parts stacks own lib = subst (All IsPlainItem) (sym (fixed_are parts stacks)) (numbered_plain 0 (unnumbered parts stacks) (all_plain parts stacks own lib))
 
 -- a design of a sound library has plain copper
-pub design_plain : (parts : Parts) (d : Design) → IsLibrarySound parts.library → IsDesignOf parts d → HasPlainCopper d
-design_plain parts d lib h = subst HasPlainCopper (sym h.design) (record {
+pub design_plain : (parts : Parts) (d : Design) → IsLibrarySound parts.library → IsDesignOf parts d → IsPlainCopper d
+design_plain parts d lib h = subst IsPlainCopper (sym h.design) (record {
   padstacks = padstacks_plain parts d.padstacks h.padstacks lib;
   fixed = fixed_plain parts d.padstacks h.padstacks lib;
 })

@@ -31,7 +31,7 @@ use Rattle.dsn_shapes.specs.Fits.{IsArea, IsBoundShape}
 use Rattle.dsn_shapes.proofs.Fits.{pairs_to_map}
 use Rattle.dsn_library.specs.Sound.{IsImageSound, IsStackSound}
 use Rattle.dsn_network.specs.Sound.{IsReadClassSound, IsReadNetSound}
-use Rattle.dsn_wiring.specs.Vias.{stack_names}
+use Rattle.dsn_shapes.specs.Names.{stack_names}
 use Rattle.dsn_design.specs.declared.parts.Parts.{Parts}
 use Rattle.dsn_design.specs.Fit.{IsStackFit}
 use Rattle.dsn_design.specs.Items.{fixed_items, free_wiring, loops_of}

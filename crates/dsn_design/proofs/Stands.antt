@@ -25,7 +25,7 @@ use Rattle.dsn_placement.specs.Sound.{IsPlaceSound, placed_pins}
 use Rattle.dsn_placement.proofs.Fits.{centre_within}
 use Rattle.dsn_network.specs.Nets.{first_net, has_pin}
 use Rattle.dsn_network.specs.Owners.{pins_of}
-use Rattle.dsn_wiring.specs.Nets.{index}
+use Rattle.dsn_shapes.specs.Names.{place_index}
 use Rattle.dsn_design.specs.declared.parts.Parts.{Parts}
 use Rattle.dsn_design.specs.Pins.{all_pins, centre_of, component_of, components_of, image_pins, is_placed, net_of_pin, next_component, pin_of, pin_ref, pins_at, pins_from, place_pins, plus}
 
@@ -111,7 +111,7 @@ centre_near : (flip_last : Bool) (p : Place) (i : ImagePin) → IsWithin (2 ^ 29
 unfolding centre_of
 centre_near flip_last p i = or_origin (pin_centre (stand_of flip_last p) i) (centre_within (stand_of flip_last p) i)
 
-index_below : (o : Option ℕ) (n : ℕ) → ((k : ℕ) → o ≡ Some k → k < n) → IfSome (option_map index o) (λ m. m < n)
+index_below : (o : Option ℕ) (n : ℕ) → ((k : ℕ) → o ≡ Some k → k < n) → IfSome (option_map place_index o) (λ m. m < n)
 index_below None n h = tt
 index_below (Some k) n h = let f : k < n = h k refl in omega arith
 

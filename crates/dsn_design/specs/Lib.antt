@@ -2,9 +2,9 @@ pub mod Copper
 pub mod Usable
 pub mod Fit
 pub mod Sound
-pub mod Plain
 pub mod Pins
 pub mod Nets
 pub mod Items
 pub mod Made
 pub mod Reading
+pub mod Refused

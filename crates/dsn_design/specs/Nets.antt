@@ -7,14 +7,12 @@ use Rattle.pcb_model.specs.declared.design.RuleSet.{RuleSet}
 use Rattle.dsn_shapes.specs.declared.parts.ReadNet.{ReadNet}
 use Rattle.dsn_shapes.specs.declared.parts.ReadClass.{ReadClass}
 use Rattle.dsn_shapes.specs.declared.parts.Stack.{Stack}
-use Rattle.dsn_shapes.specs.Names.{first_place}
-use Rattle.dsn_wiring.specs.Nets.{index}
-use Rattle.dsn_wiring.specs.Vias.{stack_names}
+use Rattle.dsn_shapes.specs.Names.{first_place, place_index, stack_names}
 use Rattle.dsn_design.specs.Pins.{pin_number}
 
 -- the padstacks of names that the library has
 abbrev pub stack_number : List (List ℕ) → List ℕ → ℕ
-stack_number known name = index (unwrap_or (first_place name known) 0)
+stack_number known name = place_index (unwrap_or (first_place name known) 0)
 
 unfoldable pub stack_numbers : List Stack → List (List ℕ) → List ℕ
 stack_numbers stacks names = map (stack_number (stack_names stacks)) names

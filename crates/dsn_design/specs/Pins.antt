@@ -18,7 +18,7 @@ use Rattle.dsn_shapes.specs.declared.parts.ReadNet.{ReadNet}
 use Rattle.dsn_placement.specs.Copper.{pin_centre, stand_of}
 use Rattle.dsn_network.specs.Nets.{first_net}
 use Rattle.dsn_network.specs.Owners.{pins_of}
-use Rattle.dsn_wiring.specs.Nets.{index}
+use Rattle.dsn_shapes.specs.Names.{place_index}
 use Rattle.dsn_design.specs.declared.parts.Parts.{Parts}
 
 abbrev pub layer_count : Parts → ℕ
@@ -54,7 +54,7 @@ pin_ref place pin = record { place = place; pin = pin }
 
 -- the net that names the pin
 unfoldable pub net_of_pin : List ReadNet → PinRef → Option ℕ
-net_of_pin nets r = option_map index (first_net r (pins_of nets))
+net_of_pin nets r = option_map place_index (first_net r (pins_of nets))
 
 unfoldable pub centre_of : Bool → Place → ImagePin → Point
 centre_of flip_last p pin = unwrap_or (pin_centre (stand_of flip_last p) pin) origin

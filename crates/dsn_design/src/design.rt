@@ -3,8 +3,10 @@
 
 ghost use Rattle.std.specs.Prelude.{◌≡◌, ◌≢◌, ◌≤◌, ◌^◌, ◌∷◌, [], IfOk, alloc_error, length};
 ghost use Rattle.pcb_model.specs.Sound.{IsSound};
-ghost use Rattle.dsn_design.specs.Plain.{HasPlainCopper};
+ghost use Rattle.pcb_model.specs.Plain.{IsPlainCopper};
+ghost use Rattle.dsn_shapes.specs.Tabled.{IsTabled};
 ghost use Rattle.dsn_design.specs.Reading.{ReadsDesign, ReadsParts};
+ghost use Rattle.dsn_design.specs.Refused.{IfRefused};
 ghost use Rattle.dsn_design.specs.Sound.{ArePartsSound, weight};
 
 use crate::board::make_design;
@@ -70,9 +72,10 @@ fn read_parts(alloc: Global, pcb: &Tree) -> Result<Parts, ReadFault>
 pub fn read_design(alloc: Global, text: &[u8]) -> Result<Design, DesignFault>
     requires { length text.now ≤ 2 ^ 26 }
     ensures reads { ReadsDesign text.now result }
+    ensures tabled { IfRefused result IsTabled }
     ensures memory { result ≢ Err (DesignFault.Spelling (TreeFault.Memory alloc_error)) }
     ensures sound { IfOk result IsSound }
-    ensures plain { IfOk result HasPlainCopper }
+    ensures plain { IfOk result IsPlainCopper }
 {
     let tree = match read_tree(alloc, text) {
         Ok(tree) => tree,

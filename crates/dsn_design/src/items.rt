@@ -12,9 +12,9 @@ ghost use Rattle.dsn_design.specs.Pins.{layer_count};
 use crate::copper::{add_pieces, shape_pieces};
 use crate::edges::{edge_item, fixed_item};
 use crate::parts::{Parts, layer_count};
-use crate::pins::{Board, image_bans, image_pins, index, is_placed, is_smd, net_of_pin, stand_of};
+use crate::pins::{Board, image_bans, image_pins, is_placed, is_smd, net_of_pin, stand_of};
 use dsn_placement::{ban_copper, pin_copper};
-use dsn_shapes::{BanShape, ImagePin, LayerShape, PinRef, Place};
+use dsn_shapes::{BanShape, ImagePin, LayerShape, PinRef, Place, place_index};
 use geo_kernel::List;
 use pcb_model::{Item, Kind, Metal, Piece};
 use std::alloc::{AllocError, Global};
@@ -232,7 +232,7 @@ fn next_number(parts: &Parts, number: u32, place: &Place) -> u32
     ensures { result ≡ next_number parts.now number place.now }
 {
     if is_placed(place) {
-        number.saturating_add(index(image_pins(&parts.library, place).len()))
+        number.saturating_add(place_index(image_pins(&parts.library, place).len()))
     } else {
         number
     }

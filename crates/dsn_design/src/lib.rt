@@ -12,8 +12,6 @@ mod nets;
 mod parts;
 mod pins;
 mod stacks;
-#[cfg(test)]
-mod tests;
 mod usable;
 mod wiring;
 

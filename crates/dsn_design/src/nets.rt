@@ -3,13 +3,12 @@
 
 ghost use Rattle.std.specs.Prelude.{◌≡◌, ◌++◌, filter, map, sum_by, count_by, not, IfOk};
 ghost use Rattle.dsn_shapes.specs.Lists.{capped};
-ghost use Rattle.dsn_wiring.specs.Vias.{stack_names};
+ghost use Rattle.dsn_shapes.specs.Names.{stack_names};
 ghost use Rattle.dsn_design.specs.Nets.{class_rules, class_vias, is_usable_at, net_of, stack_number, stack_numbers, unusable_in, unusable_of_class, usable_of, via_list, via_notes};
 ghost use Rattle.dsn_design.specs.Pins.{pin_number};
 
-use crate::pins::{index, pin_number};
-use dsn_shapes::{NameIndex, PinRef, ReadClass, ReadNet, Stack};
-use dsn_wiring::stack_names;
+use crate::pins::pin_number;
+use dsn_shapes::{NameIndex, PinRef, ReadClass, ReadNet, Stack, names_of, place_index};
 use geo_kernel::{List, Name};
 use pcb_model::{Net, Padstack, RuleSet};
 use std::alloc::{AllocError, Global};
@@ -17,7 +16,7 @@ use std::alloc::{AllocError, Global};
 fn stack_number(known: &NameIndex, name: &[u8]) -> u32
     ensures { result ≡ stack_number known.now name.now }
 {
-    index(known.first_place(name).unwrap_or(0))
+    place_index(known.first_place(name).unwrap_or(0))
 }
 
 fn numbers_of(alloc: Global, known: &NameIndex, names: &[Name]) -> Result<List<u32>, AllocError>
@@ -39,7 +38,7 @@ pub(crate) fn stack_numbers(
 ) -> Result<List<u32>, AllocError>
     ensures { IfOk result (λ ns. ns ≡ stack_numbers stacks.now names.now) }
 {
-    let known = stack_names(alloc, stacks)?;
+    let known = names_of(alloc, stacks.as_slice())?;
     numbers_of(alloc, &known, names)
 }
 

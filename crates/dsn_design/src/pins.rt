@@ -15,17 +15,10 @@ ghost use Rattle.dsn_design.specs.Pins.{all_pins, centre_of, component_of, compo
 use crate::parts::Parts;
 use dsn_network::Owners;
 use dsn_placement::{Stand, pin_centre};
-use dsn_shapes::{BanShape, ImagePin, Library, PinRef, Place};
+use dsn_shapes::{BanShape, ImagePin, Library, PinRef, Place, place_index};
 use geo_kernel::{List, Point};
 use pcb_model::{Component, Padstack, Piece, Pin};
 use std::alloc::{AllocError, Global};
-
-/// A place as an index, which ends at 2^32 - 1.
-pub(crate) fn index(place: usize) -> u32
-    ensures { result ≡ min place (2 ^ 32 - 1) }
-{
-    place.min(0xFFFF_FFFF) as u32
-}
 
 pub(crate) fn is_placed(place: &Place) -> bool
     ensures { result ≡ is_placed place.now }
@@ -119,10 +112,10 @@ pub(crate) fn stand_of(flip_last: bool, place: &Place) -> Stand
 /// The net that names a pin.
 #[tactic(auto, unfolding(crate::specs::Pins::net_of_pin))]
 pub(crate) fn net_of_pin(owners: &Owners, pin: PinRef) -> Option<u32>
-    ensures { result ≡ net_of_pin owners.now.nets.now pin }
+    ensures { result ≡ net_of_pin owners.now pin }
 {
     match owners.net_of(pin) {
-        Some(net) => Some(index(net)),
+        Some(net) => Some(place_index(net)),
         None => None,
     }
 }
@@ -168,7 +161,7 @@ pub(crate) struct Board<'a> {
     pub(crate) parts: &'a Parts,
     pub(crate) owners: Owners<'a>,
     pub(crate) stacks: &'a List<Padstack>,
-    ghost owned: { owners.nets.now ≡ parts.now.network.nets },
+    ghost owned: { owners ≡ parts.now.network.nets },
 }
 
 #[tactic(auto, unfolding(crate::specs::Pins::pin_of))]
@@ -280,7 +273,7 @@ fn pin_count(lib: &Library, place: &Place) -> u32
         return 0;
     }
     match lib.images.get(place.image as usize) {
-        Some(image) => index(image.pins.len()),
+        Some(image) => place_index(image.pins.len()),
         None => 0,
     }
 }

@@ -16,7 +16,7 @@ use Rattle.dsn_shapes.specs.Shapes.{ban_of, ban_refusals, held_shape, refusals_i
 use Rattle.dsn_shapes.specs.Fits.{IsPlainShape, IsShapeFit}
 use Rattle.dsn_shapes.proofs.Fits.{back_nil, ban_fit, each_fit, first_below, front_nil, held_fit, held_plain, name_printable, named_differ, none_left}
 use Rattle.dsn_library.specs.Padstacks.{shapes_in, stack_of, stack_refusals, stacks_refusals}
-use Rattle.dsn_library.specs.Pins.{index_at, pin_of, pin_refusals, pin_stack, unknown_at, unknown_stack}
+use Rattle.dsn_library.specs.Pins.{stack_at, pin_of, pin_refusals, pin_stack, unknown_at, unknown_stack}
 use Rattle.dsn_library.specs.Images.{image_of, image_refusals, images_refusals, keepouts_in, pins_in, pins_refusals}
 use Rattle.dsn_library.specs.Whole.{images, libraries, library_left_out, library_of, library_refusals, padstacks}
 use Rattle.dsn_library.specs.Sound.{IsImagePinSound, IsImageSound, IsLibrarySound, IsStackSound}
@@ -38,7 +38,7 @@ unfolding stack_of
 stack_named nm layers t = refl
 
 -- ---- pins
-known_at : (at : ℕ) (o : Option ℕ) (len : ℕ) → ((n : ℕ) → o ≡ Some n → n < len) → unknown_at at o ≡ [] → index_at o < len
+known_at : (at : ℕ) (o : Option ℕ) (len : ℕ) → ((n : ℕ) → o ≡ Some n → n < len) → unknown_at at o ≡ [] → stack_at o < len
 known_at at None len h e = cc
 known_at at (Some n) len h e = let f : n < len = h n refl in omega arith
 

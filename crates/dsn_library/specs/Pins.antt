@@ -1,5 +1,5 @@
 -- Pins of an image, such as `(pin PAD (rotate 90) 1 0 0)`: padstack, angle, name and place.
-use Rattle.std.specs.Prelude.{◌^◌, ◌-◌, ◌++◌, [], ◌∷◌, ℕ, List, Option, Some, None, codes, min, unwrap_or}
+use Rattle.std.specs.Prelude.{◌++◌, [], ◌∷◌, ℕ, List, Option, Some, None, codes, unwrap_or}
 use Rattle.std.specs.Option.{option_map_or}
 use Rattle.dsn_tree.specs.declared.tree.Tree.{Tree}
 use Rattle.dsn_tree.specs.Heads.{child}
@@ -11,7 +11,7 @@ use Rattle.dsn_shapes.specs.Refusals.{refused}
 use Rattle.dsn_shapes.specs.Lists.{at_of, nth_word, name_of, place_of}
 use Rattle.dsn_shapes.specs.Numbers.{coord_at, coord_refusal}
 use Rattle.dsn_shapes.specs.Angles.{word_angle, word_angle_refusal, no_turn}
-use Rattle.dsn_shapes.specs.Names.{first_place}
+use Rattle.dsn_shapes.specs.Names.{first_place, place_index}
 
 -- ---- angles
 -- the degrees of a list such as `(rotate 180)`, where they are wanted
@@ -29,13 +29,12 @@ unfoldable pub rotation_refusals : Tree → List Refusal
 rotation_refusals t = option_map_or degrees_refusals (child t (codes "rotate")) []
 
 -- ---- padstacks, which have these names; a pin may name one that stands behind it
--- a place as an index, which ends at 2^32 - 1
-abbrev pub index_at : Option ℕ → ℕ
-index_at None = 0
-index_at (Some n) = min n (2 ^ 32 - 1)
+abbrev pub stack_at : Option ℕ → ℕ
+stack_at None = 0
+stack_at (Some n) = place_index n
 
 unfoldable pub pin_stack : List (List ℕ) → Tree → ℕ
-pin_stack stacks t = index_at (first_place (name_of t 1) stacks)
+pin_stack stacks t = stack_at (first_place (name_of t 1) stacks)
 
 abbrev pub unknown_at : ℕ → Option ℕ → List Refusal
 unknown_at at None = refused 14 at ∷ []

@@ -6,7 +6,5 @@ mod image;
 mod library;
 mod padstack;
 mod pin;
-#[cfg(test)]
-mod tests;
 
 pub use library::read_library;

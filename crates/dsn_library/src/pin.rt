@@ -1,14 +1,14 @@
 //! Pins of an image: padstack, angle, name and place.
 //! Source: SPECCTRA reference, pin descriptor of an image; rotation in degrees counter-clockwise.
 
-ghost use Rattle.std.specs.Prelude.{◌≡◌, ◌^◌, ◌-◌, min};
+ghost use Rattle.std.specs.Prelude.{◌≡◌};
 ghost use Rattle.dsn_shapes.specs.Refusals.{noted};
 ghost use Rattle.dsn_shapes.specs.Angles.{no_turn};
 ghost use Rattle.dsn_library.specs.Pins.{degrees_in, degrees_refusals, pin_place, pin_place_refusals, pin_stack, rotation_of, rotation_refusals, unknown_stack};
 
 use dsn_shapes::{
     ImagePin, NameIndex, Part, Refusal, angle_in, at_of, coord_at, name_of, note, nth_word,
-    place_of, refused,
+    place_index, place_of, refused,
 };
 use dsn_tree::{Tree, child};
 use dsn_units::{Angle, Scale};
@@ -50,12 +50,6 @@ fn rotation_of(first: &mut Option<Refusal>, pin: &Tree) -> Angle
     }
 }
 
-fn index_at(place: usize) -> u32
-    ensures { result ≡ min place (2 ^ 32 - 1) }
-{
-    place.min(0xFFFF_FFFF) as u32
-}
-
 // The index of a pin's padstack.
 #[tactic(auto, unfolding(crate::specs::Pins::pin_stack, crate::specs::Pins::unknown_stack))]
 fn pin_stack(first: &mut Option<Refusal>, stacks: &NameIndex, pin: &Tree) -> u32
@@ -63,7 +57,7 @@ fn pin_stack(first: &mut Option<Refusal>, stacks: &NameIndex, pin: &Tree) -> u32
     ensures value { result ≡ pin_stack stacks.now pin.now }
 {
     match stacks.first_place(name_of(pin, 1)) {
-        Some(place) => index_at(place),
+        Some(place) => place_index(place),
         None => {
             note(first, refused(14, place_of(pin, 1)));
             0

@@ -2,3 +2,4 @@ pub mod Fitting
 pub mod Owning
 pub mod Naming
 pub mod Sound
+pub mod Tabled

@@ -22,12 +22,12 @@ use Rattle.dsn_shapes.specs.declared.parts.Split.TheVariants.{Unknown, One, Many
 use Rattle.dsn_shapes.specs.declared.parts.Stack.{Stack}
 use Rattle.dsn_shapes.specs.Refusals.{least, refused}
 use Rattle.dsn_shapes.specs.Lists.{at_of, name_of, quoted_name, text_of}
-use Rattle.dsn_shapes.specs.Names.{first_place, is_at, same_names}
+use Rattle.dsn_shapes.specs.Names.{first_place, is_at, place_index, same_names, stack_names}
 use Rattle.dsn_shapes.specs.Rules.{rule_refusals}
 use Rattle.dsn_shapes.proofs.Fits.{back_nil, each_fit, each_nil, first_below, front_nil, name_printable, named_differ, none_left, pairs_to_map, rules_fit, test_holds}
 use Rattle.dsn_network.specs.Words.{rules_in, words_in}
-use Rattle.dsn_network.specs.Splits.{fits_from, index_of, pin_among, pin_at, pin_names, pin_named, pin_of_image, pin_of_place, pin_ref, place_names, split_by, split_of, split_with}
-use Rattle.dsn_network.specs.Classes.{class_of, class_refusals, last_naming, names_net, read_class_of, stack_at, stack_names, unknown_via, via_lists, via_refusals, via_stack, vias_of}
+use Rattle.dsn_network.specs.Splits.{fits_from, pin_among, pin_at, pin_names, pin_named, pin_of_image, pin_of_place, pin_ref, place_names, split_by, split_of, split_with}
+use Rattle.dsn_network.specs.Classes.{class_of, class_refusals, last_naming, names_net, read_class_of, stack_at, unknown_via, via_lists, via_refusals, via_stack, vias_of}
 use Rattle.dsn_network.specs.Nets.{each_once, first_net, has_pin, is_pin, is_placed, net_of, net_past_limit, net_pins, net_refusals, nets_refusals, pins_taken, ref_pins, ref_refusals, ref_taken, refs_of, split_pins, split_refusals, split_taken, taken_from, with_pin}
 use Rattle.dsn_network.specs.Whole.{class_lists, net_lists, network_left_out, network_of, network_refusals, networks, refusals_of, value_of}
 use Rattle.dsn_network.specs.Sound.{HasFewPlaces, IsImagePin, IsNetworkSound, IsPlacedPin, IsReadClassSound, IsReadNetSound}
@@ -72,11 +72,11 @@ among_of lib places k pl i None r few e f below h = absurd (cc)
 among_of lib places k pl i (Some j) r few e f below h =
     let is : pin_ref k j ≡ r = same_Some (pin_ref k j) r h in
     let within = slice_get_within places k pl e in
-    let place : k ≡ index_of k = omega arith in
+    let place : k ≡ place_index k = omega arith in
     let small : j < length i.pins = below j refl in
-    let pin : index_of j < length i.pins = omega arith in
-    let there : IsSomeAnd (Some i) (λ (m : Image). index_of j < length m.pins) = pin in
-    let at_image : IsImagePin lib (pin_ref k j) pl = subst (λ o. IsSomeAnd o (λ (m : Image). index_of j < length m.pins)) (sym f) there in
+    let pin : place_index j < length i.pins = omega arith in
+    let there : IsSomeAnd (Some i) (λ (m : Image). place_index j < length m.pins) = pin in
+    let at_image : IsImagePin lib (pin_ref k j) pl = subst (λ o. IsSomeAnd o (λ (m : Image). place_index j < length m.pins)) (sym f) there in
     let at_place : IsSomeAnd (Some pl) (IsImagePin lib (pin_ref k j)) = at_image in
     subst (λ (q : PinRef). IsSomeAnd (slice_get places q.place) (IsImagePin lib q)) is
     (subst (λ o. IsSomeAnd o (IsImagePin lib (pin_ref k j))) (sym e ∙ ap (slice_get places) place) at_place)
@@ -187,7 +187,7 @@ last_below name k (t ∷ ts) c e = last_of (names_net name t) k (length ts) c (l
     last_of true k n c None h e = let f : k ≡ c = same_Some k c e in omega arith
     last_of false k n c None h e = absurd (cc)
 
-index_below : (o : Option ℕ) (n : ℕ) → ((k : ℕ) → o ≡ Some k → k < n) → IfSome (option_map index_of o) (λ m. m < n)
+index_below : (o : Option ℕ) (n : ℕ) → ((k : ℕ) → o ≡ Some k → k < n) → IfSome (option_map place_index o) (λ m. m < n)
 index_below None n h = tt
 index_below (Some k) n h = let f : k < n = h k refl in omega arith
 

@@ -6,13 +6,11 @@ use Rattle.std.specs.Str.{bytes_eq}
 use Rattle.dsn_tree.specs.declared.tree.Tree.{Tree}
 use Rattle.dsn_shapes.specs.declared.refusal.Refusal.{Refusal}
 use Rattle.dsn_shapes.specs.declared.parts.ReadClass.{ReadClass}
-use Rattle.dsn_shapes.specs.declared.parts.Stack.{Stack}
 use Rattle.dsn_shapes.specs.Refusals.{refused}
 use Rattle.dsn_shapes.specs.Lists.{at_of, text_of, lists}
-use Rattle.dsn_shapes.specs.Names.{first_place}
+use Rattle.dsn_shapes.specs.Names.{first_place, place_index}
 use Rattle.dsn_shapes.specs.Rules.{rule_set, rule_refusals}
 use Rattle.dsn_network.specs.Words.{words_from, words_in, rules_in}
-use Rattle.dsn_network.specs.Splits.{index_of}
 
 -- ---- the nets of a class, as in `(class POWER GND VCC (rule (width 400)))`
 -- a class list names a net by a word behind its own name
@@ -26,7 +24,7 @@ last_naming name k (t ∷ ts) = option_or (last_naming name (k + 1) ts) (if name
 
 -- the class of a net: the last class list that names it
 unfoldable pub class_of : List ℕ → List Tree → Option ℕ
-class_of name classes = option_map index_of (last_naming name 0 classes)
+class_of name classes = option_map place_index (last_naming name 0 classes)
 
 -- a word that isn't empty and names no net, where the nets have these names
 abbrev pub is_stray : List (List ℕ) → Tree → Bool
@@ -36,9 +34,6 @@ unfoldable pub stray_names : List (List ℕ) → List Tree → ℕ
 stray_names nets classes = count_by (is_stray nets) (words_in 2 classes)
 
 -- ---- vias of a class, as in `(circuit (use_via V1 V2))`
-abbrev pub stack_names : List Stack → List (List ℕ)
-stack_names stacks = map (λ (s : Stack). s.name) stacks
-
 abbrev pub circuits_in : List Tree → List Tree
 circuits_in ts = lists (codes "circuit" ∷ []) ts
 
@@ -47,7 +42,7 @@ via_lists ts = lists (codes "use_via" ∷ []) (circuits_in ts)
 
 abbrev pub stack_at : Option ℕ → ℕ
 stack_at None = 0
-stack_at (Some n) = index_of n
+stack_at (Some n) = place_index n
 
 abbrev pub via_stack : List (List ℕ) → Tree → ℕ
 via_stack stacks w = stack_at (first_place (text_of w) stacks)

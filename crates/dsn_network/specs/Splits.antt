@@ -1,5 +1,5 @@
 -- References of pins, such as `R1-2`: their splits at hyphens, and the pin that a split names.
-use Rattle.std.specs.Prelude.{◌==◌, ◌^◌, ◌-◌, ℕ, List, [], ◌∷◌, ◌++◌, Option, Some, None, map, min, slice_get, if◌then◌else◌}
+use Rattle.std.specs.Prelude.{◌==◌, ℕ, List, [], ◌∷◌, ◌++◌, Option, Some, None, map, slice_get, if◌then◌else◌}
 use Rattle.std.specs.Option.{option_to_list}
 use Rattle.dsn_shapes.specs.declared.parts.Image.{Image}
 use Rattle.dsn_shapes.specs.declared.parts.ImagePin.{ImagePin}
@@ -9,7 +9,7 @@ use Rattle.dsn_shapes.specs.declared.parts.Placing.{Placing}
 use Rattle.dsn_shapes.specs.declared.parts.PinRef.{PinRef}
 use Rattle.dsn_shapes.specs.declared.parts.Split.{Split}
 use Rattle.dsn_shapes.specs.declared.parts.Split.TheVariants.{Unknown, One, Many}
-use Rattle.dsn_shapes.specs.Names.{first_place}
+use Rattle.dsn_shapes.specs.Names.{first_place, place_index}
 
 -- ---- the pin that a split names
 -- the names of components, and of pins
@@ -19,12 +19,8 @@ place_names places = map (λ (p : Place). p.name) places
 abbrev pub pin_names : List ImagePin → List (List ℕ)
 pin_names pins = map (λ (p : ImagePin). p.name) pins
 
--- a place in a list as an index, which ends at 2^32 - 1
-abbrev pub index_of : ℕ → ℕ
-index_of n = min n (2 ^ 32 - 1)
-
 abbrev pub pin_ref : ℕ → ℕ → PinRef
-pin_ref k j = record { place = index_of k; pin = index_of j }
+pin_ref k j = record { place = place_index k; pin = place_index j }
 
 -- pin j of component k
 abbrev pub pin_among : ℕ → Option ℕ → Option PinRef

@@ -7,10 +7,10 @@ use Rattle.dsn_shapes.specs.declared.parts.Library.{Library}
 use Rattle.dsn_shapes.specs.declared.parts.Network.{Network}
 use Rattle.dsn_shapes.specs.declared.parts.Placing.{Placing}
 use Rattle.dsn_shapes.specs.Lists.{lists, capped, notes_in, left_out_in}
-use Rattle.dsn_shapes.specs.Names.{names_at}
+use Rattle.dsn_shapes.specs.Names.{names_at, stack_names}
 use Rattle.dsn_shapes.specs.Rules.{rule_notes}
 use Rattle.dsn_network.specs.Words.{rules_in}
-use Rattle.dsn_network.specs.Classes.{circuits_in, class_refusals, read_class_of, stack_names, stray_names}
+use Rattle.dsn_network.specs.Classes.{circuits_in, class_refusals, read_class_of, stray_names}
 use Rattle.dsn_network.specs.Nets.{net_of, nets_refusals}
 
 abbrev pub networks : Tree → List Tree

@@ -10,9 +10,10 @@ ghost use Rattle.dsn_network.specs.Words.{rules_in};
 ghost use Rattle.dsn_network.specs.Whole.{rules_passed};
 ghost use Rattle.dsn_network.specs.Classes.{class_refusals, read_class_of, unknown_via, via_lists, via_refusals, via_stack, vias_of};
 
-use crate::split::index_of;
 use crate::words::words_in;
-use dsn_shapes::{NameIndex, ReadClass, Refusal, Trees, at_of, note, read_rules, refused, text_of};
+use dsn_shapes::{
+    NameIndex, ReadClass, Refusal, Trees, at_of, note, place_index, read_rules, refused, text_of,
+};
 use dsn_tree::Tree;
 use dsn_units::Scale;
 use geo_kernel::List;
@@ -24,7 +25,7 @@ fn via_stack(first: &mut Option<Refusal>, word: &Tree, stacks: &NameIndex) -> u3
     ensures value { result ≡ via_stack stacks.now word.now }
 {
     match stacks.first_place(text_of(word)) {
-        Some(place) => index_of(place),
+        Some(place) => place_index(place),
         None => {
             note(first, refused(14, at_of(word)));
             0

@@ -8,9 +8,8 @@ ghost use Rattle.dsn_shapes.specs.Index.{place_by};
 ghost use Rattle.dsn_shapes.specs.Lists.{text_of, trees_of};
 ghost use Rattle.dsn_network.specs.Classes.{class_of, is_stray, last_naming, stray_names};
 
-use crate::split::index_of;
 use crate::words::{words_from, words_in};
-use dsn_shapes::{NameIndex, Trees, text_of};
+use dsn_shapes::{NameIndex, Trees, place_index, text_of};
 use dsn_tree::Tree;
 use std::alloc::{AllocError, Global};
 use std::collections::BTreeMap;
@@ -67,7 +66,7 @@ impl<'a, 'b> ClassIndex<'a, 'b> {
         ensures { result ≡ class_of name.now self.now.lists.now }
     {
         match self.last.get(name) {
-            Some(class) => Some(index_of(*class)),
+            Some(class) => Some(place_index(*class)),
             None => None,
         }
     }

@@ -4,15 +4,12 @@
 
 mod class;
 mod classes;
-mod named;
 mod net;
 mod network;
 mod owners;
 mod pins;
 mod refs;
 mod split;
-#[cfg(test)]
-mod tests;
 mod words;
 
 pub use network::read_network;

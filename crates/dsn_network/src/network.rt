@@ -4,19 +4,20 @@
 ghost use Rattle.std.specs.Prelude.{◌≡◌, map, IfOk, OnOk};
 ghost use Rattle.std.specs.List.{flat_map};
 ghost use Rattle.dsn_shapes.specs.Lists.{capped};
-ghost use Rattle.dsn_shapes.specs.Names.{names_at};
+ghost use Rattle.dsn_shapes.specs.Names.{names_at, stack_names};
 ghost use Rattle.dsn_shapes.specs.Refusals.{Reads, noted};
-ghost use Rattle.dsn_network.specs.Classes.{class_refusals, read_class_of, stack_names};
+ghost use Rattle.dsn_network.specs.Classes.{class_refusals, read_class_of};
 ghost use Rattle.dsn_network.specs.Nets.{net_of, nets_refusals};
 ghost use Rattle.dsn_network.specs.Sound.{HasFewPlaces, IsNetworkSound};
 ghost use Rattle.dsn_network.specs.Whole.{class_lists, classes_left_out, classes_passed, net_lists, nets_left_out, nets_passed, network_left_out, network_of, network_passed, network_refusals, networks, refusals_of, rules_passed, value_of};
 
 use crate::class::{Classes, read_classes};
 use crate::classes::{ClassIndex, stray_names};
-use crate::named::names_of;
 use crate::net::{Nets, read_nets};
 use crate::pins::PinIndex;
-use dsn_shapes::{Library, NameIndex, Network, Placing, ReadFault, Refusal, Trees, pass_over};
+use dsn_shapes::{
+    Library, NameIndex, Network, Placing, ReadFault, Refusal, Trees, names_of, pass_over,
+};
 use dsn_tree::Tree;
 use dsn_units::Scale;
 use std::alloc::{AllocError, Global};

@@ -17,6 +17,7 @@ use dsn_tree::Tree;
 use geo_kernel::List;
 use std::alloc::{AllocError, Global};
 use std::collections::BTreeMap;
+use std::marker::Model;
 
 type PinMap = BTreeMap<(u32, u32), usize>;
 
@@ -71,18 +72,31 @@ fn first_nets(alloc: Global, nets: &[ReadNet]) -> Result<PinMap, AllocError>
     Ok(map)
 }
 
-/// Which of these nets first names each pin.
+/// Which of some nets first names each pin.
 #[derive(Drop)]
 pub struct Owners<'a> {
     nets: &'a [ReadNet],
     first: PinMap,
-    ghost by_pin: { (q : ThePin) → net_by first q ≡ first_net q (pins_of nets.now) },
+}
+
+impl<'a> Model for Owners<'a> {
+    ghost use Rattle.std.specs.Prelude.{◌≡◌, List};
+    ghost use Rattle.dsn_shapes.specs.declared.parts.PinRef.{PinRef as ThePin};
+    ghost use Rattle.dsn_shapes.specs.declared.parts.ReadNet.{ReadNet as TheNet};
+    ghost use Rattle.dsn_network.specs.Nets.{first_net};
+    ghost use Rattle.dsn_network.specs.Owners.{net_by, pins_of};
+
+    ghost Value = { List TheNet };
+
+    ghost view = { λ s. s.nets.now };
+
+    ghost invariant = { λ s. (q : ThePin) → net_by s.first q ≡ first_net q (pins_of s.nets.now) };
 }
 
 impl<'a> Owners<'a> {
     /// The owners of the pins of these nets.
     pub fn of(alloc: Global, nets: &'a [ReadNet]) -> Result<Owners<'a>, AllocError>
-        ensures { IfOk result (λ x. x.nets.now ≡ nets.now) }
+        ensures { IfOk result (λ x. x ≡ nets.now) }
     {
         let first = first_nets(alloc, nets)?;
         Ok(Owners { nets, first })
@@ -90,7 +104,7 @@ impl<'a> Owners<'a> {
 
     /// The first net that names the pin.
     pub fn net_of(&self, pin: PinRef) -> Option<usize>
-        ensures { result ≡ first_net pin (pins_of self.now.nets.now) }
+        ensures { result ≡ first_net pin (pins_of self.now) }
     {
         find_pin(&self.first, pin)
     }
@@ -98,7 +112,7 @@ impl<'a> Owners<'a> {
 
 #[tactic(auto, unfolding(crate::specs::Nets::ref_taken))]
 fn refuse_ref(first: &mut Option<Refusal>, word: &Tree, k: usize, owners: &Owners, pins: &PinIndex)
-    ensures { first.new ≡ noted first.old (ref_taken pins.now.lib.now pins.now.placing.now (pins_of owners.now.nets.now) k word.now) }
+    ensures { first.new ≡ noted first.old (ref_taken pins.now.lib.now pins.now.placing.now (pins_of owners.now) k word.now) }
 {
     match split_at(word, pins) {
         Split::Unknown => {}
@@ -118,7 +132,7 @@ fn refuse_refs(
     owners: &Owners,
     pins: &PinIndex,
 )
-    ensures { first.new ≡ noted first.old (flat_map (ref_taken pins.now.lib.now pins.now.placing.now (pins_of owners.now.nets.now) k) (trees_of words.now)) }
+    ensures { first.new ≡ noted first.old (flat_map (ref_taken pins.now.lib.now pins.now.placing.now (pins_of owners.now) k) (trees_of words.now)) }
 {
     for word in words {
         refuse_ref(first, word, k, owners, pins);
@@ -134,7 +148,7 @@ pub(crate) fn refuse_taken(
     owners: &Owners,
     pins: &PinIndex,
 ) -> Result<(), AllocError>
-    ensures { OnOk result (first.new ≡ noted first.old (taken_from pins.now.lib.now pins.now.placing.now (pins_of owners.now.nets.now) 0 (trees_of nets.now))) }
+    ensures { OnOk result (first.new ≡ noted first.old (taken_from pins.now.lib.now pins.now.placing.now (pins_of owners.now) 0 (trees_of nets.now))) }
 {
     for (k, net) in nets.iter().enumerate() {
         let words = refs_of(alloc, net)?;

@@ -5,9 +5,8 @@ ghost use Rattle.std.specs.Prelude.{◌≡◌, map, IfOk};
 ghost use Rattle.dsn_shapes.specs.declared.parts.Image.{Image as TheImage};
 ghost use Rattle.dsn_network.specs.Splits.{pin_names, place_names};
 
-use crate::named::names_of;
 use crate::split::{Pins, pin_ref};
-use dsn_shapes::{Image, Library, NameIndex, PinRef, Placing};
+use dsn_shapes::{Image, Library, NameIndex, PinRef, Placing, names_of};
 use std::alloc::{AllocError, Global};
 
 /// Pins that are looked up in indices of the components' names and of each image's pins' names.

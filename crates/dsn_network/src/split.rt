@@ -4,10 +4,9 @@
 
 ghost use Rattle.std.specs.Prelude.{◌≡◌};
 ghost use Rattle.dsn_shapes.specs.Names.{first_place};
-ghost use Rattle.dsn_network.specs.Splits.{index_of, pin_names, pin_ref, place_names, split_of, split_with, with_fit};
+ghost use Rattle.dsn_network.specs.Splits.{pin_names, pin_ref, place_names, split_of, split_with, with_fit};
 
-use crate::named::first_named;
-use dsn_shapes::{Image, Library, PinRef, Place, Placing, Split};
+use dsn_shapes::{Image, Library, PinRef, Place, Placing, Split, first_named, place_index};
 use geo_kernel::Name;
 
 /// What finds a pin by the names of its component and its own.
@@ -49,20 +48,13 @@ pub(crate) fn split_by<P: Pins>(text: &[u8], pins: &P) -> Split
     found
 }
 
-/// A place in a list as an index.
-pub(crate) fn index_of(place: usize) -> u32
-    ensures { result ≡ index_of place }
-{
-    place.min(0xFFFF_FFFF) as u32
-}
-
 /// Pin `pin` of component `place`.
 pub(crate) fn pin_ref(place: usize, pin: usize) -> PinRef
     ensures { result ≡ pin_ref place pin }
 {
     PinRef {
-        place: index_of(place),
-        pin: index_of(pin),
+        place: place_index(place),
+        pin: place_index(pin),
     }
 }
 

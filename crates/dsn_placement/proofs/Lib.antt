@@ -4,3 +4,4 @@ pub mod Each
 pub mod Placed
 pub mod Fits
 pub mod Sound
+pub mod Tabled

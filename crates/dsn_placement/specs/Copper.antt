@@ -1,5 +1,5 @@
 -- What a component puts on the board: placed points, spines and shapes, the copper of its pins and its keepouts.
-use Rattle.std.specs.Prelude.{◌+◌, ◌*◌, ◌/◌, ◌%◌, ◌^◌, ◌<◌, ◌&&◌, ℕ, zero, suc, pos, Bool, List, [], ◌∷◌, Option, Some, None, IfSome, is_some, slice_get, unwrap_or, if◌then◌else◌}
+use Rattle.std.specs.Prelude.{◌+◌, ◌*◌, ◌/◌, ◌%◌, ◌^◌, ◌<◌, ◌&&◌, ℕ, zero, suc, Bool, List, [], ◌∷◌, Option, Some, None, IfSome, is_some, slice_get, unwrap_or, if◌then◌else◌}
 use Rattle.std.specs.List.{list_all}
 use Rattle.std.specs.Option.{option_map, option_map_or}
 use Rattle.geo_kernel.specs.declared.point.Point.{Point}
@@ -8,6 +8,7 @@ use Rattle.geo_kernel.specs.declared.spine.Spine.TheVariants.{Chain, Area}
 use Rattle.geo_kernel.specs.Moved.{moved}
 use Rattle.geo_kernel.specs.Plane.{IsWithin}
 use Rattle.dsn_units.specs.Turn.{turned}
+use Rattle.pcb_model.specs.Sound.{origin}
 use Rattle.dsn_shapes.specs.declared.parts.LayerShape.{LayerShape}
 use Rattle.dsn_shapes.specs.declared.parts.BanShape.{BanShape}
 use Rattle.dsn_shapes.specs.declared.parts.Stack.{Stack}
@@ -103,9 +104,6 @@ unfoldable pub is_image_placed : Stand → List Stack → Image → Bool
 is_image_placed stand stacks image = list_all (is_pin_placed stand stacks) image.pins && list_all (λ (ban : BanShape). is_spine_placed (bare_seat stand) ban.shape.spine) image.bans
 
 -- ---- components that are read
-abbrev pub origin : Point
-origin = record { x = pos 0; y = pos 0 }
-
 -- where a component stands that is placed
 abbrev pub stand_of : Bool → Place → Stand
 stand_of flip_last p = record { at = unwrap_or p.at origin; back = p.back; flip_last = flip_last; angle = p.angle }

@@ -1,5 +1,5 @@
 -- Components, such as `(place R1 125000 -105000 front 0 (PN 10k))`: name, place, side and angle.
-use Rattle.std.specs.Prelude.{◌+◌, ◌-◌, ◌^◌, ℕ, ℤ, Bool, true, false, List, [], ◌∷◌, ◌++◌, Option, Some, None, codes, is_some, length, map, min, slice_get, if◌then◌else◌}
+use Rattle.std.specs.Prelude.{◌+◌, ℕ, ℤ, Bool, true, false, List, [], ◌∷◌, ◌++◌, Option, Some, None, codes, is_some, length, map, slice_get, if◌then◌else◌}
 use Rattle.std.specs.List.{flat_map}
 use Rattle.std.specs.Option.{option_map_or}
 use Rattle.dsn_tree.specs.declared.tree.Tree.{Tree}
@@ -12,7 +12,7 @@ use Rattle.dsn_shapes.specs.declared.parts.Stack.{Stack}
 use Rattle.dsn_shapes.specs.declared.parts.Place.{Place}
 use Rattle.dsn_shapes.specs.Refusals.{refused}
 use Rattle.dsn_shapes.specs.Lists.{at_of, capped, lists, name_of, nth_word, place_of, quoted_name, says}
-use Rattle.dsn_shapes.specs.Names.{first_place}
+use Rattle.dsn_shapes.specs.Names.{first_place, place_index}
 use Rattle.dsn_shapes.specs.Numbers.{coord_refusal, word_coord}
 use Rattle.dsn_shapes.specs.Angles.{no_turn, word_angle, word_angle_refusal}
 use Rattle.dsn_placement.specs.declared.seat.Stand.{Stand}
@@ -88,10 +88,10 @@ abbrev pub image_at : Library → Option ℕ → Option Image
 image_at lib None = None
 image_at lib (Some n) = slice_get lib.images n
 
--- its index, which ends at 2^32 - 1
+-- its index
 abbrev pub index_of : Option ℕ → ℕ
 index_of None = 0
-index_of (Some n) = min n (2 ^ 32 - 1)
+index_of (Some n) = place_index n
 
 abbrev pub unknown_at : ℕ → Option ℕ → List Refusal
 unknown_at at None = refused 15 at ∷ []

@@ -8,8 +8,6 @@ mod placing;
 mod point;
 mod reach;
 mod seat;
-#[cfg(test)]
-mod tests;
 
 pub use copper::{
     ban_copper, bare_seat, pin_centre, pin_copper, pin_seat, place_shape, place_spine, turn_over,

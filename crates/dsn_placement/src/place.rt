@@ -17,7 +17,7 @@ use crate::reach::is_image_placed;
 use crate::seat::Stand;
 use dsn_shapes::{
     Image, Library, NameIndex, Place, Refusal, Trees, angle_in as word_angle, at_of, coord_in,
-    name_of, note, nth_word, place_of, refuse_quoted_name, refused, says,
+    name_of, note, nth_word, place_index, place_of, refuse_quoted_name, refused, says,
 };
 use dsn_tree::Tree;
 use dsn_units::{Angle, Scale};
@@ -201,7 +201,7 @@ fn index_of(place: Option<usize>) -> u32
     ensures { result ≡ index_of place }
 {
     match place {
-        Some(place) => place.min(0xFFFF_FFFF) as u32,
+        Some(place) => place_index(place),
         None => 0,
     }
 }

@@ -2,11 +2,10 @@
 //! Source: SPECCTRA reference, placement descriptor. Names may be defined after their use.
 
 ghost use Rattle.std.specs.Prelude.{◌≡◌, ◌∷◌, ◌+◌, ◌<◌, [], IfOk, OnOk, length, map};
-ghost use Rattle.dsn_shapes.specs.Lists.{capped, heads_of};
+ghost use Rattle.dsn_shapes.specs.Lists.{capped};
 ghost use Rattle.dsn_shapes.specs.Refusals.{Reads, noted};
 ghost use Rattle.dsn_shapes.specs.Within.{IsLibraryWithin};
 ghost use Rattle.dsn_placement.specs.declared.place.Laid.{Laid as TheLaid};
-ghost use Rattle.dsn_shapes.specs.declared.parts.Image.{Image as TheImage};
 ghost use Rattle.std.specs.List.{flat_map};
 ghost use Rattle.dsn_placement.specs.Places.{component_laid, component_refusals, image_names, places_in};
 ghost use Rattle.dsn_placement.specs.Placing.{adds, all_laid, components, items_before, limit_refusals, lists_left_out, lists_passed, past_limit, placement_refusals, placements, placing_of};
@@ -14,7 +13,7 @@ ghost use Rattle.dsn_placement.specs.Sound.{HasFewImages, IsPlacingSound};
 
 use crate::place::{Around, Laid, read_components};
 use dsn_shapes::{
-    Image, Library, NameIndex, Place, Placing, ReadFault, Refusal, Structure, Trees, What, note,
+    Library, NameIndex, Place, Placing, ReadFault, Refusal, Structure, Trees, What, names_of, note,
     pass_over,
 };
 use dsn_tree::Tree;
@@ -57,16 +56,6 @@ fn pass_over_lists(first: &mut Option<Refusal>, parts: &Sections) -> u64
     let in_components = pass_over(first, &parts.components, &component_heads);
     let in_places = pass_over(first, &parts.places, &component_heads);
     beside.saturating_add(in_components.saturating_add(in_places))
-}
-
-fn names_of<'a>(alloc: Global, images: &'a [Image]) -> Result<Vec<&'a [u8]>, AllocError>
-    ensures { IfOk result (λ ns. heads_of ns.items ≡ map (λ (i : TheImage). i.name) images.now) }
-{
-    let mut names = Vec::new(alloc);
-    for image in images {
-        names.push(image.name.as_slice())?;
-    }
-    Ok(names)
 }
 
 fn adds(what: What, laid: &Laid) -> u64
@@ -128,7 +117,7 @@ fn read_laid(
     ensures noted { OnOk result (first.new ≡ noted first.old (flat_map (component_refusals around.entry.scale.nm around.entry.flip_last around.entry.library.now) components.now)) }
     ensures value { IfOk result (λ ls. ls ≡ flat_map (component_laid around.entry.scale.nm around.entry.flip_last around.entry.library.now) components.now) }
 {
-    let names = NameIndex::of(alloc, names_of(alloc, around.library.images.as_slice())?)?;
+    let names = names_of(alloc, around.library.images.as_slice())?;
     read_components(alloc, first, components.as_slice(), around, &names)
 }
 

@@ -13,7 +13,7 @@ use Rattle.pcb_model.specs.Pairs.{Agrees}
 use Rattle.pcb_model.specs.Board.{IsLegal, IsRouted, IsLaid, AreInside, is_fixed}
 use Rattle.pcb_model.specs.Sound.{IsSound, IsItemOf, IsFixedSound}
 use Rattle.pcb_model.specs.Copper.{Ascends}
-use Rattle.path_wire.specs.Plain.{IsPlainItem, IsPlainCopper}
+use Rattle.pcb_model.specs.Plain.{IsPlainItem, IsPlainCopper}
 use Rattle.path_wire.specs.Lays.{laid_item, IsMetalInside, IsWellLaid}
 use Rattle.dsn_route.specs.Joins.{numbered, with_metals}
 use Rattle.dsn_route.specs.Boards.{AreNumbered, IsBoard, GrowsBy}

@@ -16,10 +16,10 @@ module _ (command : Command) (desk later : DeskState) (sink after : SinkState) (
   faulted f = let rose = f.rose in record { rose = omega (arith, le, rose); calm = λ c. f.calm (stays c) }
 
   stops : (status : Status) (line : List ℕ) → Stops (Ok command) (at desk.files faults calm) later status line → Stops (Ok command) desk later status line
-  stops Refused line why = record { text = why.text; number = why.number; place = why.place; input = record { file = why.input.file; fits = why.input.fits }; refused = why.refused; line_is = why.line_is }
+  stops Refused line why = record { text = why.text; number = why.number; place = why.place; input = record { file = why.input.file; fits = why.input.fits }; refused = why.refused; from = why.from; to = why.to; line_is = why.line_is }
   stops ReadFault line (fault, is) = (faulted fault, is)
   stops Limit line (inl long) = inl long
-  stops Limit line (inr (inl over)) = inr (inl (record { text = over.text; what = over.what; limit = over.limit; input = record { file = over.input.file; fits = over.input.fits }; over = over.over; line_is = over.line_is }))
+  stops Limit line (inr (inl over)) = inr (inl (record { text = over.text; what = over.what; limit = over.limit; input = record { file = over.input.file; fits = over.input.fits }; over = over.over; counts = over.counts; most = over.most; line_is = over.line_is }))
   stops Limit line (inr (inr crowded)) = inr (inr (record { text = crowded.text; design = crowded.design; input = record { file = crowded.input.file; fits = crowded.input.fits }; reads = crowded.reads; many = crowded.many; line_is = crowded.line_is }))
   stops _ line why = absurd why
 

@@ -8,7 +8,6 @@ mod Linking
 mod Places
 mod Closing
 mod Running
-mod Plain
 mod OneText
 mod Unread
 mod Dues

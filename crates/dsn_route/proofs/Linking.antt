@@ -15,7 +15,7 @@ use Rattle.route_lattice.specs.Anchors.{Anchors, AnchorsAmong}
 use Rattle.path_wire.specs.Wires.{copper_of}
 use Rattle.path_wire.specs.Lays.{laid_item}
 use Rattle.path_wire.specs.Joins.{HasNode, Connect, last_node}
-use Rattle.path_wire.specs.Plain.{IsPlainItem}
+use Rattle.pcb_model.specs.Plain.{IsPlainItem}
 use Rattle.cut_certificate.specs.Cuts.{IsStart, IsGoal}
 use Rattle.dsn_route.specs.Joins.{numbered, with_metals}
 use Rattle.dsn_route.specs.Boards.{AreOfNet, AreLinked}

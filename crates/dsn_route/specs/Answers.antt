@@ -1,5 +1,5 @@
 -- What the top call answers, and what it leaves.
-use Rattle.std.specs.Prelude.{◌≡◌, ◌≤◌, ◌<◌, ◌^◌, ◌⊎◌, ℕ, List, ◌++◌, length, take, unwrap_or, IsTrue, false, All, Any, Result, Ok, Err, codes}
+use Rattle.std.specs.Prelude.{◌≡◌, ◌≢◌, ◌≤◌, ◌<◌, ◌^◌, ◌⊎◌, ℕ, List, ◌++◌, length, take, unwrap_or, IsTrue, false, All, Any, Result, Ok, Err, codes}
 use Rattle.std.specs.Fmt.{decimal}
 use Rattle.desk_io.specs.States.{DeskState, SinkState}
 use Rattle.desk_io.specs.Answers.{IsAbsent, IsFile, IsTooLong, written, appended, DeskFaulted, SinkFaulted}
@@ -7,6 +7,8 @@ use Rattle.pcb_model.specs.declared.item.Item.{Item}
 use Rattle.pcb_model.specs.declared.design.Design.{Design}
 use Rattle.dsn_design.specs.Reading.{HasDesign}
 use Rattle.dsn_shapes.specs.declared.refusal.What.{What}
+use Rattle.dsn_shapes.specs.declared.refusal.What.TheVariants.{Nothing}
+use Rattle.dsn_shapes.specs.Tabled.{most_of}
 use Rattle.route_lattice.specs.Mesh.{Mesh, node_count}
 use Rattle.route_lattice.specs.Whole.{default_grid, lattice_of}
 use Rattle.cut_certificate.specs.declared.cut.Cut.{Cut}
@@ -54,22 +56,26 @@ pub record IsInput (command : Command) (desk : DeskState) (text : List ℕ) : Ty
 abbrev pub mesh_of : Command → Design → Mesh
 mesh_of command d = lattice_of d (unwrap_or command.grid (default_grid d))
 
--- a text that is refused, and the line that says so
+-- a text that is refused, with a number from 1 to 24, and the line that says so
 pub record IsRefusal (command : Command) (desk : DeskState) (line : List ℕ) : Type 0 where
   pub text : List ℕ
   pub number : ℕ
   pub place : ℕ
   pub input : IsInput command desk text
   pub refused : IsRefused text number place
+  pub from : 1 ≤ number
+  pub to : number ≤ 24
   pub line_is : line ≡ refused_line number place
 
--- a text that passes a limit on what it counts, and the line that says so
+-- a text that passes the limit on what it counts, which is something, and the line that says so
 pub record IsOverfull (command : Command) (desk : DeskState) (line : List ℕ) : Type 0 where
   pub text : List ℕ
   pub what : What
   pub limit : ℕ
   pub input : IsInput command desk text
   pub over : IsOverLimit text what limit
+  pub counts : what ≢ Nothing
+  pub most : limit ≡ most_of what
   pub line_is : line ≡ over_line what limit
 
 -- a design whose lattice has more than 2^24 nodes, and the line that says how many

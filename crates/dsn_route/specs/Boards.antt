@@ -9,7 +9,7 @@ use Rattle.pcb_islands.specs.Islands.{AreIslands}
 use Rattle.route_lattice.specs.declared.moves.Walk.{Walk}
 use Rattle.route_lattice.specs.Mesh.{Mesh}
 use Rattle.route_lattice.specs.Fits.{FitsDesign}
-use Rattle.path_wire.specs.Plain.{IsPlainItem, IsPlainCopper}
+use Rattle.pcb_model.specs.Plain.{IsPlainItem, IsPlainCopper}
 use Rattle.cut_certificate.specs.declared.cut.Cut.{Cut}
 use Rattle.cut_certificate.specs.Cuts.{LeadsOn}
 use Rattle.dsn_route.specs.Joins.{LeadsLeast, IsJoined, Joins, IsShut, Steps, WorksOffAll, JoinsSome, Ends}

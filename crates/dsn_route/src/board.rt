@@ -5,7 +5,7 @@ ghost use Rattle.std.specs.Prelude.{◌≡◌, ◌++◌, ◌∷◌, ◌<◌, [],
 ghost use Rattle.pcb_model.specs.Bounds.{IsItemFit};
 ghost use Rattle.pcb_model.specs.Sound.{IsSound};
 ghost use Rattle.path_wire.specs.Lays.{IsWellLaid};
-ghost use Rattle.path_wire.specs.Plain.{IsPlainCopper};
+ghost use Rattle.pcb_model.specs.Plain.{IsPlainCopper};
 ghost use Rattle.dsn_route.specs.Joins.{with_metals};
 ghost use Rattle.dsn_route.specs.Boards.{AreNumbered, IsBoard};
 

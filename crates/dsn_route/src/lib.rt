@@ -12,8 +12,6 @@ mod route;
 mod run;
 mod settle;
 mod status;
-#[cfg(test)]
-mod tests;
 mod words;
 
 pub use route::{MAX_BYTES, dsn_route};

@@ -7,7 +7,7 @@ ghost use Rattle.route_lattice.specs.Mesh.{node_count};
 ghost use Rattle.dsn_route.specs.Words.{texts, command_of};
 ghost use Rattle.dsn_route.specs.Said.{command_from, IsVerdict, RoutesDesign};
 ghost use Rattle.dsn_design.specs.Reading.{HasDesign};
-ghost use Rattle.path_wire.specs.Plain.{IsPlainCopper};
+ghost use Rattle.pcb_model.specs.Plain.{IsPlainCopper};
 ghost use Rattle.dsn_route.specs.Boards.{IsTask};
 ghost use Rattle.dsn_route.specs.Answers.{Answers, Leaves, IsInput, mesh_of, via_price};
 ghost use Rattle.dsn_route.specs.Due.{IsMissing, IsRead, IsLong, IsUnfit, IsOver, IsTooFine, IsRoutable, IsDue, IsDueAfterRead, HasNoFault, IsDone};

@@ -2,3 +2,5 @@ pub mod Again
 pub mod Within
 pub mod Fits
 pub mod Few
+pub mod First
+pub mod Tabled

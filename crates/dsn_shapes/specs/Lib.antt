@@ -1,4 +1,6 @@
 pub mod Refusals
+pub mod First
+pub mod Tabled
 pub mod Lists
 pub mod Numbers
 pub mod Angles

@@ -1,8 +1,9 @@
 -- Names that lists give, where each is first given, and names that are given twice.
-use Rattle.std.specs.Prelude.{◌==◌, ◌+◌, ℕ, Bool, false, List, [], ◌∷◌, ◌++◌, Option, Some, None, map, if◌then◌else◌}
+use Rattle.std.specs.Prelude.{◌==◌, ◌+◌, ◌-◌, ◌^◌, min, ℕ, Bool, false, List, [], ◌∷◌, ◌++◌, Option, Some, None, map, if◌then◌else◌}
 use Rattle.std.specs.List.{position_from}
 use Rattle.std.specs.Str.{bytes_eq}
 use Rattle.dsn_tree.specs.declared.tree.Tree.{Tree}
+use Rattle.dsn_shapes.specs.declared.parts.Stack.{Stack}
 use Rattle.dsn_shapes.specs.declared.refusal.Refusal.{Refusal}
 use Rattle.dsn_shapes.specs.Refusals.{refused}
 use Rattle.dsn_shapes.specs.Lists.{name_of, place_of}
@@ -14,6 +15,13 @@ names_at i ts = map (λ t. name_of t i) ts
 -- where a name first stands among some
 unfoldable pub first_place : List ℕ → List (List ℕ) → Option ℕ
 first_place name names = position_from (λ n. bytes_eq n name) 0 names
+
+-- a place in a list as an index of 32 bits, which ends at 2^32 - 1
+abbrev pub place_index : ℕ → ℕ
+place_index k = min k (2 ^ 32 - 1)
+
+abbrev pub stack_names : List Stack → List (List ℕ)
+stack_names stacks = map (λ (s : Stack). s.name) stacks
 
 abbrev pub is_at : ℕ → Option ℕ → Bool
 is_at k None = false

@@ -5,8 +5,10 @@
 mod angles;
 mod area;
 mod form;
+mod laws;
 mod layers;
 mod lists;
+mod named;
 mod names;
 mod numbers;
 mod part;
@@ -14,17 +16,17 @@ mod parts;
 mod refusal;
 mod rules;
 mod shape;
-#[cfg(test)]
-mod tests;
 mod trees;
 
 pub use angles::angle_in;
 pub use area::{Bounds, Keepouts, Shapes, ban_notes, shape_notes};
+pub use laws::first_counts;
 pub use lists::{
     at_of, is_left_out, is_word, name_of, nth_word, place_of, refuse_left_out, refuse_quoted_name,
     says, text_of,
 };
-pub use names::NameIndex;
+pub use named::{Named, first_named, names_of};
+pub use names::{NameIndex, place_index};
 pub use numbers::{coord_at, coord_in, extent_at, extent_in};
 pub use part::{Part, read_each};
 pub use parts::{

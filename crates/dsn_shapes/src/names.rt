@@ -5,7 +5,7 @@ ghost use Rattle.std.specs.Prelude.{◌≡◌, ℕ, List, IfOk, OnOk, Some, cond
 ghost use Rattle.std.specs.Str.{bytes_eq};
 ghost use Rattle.dsn_shapes.specs.Index.{place_by};
 ghost use Rattle.dsn_shapes.specs.Lists.{heads_of, trees_of};
-ghost use Rattle.dsn_shapes.specs.Names.{first_place, given_again, is_at, names_at, same_names};
+ghost use Rattle.dsn_shapes.specs.Names.{first_place, given_again, is_at, names_at, place_index, same_names};
 ghost use Rattle.dsn_shapes.specs.Refusals.{noted};
 
 use crate::lists::{name_of, place_of};
@@ -34,6 +34,13 @@ impl<'a> Model for NameIndex<'a> {
     ghost view = { λ s. heads_of s.names.items };
 
     ghost invariant = { λ s. (q : List ℕ) → place_by s.places q ≡ first_place q (heads_of s.names.items) };
+}
+
+/// A place in a list as an index, which ends at 2^32 - 1.
+pub fn place_index(place: usize) -> u32
+    ensures { result ≡ place_index place }
+{
+    place.min(0xFFFF_FFFF) as u32
 }
 
 // Keeps the place of a name that has none yet.

@@ -1,7 +1,7 @@
 //! Lists of a tree that are picked out by their heads, and passes over such lists.
 //! Each call costs what it goes over; the lists stay where they are in the tree.
 
-ghost use Rattle.std.specs.Prelude.{◌≡◌, [], ◌∷◌, ◌++◌, ◌<◌, length, map, filter, slice_get, IfOk, OnOk, count_by};
+ghost use Rattle.std.specs.Prelude.{◌≡◌, [], ◌∷◌, ◌++◌, ◌<◌, length, map, filter, slice_get, IfOk, OnErr, OnOk, count_by};
 ghost use Rattle.std.specs.Option.{option_copied};
 ghost use Rattle.std.specs.List.{list_any, flat_map};
 ghost use Rattle.dsn_tree.specs.Heads.{is_headed, items_of};
@@ -56,14 +56,16 @@ impl<'a> Trees<'a> {
         }
     }
 
-    /// Appends a tree.
+    /// Appends a tree; where memory is wanting, the trees stay as they were.
     pub fn push(&mut self, tree: &'a Tree) -> Result<(), AllocError>
-        ensures { OnOk result (self.new ≡ self.old ++ tree.now ∷ []) }
+        ensures ok { OnOk result (self.new ≡ self.old ++ tree.now ∷ []) }
+        ensures err { OnErr result (self.new ≡ self.old) }
     {
         self.refs.push(tree)?;
         Ok(())
     }
 
+    /// How many trees there are.
     pub fn len(&self) -> usize
         ensures { result ≡ length self.now }
     {
@@ -107,7 +109,7 @@ impl<'a> Trees<'a> {
     }
 
     /// Appends the lists with one of these heads that stand directly in the tree.
-    pub fn push_lists(&mut self, tree: &'a Tree, heads: &[&[u8]]) -> Result<(), AllocError>
+    pub(crate) fn push_lists(&mut self, tree: &'a Tree, heads: &[&[u8]]) -> Result<(), AllocError>
         ensures { OnOk result (self.new ≡ self.old ++ filter (has_head (heads_of heads.now)) (items_of tree.now)) }
     {
         for item in items(tree) {

@@ -5,11 +5,12 @@ use Rattle.std.specs.Str.{str_eq_ignore_ascii_case}
 use Rattle.dsn_tree.specs.declared.tree.Tree.{Tree}
 use Rattle.dsn_tree.specs.Heads.{is_headed, word}
 use Rattle.dsn_units.specs.Reading.{decimal_of}
-use Rattle.dsn_units.specs.Length.{nm_of, whole_of}
+use Rattle.dsn_units.specs.Length.{whole_of}
 use Rattle.dsn_units.specs.declared.number.Decimal.{Decimal}
 use Rattle.dsn_units.specs.declared.length.Scale.{Scale}
 use Rattle.geo_kernel.specs.declared.unit.Unit.{Unit}
 use Rattle.geo_kernel.specs.declared.unit.Unit.TheVariants.{Inch, Mil, Cm, Mm, Um}
+use Rattle.geo_kernel.specs.Units.{unit_nm}
 use Rattle.dsn_shapes.specs.declared.refusal.Refusal.{Refusal}
 use Rattle.dsn_shapes.specs.declared.parts.Head.{Head}
 use Rattle.dsn_shapes.specs.Refusals.{refused}
@@ -77,7 +78,7 @@ resolution_count ts = option_map_or (λ t. unwrap_or (count_of t) 0) (first_of t
 
 -- ---- the scale of the design's numbers: its unit's, or else its resolution's
 unfoldable pub scale_of : List Tree → List Tree → Scale
-scale_of us ts = record { nm = nm_of (option_map_or unit_in (first_of us) (resolution_unit ts)) }
+scale_of us ts = record { nm = unit_nm (option_map_or unit_in (first_of us) (resolution_unit ts)) }
 
 -- ---- what wrote the design
 abbrev pub host_in : Tree → Option (List ℕ)

@@ -6,8 +6,6 @@ mod areas;
 mod header;
 mod layers;
 mod layout;
-#[cfg(test)]
-mod tests;
 mod vias;
 
 pub use header::read_head;

@@ -6,8 +6,6 @@ mod context;
 mod fronts;
 mod laws;
 mod lexer;
-#[cfg(test)]
-mod tests;
 mod token;
 
 pub use context::{Context, Line};

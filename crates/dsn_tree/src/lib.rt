@@ -6,8 +6,6 @@ mod fault;
 mod heads;
 mod laws;
 mod reading;
-#[cfg(test)]
-mod tests;
 mod tree;
 
 pub use fault::TreeFault;

@@ -1,18 +1,8 @@
 -- Lengths of decimals, as fractions.
 use Rattle.std.specs.Prelude.{◌*◌, ◌/◌, ◌%◌, ◌^◌, ◌&&◌, ◌||◌, nat_le, nat_lt, Bool, ℕ, ℤ, pos, negsuc, ◌+ℤ◌, ◌*ℤ◌, neg_ℤ, if◌then◌else◌, suc, Option, Some, None, unsigned_abs}
 use Rattle.std.specs.Int.{int_div_euclid, int_rem_euclid, div_ceil}
-use Rattle.geo_kernel.specs.declared.unit.Unit.{Unit}
-use Rattle.geo_kernel.specs.declared.unit.Unit.TheVariants.{Inch, Mil, Cm, Mm, Um}
 use Rattle.dsn_units.specs.declared.angle.Angle.{Angle}
 use Rattle.dsn_units.specs.declared.number.Decimal.{Decimal}
-
--- the nm of a unit
-abbrev pub nm_of : Unit → ℕ
-nm_of Inch = 25400000
-nm_of Mil = 25400
-nm_of Cm = 10000000
-nm_of Mm = 1000000
-nm_of Um = 1000
 
 -- an exponent e stands for 10 ^ raised e / 10 ^ lowered e
 abbrev pub raised : ℤ → ℕ

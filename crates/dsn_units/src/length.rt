@@ -2,7 +2,8 @@
 //! Source of the units: SPECCTRA reference, unit and resolution descriptors.
 
 ghost use Rattle.std.specs.Prelude.{◌≡◌, ◌≤◌, ◌^◌, MatchResult, IfOk, Some, None, unsigned_abs};
-ghost use Rattle.dsn_units.specs.Length.{coord_of, extent_of, is_below_zero, nm_of, signed};
+ghost use Rattle.geo_kernel.specs.Units.{unit_nm};
+ghost use Rattle.dsn_units.specs.Length.{coord_of, extent_of, is_below_zero, signed};
 ghost use Rattle.dsn_units.specs.Halves.{nearest_half, roof_half};
 
 use crate::Decimal;
@@ -24,16 +25,9 @@ pub struct RangeFault;
 impl Scale {
     /// The scale of a unit.
     pub fn of(unit: Unit) -> Scale
-        ensures { result.nm ≡ nm_of unit }
+        ensures { result.nm ≡ unit_nm unit }
     {
-        let nm = match unit {
-            Unit::Inch => 25_400_000,
-            Unit::Mil => 25_400,
-            Unit::Cm => 10_000_000,
-            Unit::Mm => 1_000_000,
-            Unit::Um => 1_000,
-        };
-        Scale { nm }
+        Scale { nm: unit.nm() }
     }
 }
 

@@ -8,8 +8,6 @@ mod decimal;
 mod fraction;
 mod length;
 mod number;
-#[cfg(test)]
-mod tests;
 mod turn;
 
 pub use angle::Angle;

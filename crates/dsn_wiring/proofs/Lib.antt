@@ -1,3 +1,4 @@
 pub mod Below
 pub mod Most
 pub mod Sound
+pub mod Tabled

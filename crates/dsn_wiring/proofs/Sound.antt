@@ -21,6 +21,7 @@ use Rattle.dsn_units.specs.Reading.{decimal_of}
 use Rattle.pcb_model.specs.declared.item.Metal.{Metal}
 use Rattle.pcb_model.specs.declared.item.Metal.TheVariants.{Wire, Via, Pad, Ban}
 use Rattle.pcb_model.specs.Bounds.{IsMetalFit}
+use Rattle.pcb_model.specs.Sound.{origin}
 use Rattle.dsn_shapes.specs.declared.refusal.Refusal.{Refusal}
 use Rattle.dsn_shapes.specs.declared.refusal.What.TheVariants.{Items}
 use Rattle.dsn_shapes.specs.declared.parts.ReadNet.{ReadNet}
@@ -32,7 +33,7 @@ use Rattle.dsn_shapes.specs.declared.parts.Stack.{Stack}
 use Rattle.dsn_shapes.specs.declared.parts.Structure.{Structure}
 use Rattle.dsn_shapes.specs.Refusals.{least, refused}
 use Rattle.dsn_shapes.specs.Lists.{at_of, has_head, is_left_out, left_out, left_out_in, lists, name_of, nth_word, place_of, text_of}
-use Rattle.dsn_shapes.specs.Names.{first_place}
+use Rattle.dsn_shapes.specs.Names.{first_place, place_index, stack_names}
 use Rattle.dsn_shapes.specs.Numbers.{coord_refusal, limit_refusal, number_by, refusal_by, word_coord, word_coord_refusal}
 use Rattle.dsn_shapes.specs.Shapes.{form_heads, shape_of, shape_refusals}
 use Rattle.dsn_shapes.proofs.Fits.{back_nil, each_nil, first_below, front_nil, none_left, shape_fit, test_fails, test_holds}
@@ -40,9 +41,9 @@ use Rattle.dsn_shapes.specs.Fits.{IsShapeFit}
 use Rattle.dsn_shapes.proofs.Few.{few_left, shape_layered, shape_layers}
 use Rattle.dsn_shapes.proofs.Within.{IsNearIfRead, wanted_near}
 use Rattle.dsn_wiring.specs.Layers.{has_layer, layers_below}
-use Rattle.dsn_wiring.specs.Nets.{index, is_fixed, net_names, net_of, net_refusals, place_in}
+use Rattle.dsn_wiring.specs.Nets.{is_fixed, net_names, net_of, net_refusals, place_in}
 use Rattle.dsn_wiring.specs.Wires.{chain_of, further_forms, is_unfit, no_form, no_wire, others_in, path_metal, path_refusals, paths_in, refused_form, wire_metal, wire_refusals}
-use Rattle.dsn_wiring.specs.Vias.{coord_of, is_far, is_past, is_via_past, origin, past_refusal, point_by, spine_past, stack_at, stack_names, stack_past, stack_place, unknown_stack, via_metal, via_place, via_place_refusals, via_refusals}
+use Rattle.dsn_wiring.specs.Vias.{coord_of, is_far, is_past, is_via_past, past_refusal, point_by, spine_past, stack_at, stack_past, stack_place, unknown_stack, via_metal, via_place, via_place_refusals, via_refusals}
 use Rattle.dsn_wiring.specs.Counts.{items_before, too_many}
 use Rattle.dsn_wiring.specs.Whole.{lists_left_out, metal_of, metal_refusals, refusals_of, wire_lists, wire_of, wiring_of, wiring_refusals, wirings}
 use Rattle.dsn_wiring.specs.Sound.{HasFewStacks, IsCopperSound, IsStackNear, IsWireSound, IsWiringSound}
@@ -203,10 +204,10 @@ stack_found : (stacks : List Stack) (i : ℕ) (at : Option Point) → i < length
 stack_found stacks i None l s e = cc
 stack_found stacks i (Some at) l s e = found_at (IsStackNear at) stacks i l (λ stack h. stack_near at stack (let f : option_map_or (stack_past at) (Some stack) false ≡ false = rw h at e in f))
 
-index_is : (i n : ℕ) → i < n → n ≤ 2 ^ 32 → index i ≡ i
+index_is : (i n : ℕ) → i < n → n ≤ 2 ^ 32 → place_index i ≡ i
 index_is i n l h = omega arith
 
-via_at : (lib : Library) (place : Option ℕ) (at : Option Point) → HasFewStacks lib → ((i : ℕ) → place ≡ Some i → i < length lib.stacks) → is_some place ≡ true → is_some at ≡ true → is_via_past (stack_at lib.stacks place) at ≡ false → IsSomeAnd (slice_get lib.stacks (index (unwrap_or place 0))) (IsStackNear (unwrap_or at origin))
+via_at : (lib : Library) (place : Option ℕ) (at : Option Point) → HasFewStacks lib → ((i : ℕ) → place ≡ Some i → i < length lib.stacks) → is_some place ≡ true → is_some at ≡ true → is_via_past (stack_at lib.stacks place) at ≡ false → IsSomeAnd (slice_get lib.stacks (place_index (unwrap_or place 0))) (IsStackNear (unwrap_or at origin))
 via_at lib None at few below s k e = cc
 via_at lib (Some i) at few below s k e =
     let l = below i refl in
@@ -234,7 +235,7 @@ list_in_range : (names : List (List ℕ)) (o : Option Tree) → IfSome (option_m
 list_in_range names None = tt
 list_in_range names (Some t) = word_in_range names (nth_word t 1)
 
-index_in_range : (n : ℕ) (o : Option ℕ) → IfSome o (λ k. k < n) → IfSome (option_map index o) (λ k. k < n)
+index_in_range : (n : ℕ) (o : Option ℕ) → IfSome o (λ k. k < n) → IfSome (option_map place_index o) (λ k. k < n)
 index_in_range n None h = tt
 index_in_range n (Some k) h = omega arith
 

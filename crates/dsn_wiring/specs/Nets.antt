@@ -1,5 +1,5 @@
 -- The net of a wire or via, and whether it is fixed.
-use Rattle.std.specs.Prelude.{◌||◌, ◌^◌, ◌-◌, min, ℕ, Bool, false, not, List, [], ◌∷◌, Option, None, codes, is_some, map, if◌then◌else◌}
+use Rattle.std.specs.Prelude.{◌||◌, ℕ, Bool, false, not, List, [], ◌∷◌, Option, None, codes, is_some, map, if◌then◌else◌}
 use Rattle.std.specs.Option.{option_map, option_map_or}
 use Rattle.dsn_tree.specs.declared.tree.Tree.{Tree}
 use Rattle.dsn_tree.specs.Heads.{child}
@@ -7,14 +7,10 @@ use Rattle.dsn_shapes.specs.declared.refusal.Refusal.{Refusal}
 use Rattle.dsn_shapes.specs.declared.parts.ReadNet.{ReadNet}
 use Rattle.dsn_shapes.specs.Refusals.{refused}
 use Rattle.dsn_shapes.specs.Lists.{nth_word, place_of, says, text_of}
-use Rattle.dsn_shapes.specs.Names.{first_place}
+use Rattle.dsn_shapes.specs.Names.{first_place, place_index}
 
 abbrev pub net_names : List ReadNet → List (List ℕ)
 net_names nets = map (λ (n : ReadNet). n.name) nets
-
--- a place as an index, which ends at 2^32 - 1
-abbrev pub index : ℕ → ℕ
-index place = min place (2 ^ 32 - 1)
 
 -- the place of the net that a list such as `(net A)` names; one without a word names none, also where a net has the empty name
 abbrev pub place_in : List (List ℕ) → Tree → Option ℕ
@@ -25,7 +21,7 @@ unknown_net nets t = if is_some (place_in nets t) then [] else refused 20 (place
 
 -- the net of a wire or via, by its first list `net`
 unfoldable pub net_of : List (List ℕ) → Tree → Option ℕ
-net_of nets t = option_map index (option_map_or (place_in nets) (child t (codes "net")) None)
+net_of nets t = option_map place_index (option_map_or (place_in nets) (child t (codes "net")) None)
 
 unfoldable pub net_refusals : List (List ℕ) → Tree → List Refusal
 net_refusals nets t = option_map_or (unknown_net nets) (child t (codes "net")) []

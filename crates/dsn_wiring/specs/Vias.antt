@@ -1,5 +1,5 @@
 -- Vias: a padstack of the library and its place.
-use Rattle.std.specs.Prelude.{◌+ℤ◌, ◌||◌, ◌^◌, nat_lt, unsigned_abs, ℕ, ℤ, pos, Bool, false, List, [], ◌∷◌, ◌++◌, Option, Some, None, is_some, map, slice_get, unwrap_or, if◌then◌else◌}
+use Rattle.std.specs.Prelude.{◌+ℤ◌, ◌||◌, ◌^◌, nat_lt, unsigned_abs, ℕ, ℤ, Bool, false, List, [], ◌∷◌, ◌++◌, Option, Some, None, is_some, slice_get, unwrap_or, if◌then◌else◌}
 use Rattle.std.specs.List.{list_any}
 use Rattle.std.specs.Option.{option_map_or}
 use Rattle.dsn_tree.specs.declared.tree.Tree.{Tree}
@@ -8,17 +8,14 @@ use Rattle.geo_kernel.specs.declared.spine.Spine.{Spine}
 use Rattle.geo_kernel.specs.declared.spine.Spine.TheVariants.{Chain, Area}
 use Rattle.pcb_model.specs.declared.item.Metal.{Metal}
 use Rattle.pcb_model.specs.declared.item.Metal.TheVariants.{Via}
+use Rattle.pcb_model.specs.Sound.{origin}
 use Rattle.dsn_shapes.specs.declared.refusal.Refusal.{Refusal}
 use Rattle.dsn_shapes.specs.declared.parts.LayerShape.{LayerShape}
 use Rattle.dsn_shapes.specs.declared.parts.Stack.{Stack}
 use Rattle.dsn_shapes.specs.Refusals.{refused}
 use Rattle.dsn_shapes.specs.Lists.{at_of, name_of, nth_word, place_of}
-use Rattle.dsn_shapes.specs.Names.{first_place}
+use Rattle.dsn_shapes.specs.Names.{first_place, place_index}
 use Rattle.dsn_shapes.specs.Numbers.{word_coord, coord_refusal}
-use Rattle.dsn_wiring.specs.Nets.{index}
-
-abbrev pub stack_names : List Stack → List (List ℕ)
-stack_names stacks = map (λ (s : Stack). s.name) stacks
 
 -- ---- padstacks of these names
 abbrev pub stack_place : List (List ℕ) → Tree → Option ℕ
@@ -68,11 +65,8 @@ unfoldable pub past_refusal : List Stack → Option ℕ → Option Point → Tre
 past_refusal stacks place at t = if is_via_past (stack_at stacks place) at then refused 10 (at_of t) ∷ [] else []
 
 -- ---- the via
-abbrev pub origin : Point
-origin = record { x = pos 0; y = pos 0 }
-
 unfoldable pub via_metal : ℕ → List (List ℕ) → Tree → Metal
-via_metal nm names t = Via (index (unwrap_or (stack_place names t) 0)) (unwrap_or (via_place nm t) origin)
+via_metal nm names t = Via (place_index (unwrap_or (stack_place names t) 0)) (unwrap_or (via_place nm t) origin)
 
 unfoldable pub via_refusals : ℕ → List Stack → List (List ℕ) → Tree → List Refusal
 via_refusals nm stacks names t = unknown_stack names t ++ (via_place_refusals nm t ++ past_refusal stacks (stack_place names t) (via_place nm t) t)

@@ -16,7 +16,8 @@ use Rattle.dsn_shapes.specs.declared.parts.Wiring.{Wiring}
 use Rattle.dsn_shapes.specs.Lists.{at_of, lists, capped, notes_in, left_out_in}
 use Rattle.dsn_wiring.specs.Nets.{net_names, net_of, net_refusals, is_fixed}
 use Rattle.dsn_wiring.specs.Wires.{wire_metal, wire_refusals}
-use Rattle.dsn_wiring.specs.Vias.{stack_names, via_metal, via_refusals}
+use Rattle.dsn_shapes.specs.Names.{stack_names}
+use Rattle.dsn_wiring.specs.Vias.{via_metal, via_refusals}
 use Rattle.dsn_wiring.specs.Counts.{items_before, too_many}
 
 abbrev pub wirings : Tree → List Tree

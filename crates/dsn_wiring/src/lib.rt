@@ -5,12 +5,9 @@
 mod counts;
 mod layers;
 mod net;
-#[cfg(test)]
-mod tests;
 mod via;
 mod wire;
 mod wiring;
 
 pub use layers::layers_below;
-pub use via::stack_names;
 pub use wiring::read_wiring;

@@ -1,26 +1,17 @@
 //! The net of a wire or via, and whether it is fixed.
 //! Source: SPECCTRA reference, wire and via descriptors of the wiring.
 
-ghost use Rattle.std.specs.Prelude.{◌≡◌, ◌^◌, ◌-◌, min, IfOk};
-ghost use Rattle.dsn_shapes.specs.Lists.{heads_of};
+ghost use Rattle.std.specs.Prelude.{◌≡◌, IfOk};
 ghost use Rattle.dsn_shapes.specs.Refusals.{noted};
-ghost use Rattle.dsn_wiring.specs.Nets.{index, is_fix, is_fixed, net_names, net_of, net_refusals, place_in, unknown_net};
+ghost use Rattle.dsn_wiring.specs.Nets.{is_fix, is_fixed, net_names, net_of, net_refusals, place_in, unknown_net};
 
-use dsn_shapes::{NameIndex, ReadNet, Refusal, note, nth_word, place_of, refused, says, text_of};
+use dsn_shapes::{
+    NameIndex, ReadNet, Refusal, names_of, note, nth_word, place_index, place_of, refused, says,
+    text_of,
+};
 use dsn_tree::{Tree, child};
 use geo_kernel::List;
 use std::alloc::{AllocError, Global};
-
-/// The names of these nets.
-fn names_of<'a>(alloc: Global, nets: &'a [ReadNet]) -> Result<Vec<&'a [u8]>, AllocError>
-    ensures { IfOk result (λ names. heads_of names.items ≡ net_names nets.now) }
-{
-    let mut names = Vec::new(alloc);
-    for net in nets {
-        names.push(net.name.as_slice())?;
-    }
-    Ok(names)
-}
 
 /// The index of the names of these nets.
 pub(crate) fn net_names<'a>(
@@ -29,14 +20,7 @@ pub(crate) fn net_names<'a>(
 ) -> Result<NameIndex<'a>, AllocError>
     ensures { IfOk result (λ x. x ≡ net_names nets.now) }
 {
-    NameIndex::of(alloc, names_of(alloc, nets.as_slice())?)
-}
-
-/// A place as an index, which ends at 2^32 - 1.
-pub(crate) fn index(place: usize) -> u32
-    ensures { result ≡ index place }
-{
-    place.min(0xFFFF_FFFF) as u32
+    names_of(alloc, nets.as_slice())
 }
 
 fn place_in(nets: &NameIndex, tree: &Tree) -> Option<usize>
@@ -70,7 +54,7 @@ pub(crate) fn net_of(first: &mut Option<Refusal>, nets: &NameIndex, tree: &Tree)
         return None;
     };
     match known_place(first, nets, found) {
-        Some(place) => Some(index(place)),
+        Some(place) => Some(place_index(place)),
         None => None,
     }
 }

@@ -3,14 +3,15 @@
 
 ghost use Rattle.std.specs.Prelude.{◌≡◌, IfOk};
 ghost use Rattle.std.specs.List.{list_any};
-ghost use Rattle.dsn_shapes.specs.Lists.{heads_of};
+ghost use Rattle.pcb_model.specs.Sound.{origin};
+ghost use Rattle.dsn_shapes.specs.Names.{stack_names};
 ghost use Rattle.dsn_shapes.specs.Numbers.{coord_refusal};
 ghost use Rattle.dsn_shapes.specs.Refusals.{noted};
-ghost use Rattle.dsn_wiring.specs.Vias.{coord_of, is_far, is_past, origin, past_refusal, point_by, spine_past, stack_names, stack_past, stack_place, unknown_stack, via_metal, via_place, via_place_refusals, via_refusals};
+ghost use Rattle.dsn_wiring.specs.Vias.{coord_of, is_far, is_past, past_refusal, point_by, spine_past, stack_past, stack_place, unknown_stack, via_metal, via_place, via_place_refusals, via_refusals};
 
-use crate::net::index;
 use dsn_shapes::{
-    NameIndex, Refusal, Stack, at_of, coord_in, name_of, note, nth_word, place_of, refused,
+    NameIndex, Refusal, Stack, at_of, coord_in, name_of, names_of, note, nth_word, place_index,
+    place_of, refused,
 };
 use dsn_tree::Tree;
 use dsn_units::Scale;
@@ -18,21 +19,14 @@ use geo_kernel::{List, Point, Spine};
 use pcb_model::Metal;
 use std::alloc::{AllocError, Global};
 
-fn names_of<'a>(alloc: Global, stacks: &'a [Stack]) -> Result<Vec<&'a [u8]>, AllocError>
-    ensures { IfOk result (λ names. heads_of names.items ≡ stack_names stacks.now) }
-{
-    let mut names = Vec::new(alloc);
-    for stack in stacks {
-        names.push(stack.name.as_slice())?;
-    }
-    Ok(names)
-}
-
 /// The index of the names of these padstacks.
-pub fn stack_names<'a>(alloc: Global, stacks: &'a List<Stack>) -> Result<NameIndex<'a>, AllocError>
+pub(crate) fn stack_names<'a>(
+    alloc: Global,
+    stacks: &'a List<Stack>,
+) -> Result<NameIndex<'a>, AllocError>
     ensures { IfOk result (λ x. x ≡ stack_names stacks.now) }
 {
-    NameIndex::of(alloc, names_of(alloc, stacks.as_slice())?)
+    names_of(alloc, stacks.as_slice())
 }
 
 // Where the padstack of a via stands among those of these names.
@@ -180,7 +174,7 @@ pub(crate) fn note_via(
     let at = via_place(first, via, s);
     refuse_past(first, stacks, place, at, via);
     Metal::Via {
-        padstack: index(place.unwrap_or(0)),
+        padstack: place_index(place.unwrap_or(0)),
         at: at.unwrap_or(origin()),
     }
 }

@@ -4,10 +4,10 @@
 ghost use Rattle.std.specs.Prelude.{◌≡◌, map, IfOk, OnOk};
 ghost use Rattle.std.specs.List.{flat_map};
 ghost use Rattle.dsn_shapes.specs.Lists.{capped};
+ghost use Rattle.dsn_shapes.specs.Names.{stack_names};
 ghost use Rattle.dsn_shapes.specs.Refusals.{Reads, noted};
 ghost use Rattle.dsn_wiring.specs.Nets.{net_names};
 ghost use Rattle.dsn_wiring.specs.Sound.{HasFewStacks, IsWiringSound};
-ghost use Rattle.dsn_wiring.specs.Vias.{stack_names};
 ghost use Rattle.dsn_wiring.specs.Whole.{lists_left_out, lists_passed, metal_of, metal_refusals, refusals_of, wire_lists, wire_of, wiring_of, wiring_refusals, wirings};
 
 use crate::counts::refuse_many;

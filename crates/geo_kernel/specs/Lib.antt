@@ -1,3 +1,4 @@
+pub mod Units
 pub mod Plane
 pub mod Nearest
 pub mod Spine

@@ -12,8 +12,6 @@ mod point;
 mod rect;
 mod segment;
 mod spine;
-#[cfg(test)]
-mod tests;
 mod unit;
 
 pub use interior::{first_point, inside};

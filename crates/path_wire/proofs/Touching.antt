@@ -30,7 +30,7 @@ use Rattle.pcb_model.proofs.Within.{All-at}
 use Rattle.route_lattice.specs.Mesh.{Mesh, point_of, layer_of}
 use Rattle.route_lattice.specs.Ways.{has_copper}
 use Rattle.route_lattice.specs.Anchors.{Holds, Anchors}
-use Rattle.path_wire.specs.Plain.{ArePlain, IsPlainItem, IsPlainCopper}
+use Rattle.pcb_model.specs.Plain.{ArePlain, IsPlainItem, IsPlainCopper}
 use Rattle.path_wire.specs.Lays.{laid_item}
 use Rattle.path_wire.specs.Joins.{HasNode}
 

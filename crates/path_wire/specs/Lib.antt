@@ -1,4 +1,3 @@
 pub mod Wires
 pub mod Lays
 pub mod Joins
-pub mod Plain

@@ -19,7 +19,7 @@ ghost use Rattle.route_lattice.specs.Legal.{IsLegalProbe, legal_graph};
 ghost use Rattle.path_wire.specs.Wires.{IsNetWalk, copper_of};
 ghost use Rattle.path_wire.specs.Lays.{move_probes, walk_probes, laid_item, IsProbeInside, IsMetalInside, IsWellLaid};
 ghost use Rattle.path_wire.specs.Joins.{HasNode, Connect, last_node};
-ghost use Rattle.path_wire.specs.Plain.{ArePlain, IsPlainItem, IsPlainCopper};
+ghost use Rattle.pcb_model.specs.Plain.{ArePlain, IsPlainItem, IsPlainCopper};
 
 /// A walk over legal moves, from nodes of the lattice, is a walk of the net; what each of its moves lays is legal; it leads from a start to a goal.
 pub fn net_walks()

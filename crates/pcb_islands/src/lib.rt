@@ -8,8 +8,6 @@ mod ids;
 mod laws;
 mod net;
 mod places;
-#[cfg(test)]
-mod tests;
 
 pub use laws::{island_items_own, islands_are_one, joining_falls, others_change_nothing};
 pub use net::{Island, is_whole, islands};

@@ -9,3 +9,4 @@ pub mod Inner
 pub mod Near
 pub mod Copper
 pub mod Scale
+pub mod Plain

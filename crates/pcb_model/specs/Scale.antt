@@ -5,8 +5,8 @@ use Rattle.std.specs.Option.{option_map_or}
 use Rattle.geo_kernel.specs.declared.point.Point.{Point}
 use Rattle.geo_kernel.specs.declared.spine.Spine.{Spine}
 use Rattle.geo_kernel.specs.declared.spine.Spine.TheVariants.{Chain, Area}
-use Rattle.geo_kernel.specs.declared.unit.Unit.{Unit as LengthUnit}
-use Rattle.geo_kernel.specs.declared.unit.Unit.TheVariants.{Inch, Mil, Cm, Mm, Um}
+use Rattle.geo_kernel.specs.declared.unit.Unit.TheVariants.{Um}
+use Rattle.geo_kernel.specs.Units.{unit_nm}
 use Rattle.pcb_model.specs.declared.item.Piece.{Piece}
 use Rattle.pcb_model.specs.declared.item.Item.{Item}
 use Rattle.pcb_model.specs.declared.item.Metal.{Metal}
@@ -19,14 +19,6 @@ use Rattle.pcb_model.specs.declared.design.FreeWire.{FreeWire}
 use Rattle.pcb_model.specs.declared.design.Design.{Design}
 use Rattle.pcb_model.specs.declared.design.SesScale.{SesScale}
 use Rattle.pcb_model.specs.Rules.{first_present, with_class}
-
--- nm in one unit of length
-abbrev pub unit_nm : LengthUnit → ℕ
-unit_nm Inch = 25400000
-unit_nm Mil = 25400
-unit_nm Cm = 10000000
-unit_nm Mm = 1000000
-unit_nm Um = 1000
 
 abbrev pub is_whole : ℕ → ℕ → Bool
 is_whole nm n = n % nm == 0

@@ -4,8 +4,6 @@
 
 mod copper;
 mod design;
-#[cfg(test)]
-mod fixtures;
 mod item;
 mod laws;
 mod legal;
@@ -18,8 +16,6 @@ mod rules;
 mod scale;
 mod search;
 mod steps;
-#[cfg(test)]
-mod tests;
 
 pub use copper::Copper;
 pub use design::{

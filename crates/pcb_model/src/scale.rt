@@ -3,25 +3,11 @@
 
 ghost use Rattle.std.specs.Prelude.{◌≡◌, ◌<◌, ◌≤◌};
 ghost use Rattle.std.specs.List.{list_all};
-ghost use Rattle.pcb_model.specs.Scale.{unit_nm, is_whole_point, is_whole_spine, is_whole_piece, is_whole_padstack, is_whole_metal, net_width, is_whole_net, is_on_scale, scale_of};
+ghost use Rattle.pcb_model.specs.Scale.{is_whole_point, is_whole_spine, is_whole_piece, is_whole_padstack, is_whole_metal, net_width, is_whole_net, is_on_scale, scale_of};
 
 use crate::rules::width_in_class;
 use crate::{Component, Design, FreeWire, Item, Metal, Net, Piece, SesScale};
 use geo_kernel::{List, Point, Spine, Unit};
-
-fn nm_in(unit: Unit) -> u64
-    ensures value { result ≡ unit_nm unit }
-    ensures some { 0 < result }
-    ensures few { result ≤ 25400000 }
-{
-    match unit {
-        Unit::Inch => 25_400_000,
-        Unit::Mil => 25_400,
-        Unit::Cm => 10_000_000,
-        Unit::Mm => 1_000_000,
-        Unit::Um => 1_000,
-    }
-}
 
 fn has_whole_point(nm: u64, p: &Point) -> bool
     requires { 0 < nm }
@@ -161,7 +147,7 @@ impl SesScale {
         ensures some { 0 < result.nm }
         ensures few { result.nm ≤ 25400000 }
     {
-        let nm = nm_in(d.unit);
+        let nm = d.unit.nm();
         if d.per > 0 && nm % d.per == 0 && has_whole_parts(d, nm / d.per) {
             SesScale {
                 unit: d.unit,

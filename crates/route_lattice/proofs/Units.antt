@@ -8,7 +8,8 @@ use Rattle.geo_kernel.specs.declared.unit.Unit.{Unit as LengthUnit}
 use Rattle.geo_kernel.specs.declared.unit.Unit.TheVariants.{Inch, Mil, Cm, Mm, Um}
 use Rattle.pcb_model.specs.declared.design.Design.{Design}
 use Rattle.pcb_model.specs.declared.design.SesScale.{SesScale}
-use Rattle.pcb_model.specs.Scale.{scale_of, unit_nm, keeps_resolution, is_on_scale, is_whole}
+use Rattle.geo_kernel.specs.Units.{unit_nm}
+use Rattle.pcb_model.specs.Scale.{scale_of, keeps_resolution, is_on_scale, is_whole}
 
 some_nm : (u : LengthUnit) → 0 < unit_nm u
 some_nm Inch = omega arith

@@ -15,8 +15,6 @@ mod moves;
 mod near;
 mod outline;
 mod round;
-#[cfg(test)]
-mod tests;
 mod touch;
 mod ways;
 

@@ -6,8 +6,6 @@ mod library;
 mod network;
 mod placement;
 mod session;
-#[cfg(test)]
-mod tests;
 mod words;
 
 pub use session::session_text;

@@ -11,8 +11,6 @@ mod labels;
 mod marks;
 mod search;
 mod task;
-#[cfg(test)]
-mod tests;
 mod ties;
 mod trace;
 

@@ -1,11 +1,7 @@
 use Rattle.std.proofs.Common.{arith, sym}
 use Rattle.dsn_route.specs.Said.{command_from}
-use Rattle.dsn_route.proofs.Plain.{plain_copper}
 use Rattle.dsn_route.proofs.Unread.{unread, lacks}
 use Rattle.dsn_route.proofs.route.route_text.Goals as goal
-
-pub route_design-requires-clause-plain : goal.route_design-requires-clause-plain
-route_design-requires-clause-plain g c = plain_copper c.in-Ok.design c.in-Ok.ensures.plain
 
 pub read_design-requires : goal.read_design-requires
 read_design-requires g c = omega (arith, c.requires.input.fits)

@@ -1,4 +1,0 @@
-use Rattle.bench_model.proofs.rounds.run_timed.Given as goal
-
-abbrev pub ghosts-count : goal.ghosts-count
-ghosts-count g a = record { name = a.blank.name; parts = a.blank.parts }

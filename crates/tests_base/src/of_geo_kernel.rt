@@ -1,0 +1,368 @@
+//! What no clause shows: worked distances, each public call, and random segments against all fractions.
+//! A distance is given twice, as `k`.
+
+ghost use Rattle.std.specs.Prelude.{◌≡◌, ◌≤◌, ◌<◌, ◌^◌, ◌∷◌, [], pos, All, IfOk, length, unsigned_abs};
+ghost use Rattle.geo_kernel.specs.Plane.{IsWithin};
+ghost use Rattle.geo_kernel.specs.Spine.{IsWellFormed, IsSpineWithin};
+ghost use Rattle.geo_kernel.specs.Props.{well_formed_prop, spine_within_prop};
+
+use geo_kernel::{
+    List, Point, Rect4, Spine, box_of, first_point, inside, on_spine, parted, points_keep,
+    seg_keeps, seg_touches, spine_keeps, spine_keeps_moved, spine_touch, spine_touch_moved,
+};
+use std::alloc::{AllocError, Global};
+use std::test::Fail;
+
+fn at(x: i16, y: i16) -> Point
+    ensures { IsWithin (2 ^ 29) result }
+{
+    Point {
+        x: x as i64,
+        y: y as i64,
+    }
+}
+
+// ---- segments, each by the x and y of its two ends
+
+type End = (i16, i16);
+
+#[derive(Clone, Copy)]
+struct Pair {
+    a: End,
+    b: End,
+    c: End,
+    d: End,
+}
+
+/// Whether the segments keep `k / 2` exactly where `keeps` says so, and touch by it exactly where `touches` does.
+fn is_so(pair: Pair, k: u16, keeps: bool, touches: bool) -> bool {
+    let (a, b) = (at(pair.a.0, pair.a.1), at(pair.b.0, pair.b.1));
+    let (c, d) = (at(pair.c.0, pair.c.1), at(pair.d.0, pair.d.1));
+    seg_keeps(a, b, c, d, k as u64) == keeps && seg_touches(a, b, c, d, k as u64) == touches
+}
+
+#[test]
+fn segments_keep_and_touch_by_worked_distances(rt: HostRuntime) {
+    for &(a, b, c, d, k, keeps, touches) in &[
+        ((0, 0), (10, 10), (0, 10), (10, 0), 0, true, true),
+        ((0, 0), (10, 10), (0, 10), (10, 0), 1, false, true),
+        ((0, 0), (4, 3), (3, -4), (3, -4), 9, true, false),
+        ((0, 0), (4, 3), (3, -4), (3, -4), 10, true, true),
+        ((0, 0), (4, 3), (3, -4), (3, -4), 11, false, true),
+        ((0, 0), (10, 0), (5, 0), (20, 0), 1, false, true),
+    ] {
+        assert!(rt; is_so(Pair { a, b, c, d }, k, keeps, touches), "at {k}");
+    }
+}
+
+const FAR: i64 = 536870912;
+
+/// The diagonal of all that may be asked for, and the upper left corner.
+fn diagonal_keeps_from_corner() -> bool {
+    let low = Point { x: -FAR, y: -FAR };
+    let high = Point { x: FAR, y: FAR };
+    let corner = Point { x: -FAR, y: FAR };
+    seg_keeps(low, high, corner, corner, 1073741824)
+}
+
+#[test]
+fn the_farthest_segments_keep_the_farthest_distance(rt: HostRuntime) {
+    assert!(rt; diagonal_keeps_from_corner());
+}
+
+// ---- random segments, against all fractions
+
+fn next(seed: u64) -> u64 {
+    seed.wrapping_mul(6364136223846793005)
+        .wrapping_add(1442695040888963407)
+}
+
+fn small(seed: u64) -> i16 {
+    ((seed >> 33) % 5) as i16
+}
+
+fn end(seed: u64) -> End {
+    (small(seed), small(next(seed)))
+}
+
+fn pair_of(seed: u64) -> Pair {
+    let second = next(next(seed));
+    let third = next(next(second));
+    Pair {
+        a: end(seed),
+        b: end(second),
+        c: end(third),
+        d: end(next(next(third))),
+    }
+}
+
+/// `n` times the way along one axis, from the point at `t / n` of `i` to `j` to that at `s / n` of `p` to `q`.
+/// All numbers here are whole and small, so that `f64` is exact.
+fn way(n: f64, s: f64, t: f64, p: i16, q: i16, i: i16, j: i16) -> f64 {
+    (n - s) * f64::from(p) + s * f64::from(q) - (n - t) * f64::from(i) - t * f64::from(j)
+}
+
+/// How much the squared distance of two such points passes that of `k / 2`, times `4 * n * n`.
+fn excess(pair: Pair, k: f64, n: f64, s: f64, t: f64) -> f64 {
+    let x = way(n, s, t, pair.a.0, pair.b.0, pair.c.0, pair.d.0);
+    let y = way(n, s, t, pair.a.1, pair.b.1, pair.c.1, pair.d.1);
+    4.0 * (x * x + y * y) - k * k * n * n
+}
+
+fn least_at(pair: Pair, k: f64, n: u8) -> f64 {
+    let count = n as u32 + 1;
+    let mut least = f64::MAX;
+    for place in 0..count * count {
+        let (s, t) = (f64::from(place / count), f64::from(place % count));
+        least = least.min(excess(pair, k, f64::from(n), s, t));
+    }
+    least
+}
+
+/// The least excess of all pairs of points. Segments are nearest at two ends, at an end and its foot on the other,
+/// or where they cross: at denominator 1, the squared length of either, or the cross product, all at most 32.
+fn least_of(pair: Pair, k: f64) -> f64 {
+    let mut least = f64::MAX;
+    for n in 1..33u8 {
+        least = least.min(least_at(pair, k, n));
+    }
+    least
+}
+
+/// Whether both calls answer as all fractions do, for the segments that the seed picks.
+fn is_as_slow(seed: u64, k: u16) -> bool {
+    let least = least_of(pair_of(seed), f64::from(k));
+    is_so(pair_of(seed), k, least >= 0.0, least <= 0.0)
+}
+
+#[test]
+fn random_segments_keep_and_touch_as_all_fractions_say(rt: HostRuntime) {
+    let mut seed = 7;
+    for case in 0..1000u16 {
+        assert!(rt; is_as_slow(seed, case % 10), "case {case}");
+        for _ in 0..8 {
+            seed = next(seed);
+        }
+    }
+}
+
+// ---- chains and areas
+
+#[derive(Drop)]
+struct Figure {
+    spine: Spine,
+    ghost well_formed: { IsWellFormed spine } by { well_formed_prop spine },
+    ghost within: { IsSpineWithin (2 ^ 29) spine } by { spine_within_prop (2 ^ 29) spine },
+}
+
+fn chain(alloc: Global, points: &[Point]) -> Result<Figure, AllocError>
+    requires some { 0 < length points.now }
+    requires within { All (IsWithin (2 ^ 29)) points.now }
+{
+    Ok(Figure {
+        spine: Spine::Chain(List::from_slice(alloc, points)?),
+    })
+}
+
+fn ring(alloc: Global, corners: &[Point; 4]) -> Result<List<Point>, AllocError>
+    requires { All (IsWithin (2 ^ 29)) corners.now }
+    ensures { IfOk result (λ points. (length points ≡ 4) × All (IsWithin (2 ^ 29)) points) }
+{
+    List::from_slice(alloc, corners)
+}
+
+fn square(alloc: Global, low: i16, high: i16) -> Result<List<Point>, AllocError>
+    ensures { IfOk result (λ points. (length points ≡ 4) × All (IsWithin (2 ^ 29)) points) }
+{
+    ring(
+        alloc,
+        &[at(low, low), at(high, low), at(high, high), at(low, high)],
+    )
+}
+
+/// The square from 0 to 10, and one with a square hole from 3 to 7.
+fn loops(alloc: Global, hole: bool) -> Result<List<List<Point>>, AllocError>
+    ensures some { IfOk result (λ loops. 0 < length loops) }
+    ensures close { IfOk result (All (λ points. 3 ≤ length points)) }
+    ensures within { IfOk result (All (All (IsWithin (2 ^ 29)))) }
+{
+    let mut loops = List::new(alloc);
+    loops.push(square(alloc, 0, 10)?)?;
+    if hole {
+        loops.push(square(alloc, 3, 7)?)?;
+    }
+    Ok(loops)
+}
+
+fn area(alloc: Global, hole: bool) -> Result<Figure, AllocError> {
+    Ok(Figure {
+        spine: Spine::Area(loops(alloc, hole)?),
+    })
+}
+
+// ---- chains beside areas
+
+/// Whether the point (5, 5) keeps `k / 2` from a figure exactly where `keeps` says so.
+fn point_is_so(alloc: Global, figure: &Figure, k: u16, keeps: bool) -> bool {
+    match chain(alloc, &[at(5, 5)]) {
+        Ok(point) => spine_keeps(&point.spine, &figure.spine, k as u64) == keeps,
+        Err(_) => false,
+    }
+}
+
+fn point_in_square_is_so(alloc: Global, hole: bool, k: u16, keeps: bool) -> bool {
+    match area(alloc, hole) {
+        Ok(figure) => point_is_so(alloc, &figure, k, keeps),
+        Err(_) => false,
+    }
+}
+
+#[test]
+fn a_point_in_a_square_keeps_from_it_only_where_there_is_a_hole(rt: HostRuntime) {
+    for &(hole, k, keeps) in &[(false, 1, false), (true, 4, true), (true, 5, false)] {
+        assert!(rt; point_in_square_is_so(rt.alloc(), hole, k, keeps), "at {k}");
+    }
+}
+
+/// The chain from (5, 5) to (5, 6).
+fn line(alloc: Global) -> Result<Figure, AllocError> {
+    chain(alloc, &[at(5, 5), at(5, 6)])
+}
+
+/// Whether the line's points keep `k / 2` from the ring where `keeps` says so, and it touches the ring where `touches` does.
+fn line_is_so(line: &Figure, ring: &Figure, k: u16, keeps: bool, touches: bool) -> bool {
+    points_keep(&[at(5, 5), at(5, 6)], &ring.spine, k as u64) == keeps
+        && spine_touch(&line.spine, &ring.spine, k as u64) == touches
+}
+
+/// Whether the line keeps and touches by its distance: it ends 1 below the hole's upper edge.
+fn line_keeps_and_touches(alloc: Global, ring: &Figure) -> bool {
+    match line(alloc) {
+        Ok(line) => {
+            line_is_so(&line, ring, 1, true, false)
+                && line_is_so(&line, ring, 2, true, true)
+                && line_is_so(&line, ring, 3, false, true)
+        }
+        Err(_) => false,
+    }
+}
+
+#[test]
+fn a_line_in_a_hole_keeps_and_touches_by_the_distance_of_its_nearest_point(
+    rt: HostRuntime,
+) -> Result<(), Fail> {
+    assert!(rt; line_keeps_and_touches(rt.alloc(), &area(rt.alloc(), true)?));
+    Ok(())
+}
+
+fn has_its_points(line: &Figure) -> bool {
+    on_spine(at(5, 6), &line.spine)
+        && !on_spine(at(5, 7), &line.spine)
+        && first_point(&line.spine) == at(5, 5)
+}
+
+#[test]
+fn a_line_holds_its_points_and_begins_at_the_first(rt: HostRuntime) -> Result<(), Fail> {
+    assert!(rt; has_its_points(&line(rt.alloc())?));
+    Ok(())
+}
+
+fn is_inside(x: i16, figure: &Figure) -> bool {
+    match &figure.spine {
+        Spine::Chain(_) => false,
+        Spine::Area(loops) => inside(at(x, 5), loops),
+    }
+}
+
+fn rect(x0: i64, y0: i64, x1: i64, y1: i64) -> Rect4 {
+    Rect4 { x0, y0, x1, y1 }
+}
+
+fn has_its_hole(ring: &Figure) -> bool {
+    is_inside(2, ring) && !is_inside(5, ring) && box_of(&ring.spine) == rect(0, 0, 10, 10)
+}
+
+#[test]
+fn a_hole_is_outside_and_the_least_box_is_that_of_the_outer_square(
+    rt: HostRuntime,
+) -> Result<(), Fail> {
+    assert!(rt; has_its_hole(&area(rt.alloc(), true)?));
+    Ok(())
+}
+
+#[test]
+fn boxes_are_parted_by_up_to_twice_their_gap(rt: HostRuntime) {
+    let left = rect(0, 0, 10, 10);
+    let right = rect(12, 0, 20, 9);
+    assert!(rt; parted(left, right, 4) && !parted(right, left, 5));
+}
+
+// ---- moved spines
+
+/// The chain of the one point (5, 5).
+fn dot(alloc: Global) -> Result<Spine, AllocError>
+    ensures { IfOk result (λ s. s ≡ Spine.Chain (record { x = pos 5; y = pos 5 } ∷ [])) }
+{
+    let mut points = List::new(alloc);
+    points.push(Point { x: 5, y: 5 })?;
+    Ok(Spine::Chain(points))
+}
+
+/// Whether that point, moved to the right by `x`, keeps from the ring where `keeps` says so, and touches where `touches` does.
+fn moved_is_so(dot: &Spine, ring: &Figure, x: i16, k: u16, keeps: bool, touches: bool) -> bool
+    requires { dot.now ≡ Spine.Chain (record { x = pos 5; y = pos 5 } ∷ []) }
+{
+    let by = Point { x: x as i64, y: 0 };
+    spine_keeps_moved(dot, by, &ring.spine, k as u64) == keeps
+        && spine_touch_moved(dot, by, &ring.spine, k as u64) == touches
+}
+
+/// Whether the moved point is 5 beyond the ring, or lies in its copper.
+fn moved_keeps_and_touches(alloc: Global, ring: &Figure) -> bool {
+    match dot(alloc) {
+        Ok(dot) => {
+            moved_is_so(&dot, ring, 10, 9, true, false)
+                && moved_is_so(&dot, ring, 10, 10, true, true)
+                && moved_is_so(&dot, ring, 10, 11, false, true)
+                && moved_is_so(&dot, ring, 3, 0, false, true)
+        }
+        Err(_) => false,
+    }
+}
+
+#[test]
+fn a_moved_point_keeps_and_touches_by_its_distance_unless_it_is_inside(
+    rt: HostRuntime,
+) -> Result<(), Fail> {
+    assert!(rt; moved_keeps_and_touches(rt.alloc(), &area(rt.alloc(), true)?));
+    Ok(())
+}
+
+// ---- lists
+
+fn letters(alloc: Global, text: &str) -> Result<List<u8>, AllocError> {
+    Ok(List::from_vec(text.as_bytes().to_vec(alloc)?))
+}
+
+/// Whether the list of four letters gives them back.
+fn gives_back(mut list: List<u8>) -> bool {
+    if list.len() != 4 {
+        return false;
+    }
+    let second = list.remove(1);
+    let last = list.pop();
+    let third = list.get(1).copied();
+    let is_empty = list.is_empty();
+    let rest = list.into_vec();
+    second == b'b'
+        && last == Some(b'd')
+        && third == Some(b'c')
+        && !is_empty
+        && rest.as_slice() == "ac".as_bytes()
+}
+
+#[test]
+fn a_list_gives_back_what_was_put_in(rt: HostRuntime) -> Result<(), Fail> {
+    assert!(rt; gives_back(letters(rt.alloc(), "abcd")?));
+    Ok(())
+}

@@ -1,0 +1,96 @@
+//! Boards from short texts, and what stands at a place in their lists.
+//! The free wiring of a text is the copper that a test lays; its fixed items are what it meets.
+
+ghost use Rattle.std.specs.Prelude.{◌≡◌, IfOk, IfSome};
+ghost use Rattle.std.specs.Option.{option_copied};
+ghost use Rattle.pcb_model.specs.Bounds.{IsItemFit, IsProbeFit};
+ghost use Rattle.pcb_model.specs.Sound.{IsSound};
+
+use dsn_design::read_design;
+use geo_kernel::List;
+use pcb_model::{Design, Item, Metal, Probe, make_item};
+use std::alloc::{AllocError, Global};
+
+/// The design of a short text, or None where it is refused.
+pub(crate) fn board(alloc: Global, text: &str) -> Option<Design>
+    ensures { IfSome result IsSound }
+{
+    let bytes = text.as_bytes();
+    if bytes.len() > 1_000_000 {
+        return None;
+    }
+    match read_design(alloc, bytes) {
+        Ok(design) => Some(design),
+        Err(_) => None,
+    }
+}
+
+/// A fixed item.
+pub(crate) fn fixed(d: &Design, at: usize) -> Option<&Item>
+    requires { IsSound d.now }
+    ensures { IfSome (option_copied result) IsItemFit }
+{
+    d.fixed.get(at)
+}
+
+fn copy_metal(alloc: Global, metal: &Metal) -> Result<Metal, AllocError>
+    ensures { IfOk result (λ m. m ≡ metal.now) }
+{
+    match metal {
+        Metal::Wire {
+            layer,
+            width,
+            chain,
+        } => Ok(Metal::Wire {
+            layer: *layer,
+            width: *width,
+            chain: List::from_slice(alloc, chain.as_slice())?,
+        }),
+        Metal::Via { padstack, at } => Ok(Metal::Via {
+            padstack: *padstack,
+            at: *at,
+        }),
+        Metal::Pad { pin } => Ok(Metal::Pad { pin: *pin }),
+        Metal::Ban { wires, vias } => Ok(Metal::Ban {
+            wires: *wires,
+            vias: *vias,
+        }),
+    }
+}
+
+/// The routed item that free wiring makes.
+pub(crate) fn routed(alloc: Global, d: &Design, at: usize) -> Option<Item>
+    requires { IsSound d.now }
+    ensures { IfSome result IsItemFit }
+{
+    let free = d.free.get(at)?;
+    let metal = copy_metal(alloc, &free.metal).ok()?;
+    make_item(alloc, d, 1_000, Some(free.net), false, metal).ok()
+}
+
+/// The probe that stands for free wiring: a via, or a wire of two points.
+pub(crate) fn probe(d: &Design, at: usize) -> Option<Probe>
+    requires { IsSound d.now }
+    ensures { IfSome result (IsProbeFit d.now) }
+{
+    match &d.free.get(at)?.metal {
+        Metal::Wire {
+            layer,
+            width,
+            chain,
+        } => match chain.as_slice() {
+            [a, b] => Some(Probe::Step {
+                layer: *layer,
+                width: *width,
+                a: *a,
+                b: *b,
+            }),
+            _ => None,
+        },
+        Metal::Via { padstack, at } => Some(Probe::Via {
+            padstack: *padstack,
+            at: *at,
+        }),
+        _ => None,
+    }
+}

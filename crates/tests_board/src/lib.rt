@@ -1,0 +1,16 @@
+//! The tests of boards that short texts give: their designs, what the rules, pairs and searches answer, and their sessions.
+//! They stand over public calls in a crate of their own, so that the crates below are proved without them.
+#![tactic(auto)]
+
+#[cfg(test)]
+mod board;
+#[cfg(test)]
+mod clearances;
+#[cfg(test)]
+mod of_dsn_design;
+#[cfg(test)]
+mod pairs;
+#[cfg(test)]
+mod searches;
+#[cfg(test)]
+mod sessions;

@@ -1,0 +1,247 @@
+//! Designs of two boards from outside, with the values that they hold.
+//! Lengths in the texts are in um, all others in nm.
+
+use crate::board::board;
+use geo_kernel::{Point, Spine};
+use pcb_model::{Design, Item, Kind, Metal, Piece};
+use std::alloc::Global;
+
+/// A board as KiCad writes it, with a component on the back, a plane and a protected wire.
+const KICAD: &str = "(pcb \"K board.dsn\"
+  (parser (string_quote \") (space_in_quoted_tokens on)
+    (host_cad \"KiCad's Pcbnew\") (host_version \"8.0.1\"))
+  (resolution um 10)
+  (unit um)
+  (structure
+    (layer F.Cu (type signal) (property (index 0)))
+    (layer B.Cu (type signal) (property (index 1)))
+    (boundary (path pcb 0 100000 -100000 150000 -100000 150000 -130000
+      100000 -130000 100000 -100000))
+    (plane GND (polygon B.Cu 0 101000 -101000 149000 -101000 149000 -129000 101000 -129000))
+    (via \"Via[0-1]_800:400_um\")
+    (rule (width 250) (clearance 200.1) (clearance 200.1 (type default_smd))
+      (clearance 50 (type smd_smd))))
+  (placement
+    (component Conn:J2 (place J1 105000.000000 -105000.000000 front 0.000000 (PN J2)))
+    (component \"R:0603\"
+      (place R1 125000 -105000 front 0 (PN 10k))
+      (place R2 125000 -125000 front 0 (PN 10k))
+      (place C1 140000 -115000 back 90 (PN 100n))))
+  (library
+    (image Conn:J2 (pin Round[A]Pad_1700_um 1 0 0) (pin Round[A]Pad_1700_um 2 0 -20000))
+    (image \"R:0603\" (outline (path signal 120 -800 400 800 400))
+      (pin Rect[T]Pad_800x900_um 1 -800 0)
+      (pin Rect[T]Pad_800x900_um (rotate 180) 2 800 0))
+    (padstack Round[A]Pad_1700_um (shape (circle F.Cu 1700)) (shape (circle B.Cu 1700)) (attach off))
+    (padstack Rect[T]Pad_800x900_um
+      (shape (polygon F.Cu 0 -400 -450 400 -450 400 450 -400 450 -400 -450)) (attach off))
+    (padstack \"Via[0-1]_800:400_um\" (shape (circle F.Cu 800)) (shape (circle B.Cu 800)) (attach off)))
+  (network
+    (net GND (pins J1-1 R1-1))
+    (net VCC (pins J1-2 R2-1))
+    (net SIG (pins R1-2 C1-1))
+    (net OUT (pins R2-2 C1-2))
+    (class kicad_default \"\" GND VCC SIG OUT
+      (circuit (use_via \"Via[0-1]_800:400_um\"))
+      (rule (width 250) (clearance 200.1))))
+  (wiring (wire (path F.Cu 250 124200 -125000 120000 -125000)(net VCC)(type protect))))";
+
+/// A board with each kind of item: two loops in one boundary, keepouts of the board and of an image, a component that
+/// isn't placed, one on the back, and wiring that is fixed, free, or without a net. Each item is worked out by hand.
+const SMALL: &str = "(pcb b
+  (resolution um 10)
+  (structure
+    (layer F (type signal)) (layer P (type power)) (layer B (type signal))
+    (boundary (rect pcb 0 0 100 100) (path pcb 2 40 40 60 40 60 60 40 40))
+    (via_keepout (circle P 4 5 5)) (keepout k (rect F 1 1 2 2))
+    (via V T) (rule (width 3) (clearance 1)))
+  (placement (component I (place C1 10 20 front 0) (place C2) (place C3 30 20 back 0)))
+  (library
+    (image I (pin S 1 0 0) (pin T 2 5 0) (wire_keepout (rect F 1 2 3 4)))
+    (padstack S (shape (circle F 2))) (padstack T (shape (circle F 2 9 9)) (shape (circle B 2)))
+    (padstack V (shape (circle signal 2))))
+  (network (net A (pins C1-1 C3-2 C1-1)) (net N)
+    (class c A N (circuit (use_via T))) (class d A (circuit (use_via V V))))
+  (wiring (wire (path F 4 1 1 9 1) (net A)) (via V 10 20 (net A) (type fix)) (wire (path B 4 1 1 9 1))
+    (via T 3 4 (net N) (type PROTECT)) (via V 50 50 (net N) (type route))))";
+
+/// How many notes, components, pins, fixed items and free wiring there are.
+fn counts(alloc: Global) -> Option<[u64; 5]> {
+    let d = board(alloc, KICAD)?;
+    Some([
+        d.notes,
+        d.components.len() as u64,
+        d.pins.len() as u64,
+        d.fixed.len() as u64,
+        d.free.len() as u64,
+    ])
+}
+
+fn pin_of(d: &Design, at: usize) -> Option<(Option<u32>, bool, Point)> {
+    let pin = d.pins.get(at)?;
+    Some((pin.net, pin.smd, pin.centre))
+}
+
+/// The net of a pin, whether it is surface-mounted, and its centre.
+fn pin(alloc: Global, at: usize) -> Option<(Option<u32>, bool, Point)> {
+    let d = board(alloc, KICAD)?;
+    pin_of(&d, at)
+}
+
+fn has_of(d: &Design, net: usize, pins: &[u32], vias: &[u32]) -> Option<bool> {
+    let net = d.nets.get(net)?;
+    Some(net.pins.as_slice() == pins && net.vias.as_slice() == vias)
+}
+
+/// Whether a net has these pins and these vias.
+fn has(alloc: Global, text: &str, net: usize, pins: &[u32], vias: &[u32]) -> Option<bool> {
+    let d = board(alloc, text)?;
+    has_of(&d, net, pins, vias)
+}
+
+#[test]
+fn a_board_of_kicad(rt: HostRuntime) {
+    assert_eq!(rt; counts(rt.alloc()), Some([1, 4, 8, 10, 0]));
+    for (at, net, smd, x, y) in [
+        (0, 0, false, 105_000_000, -105_000_000),
+        (3, 2, true, 125_800_000, -105_000_000),
+        (6, 2, true, 140_000_000, -114_200_000),
+        (7, 3, true, 140_000_000, -115_800_000),
+    ] {
+        assert_eq!(rt; pin(rt.alloc(), at), Some((Some(net), smd, Point { x, y })));
+    }
+}
+
+#[test]
+fn nets_have_their_pins_and_the_vias_of_their_last_class(rt: HostRuntime) {
+    for (text, net, pins, vias) in [
+        (KICAD, 0, [0, 2].as_slice(), [2].as_slice()),
+        (KICAD, 3, &[5, 7], &[2]),
+        (SMALL, 0, &[0, 3], &[2, 2]),
+        (SMALL, 1, &[], &[]),
+    ] {
+        assert_eq!(rt; has(rt.alloc(), text, net, pins, vias), Some(true));
+    }
+}
+
+fn layers(pieces: &[Piece]) -> u64 {
+    let mut digits = 0u64;
+    for piece in pieces {
+        digits = digits
+            .wrapping_mul(10)
+            .wrapping_add(1)
+            .wrapping_add(piece.layer as u64);
+    }
+    digits
+}
+
+fn vertices(spine: &Spine) -> usize {
+    match spine {
+        Spine::Chain(points) => points.len(),
+        Spine::Area(loops) => match loops.as_slice() {
+            [points] => points.len(),
+            _ => 0,
+        },
+    }
+}
+
+/// The layers of pieces, counted from 1, as the digits of a number, and the width and the count of vertices of the last.
+fn summary(pieces: &[Piece]) -> (u64, u64, usize) {
+    match pieces {
+        [.., last] => (layers(pieces), last.width, vertices(&last.spine)),
+        _ => (0, 0, 0),
+    }
+}
+
+/// Whether a fixed item bans wires, and whether it bans vias.
+fn bans(item: &Item) -> Option<(bool, bool)> {
+    match &item.metal {
+        Metal::Ban { wires, vias } => Some((*wires, *vias)),
+        _ => None,
+    }
+}
+
+/// What a fixed item is: its kind and net, what it bans, and its pieces.
+#[derive(Clone, Copy, Debug, PartialEq, Eq)]
+struct Told {
+    kind: Kind,
+    net: Option<u32>,
+    bans: Option<(bool, bool)>,
+    pieces: (u64, u64, usize),
+}
+
+fn item_of(d: &Design, at: usize) -> Option<Told> {
+    let item = d.fixed.get(at)?;
+    Some(Told {
+        kind: item.kind,
+        net: item.net,
+        bans: bans(item),
+        pieces: summary(item.pieces.as_slice()),
+    })
+}
+
+fn item(alloc: Global, at: usize) -> Option<Told> {
+    let d = board(alloc, SMALL)?;
+    item_of(&d, at)
+}
+
+#[test]
+fn fixed_items_in_the_order_of_their_ids(rt: HostRuntime) {
+    for (at, kind, net, bans, pieces) in [
+        (0, Kind::Area, None, Some((true, true)), (123_123, 2_000, 4)),
+        (1, Kind::Area, None, Some((false, true)), (2, 4_000, 1)),
+        (2, Kind::Area, None, Some((true, true)), (1, 0, 4)),
+        (3, Kind::Area, None, Some((true, false)), (1, 0, 4)),
+        (4, Kind::Smd, Some(0), None, (1, 2_000, 1)),
+        (5, Kind::Pin, None, None, (13, 2_000, 1)),
+        (6, Kind::Area, None, Some((true, false)), (3, 0, 4)),
+        (7, Kind::Smd, None, None, (3, 2_000, 1)),
+        (8, Kind::Pin, Some(0), None, (31, 2_000, 1)),
+        (9, Kind::Via, Some(0), None, (13, 2_000, 1)),
+        (10, Kind::Wire, None, None, (3, 4_000, 2)),
+        (11, Kind::Via, Some(1), None, (13, 2_000, 1)),
+    ] {
+        let told = Told {
+            kind,
+            net,
+            bans,
+            pieces,
+        };
+        assert_eq!(rt; item(rt.alloc(), at), Some(told));
+    }
+}
+
+/// Of free wiring the layer or the padstack, the width of a wire, and the first vertex.
+fn metal_of(metal: &Metal) -> Option<(u32, u64, Point)> {
+    match metal {
+        Metal::Wire {
+            layer,
+            width,
+            chain,
+        } => Some((*layer as u32, *width, *chain.get(0)?)),
+        Metal::Via { padstack, at } => Some((*padstack, 0, *at)),
+        _ => None,
+    }
+}
+
+fn free_of(d: &Design, at: usize) -> Option<(u64, u32, Option<(u32, u64, Point)>)> {
+    let free = d.free.get(at)?;
+    Some((free.at, free.net, metal_of(&free.metal)))
+}
+
+/// The place in the text and the net of free wiring, and what it is made of.
+fn free(alloc: Global, at: usize) -> Option<(u64, u32, Option<(u32, u64, Point)>)> {
+    let d = board(alloc, SMALL)?;
+    free_of(&d, at)
+}
+
+#[test]
+fn free_wiring_of_a_board(rt: HostRuntime) {
+    for (at, place, net, number, width, nm) in [
+        (0, 751, 0, 0, 4_000, 1_000),
+        (1, 883, 1, 2, 0, 50_000),
+    ] {
+        let metal = Some((number, width, Point { x: nm, y: nm }));
+        assert_eq!(rt; free(rt.alloc(), at), Some((place, net, metal)));
+    }
+}

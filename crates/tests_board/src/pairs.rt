@@ -1,0 +1,331 @@
+//! When two items agree, and when routed copper lies as its net and the board want it.
+//! Lengths in the texts are in um, all others in nm.
+
+ghost use Rattle.std.specs.Prelude.{◌≡◌, ◌<◌};
+ghost use Rattle.pcb_model.specs.Bounds.{IsDesignFit, IsItemFit, IsProbeFit};
+ghost use Rattle.pcb_model.specs.Sound.{IsSound};
+
+use crate::board::{board, fixed, probe, routed};
+use pcb_model::{
+    Design, Extent, Item, Probe, Steps, copy_item, inside_board, pair_ok, probe_inside, probe_ok,
+    touch, width_ok,
+};
+use std::alloc::Global;
+use std::marker::Brand;
+use std::sync::ledger::{Blank, Ledger};
+
+fn agree_counting<L: Ledger>(d: &Design, a: &Item, b: &Item, blank: Blank) -> bool
+    requires name { blank.name ≡ L.name }
+    requires parts { blank.parts ≡ L.parts }
+    requires whole { 0 < blank.parts }
+    requires design { IsDesignFit d.now }
+    requires a_fits { IsItemFit a.now }
+    requires b_fits { IsItemFit b.now }
+{
+    let mut steps: Steps<L> = Steps::new(blank);
+    pair_ok(d, a, b, &mut steps)
+}
+
+fn agree(d: &Design, a: &Item, b: &Item) -> bool
+    requires design { IsDesignFit d.now }
+    requires a_fits { IsItemFit a.now }
+    requires b_fits { IsItemFit b.now }
+{
+    agree_counting::<Brand>(d, a, b, Blank::new(1))
+}
+
+fn allows_counting<L: Ledger>(d: &Design, p: &Probe, b: &Item, blank: Blank) -> bool
+    requires name { blank.name ≡ L.name }
+    requires parts { blank.parts ≡ L.parts }
+    requires whole { 0 < blank.parts }
+    requires design { IsDesignFit d.now }
+    requires p_fits { IsProbeFit d.now p.now }
+    requires b_fits { IsItemFit b.now }
+{
+    let mut steps: Steps<L> = Steps::new(blank);
+    probe_ok(d, 0, p, b, &mut steps)
+}
+
+/// Whether the rules let a probe of net 0 be laid beside an item.
+fn allows(d: &Design, p: &Probe, b: &Item) -> bool
+    requires design { IsDesignFit d.now }
+    requires p_fits { IsProbeFit d.now p.now }
+    requires b_fits { IsItemFit b.now }
+{
+    allows_counting::<Brand>(d, p, b, Blank::new(1))
+}
+
+/// Whether free wiring agrees with an item, the item with a copy of the wiring, and the wiring's probe with the item.
+fn agree_each_way(alloc: Global, d: &Design, a: &Item, p: &Probe, b: &Item) -> Option<[bool; 3]>
+    requires design { IsDesignFit d.now }
+    requires a_fits { IsItemFit a.now }
+    requires p_fits { IsProbeFit d.now p.now }
+    requires b_fits { IsItemFit b.now }
+{
+    let copy = copy_item(alloc, a).ok()?;
+    Some([agree(d, a, b), agree(d, b, &copy), allows(d, p, b)])
+}
+
+/// Whether their extents show that wiring, and its probe, and an item keep each clearance up to 999 nm.
+fn are_far(d: &Design, a: &Item, p: &Probe, b: &Item) -> [bool; 2]
+    requires design { IsDesignFit d.now }
+    requires a_fits { IsItemFit a.now }
+    requires p_fits { IsProbeFit d.now p.now }
+    requires b_fits { IsItemFit b.now }
+{
+    let around = Extent::of_item(b);
+    [
+        Extent::of_item(a).is_far_from(&around, 999),
+        Extent::of_probe(d, p).is_far_from(&around, 999),
+    ]
+}
+
+/// What free wiring and a fixed item are to each other.
+#[derive(Clone, Copy)]
+struct Meeting {
+    touch: bool,
+    agree: [bool; 3],
+    far: [bool; 2],
+    inside: [bool; 2],
+    laid: bool,
+}
+
+fn meet(alloc: Global, d: &Design, a: &Item, p: &Probe, b: &Item) -> Option<Meeting>
+    requires design { IsDesignFit d.now }
+    requires a_fits { IsItemFit a.now }
+    requires p_fits { IsProbeFit d.now p.now }
+    requires b_fits { IsItemFit b.now }
+{
+    Some(Meeting {
+        touch: touch(a, b),
+        agree: agree_each_way(alloc, d, a, p, b)?,
+        far: are_far(d, a, p, b),
+        inside: [inside_board(d, a), probe_inside(d, p)],
+        laid: width_ok(d, a),
+    })
+}
+
+fn meet_at(alloc: Global, d: &Design, free: usize, item: usize) -> Option<Meeting>
+    requires { IsSound d.now }
+{
+    let p = probe(d, free)?;
+    let b = fixed(d, item)?;
+    let a = routed(alloc, d, free)?;
+    meet(alloc, d, &a, &p, b)
+}
+
+/// What free wiring of net 0 and a fixed item of a text are to each other.
+fn met(alloc: Global, text: &str, free: usize, item: usize) -> Option<Meeting> {
+    let d = board(alloc, text)?;
+    meet_at(alloc, &d, free, item)
+}
+
+/// Whether they touch, and whether they agree in each way.
+fn pair(alloc: Global, text: &str, free: usize, item: usize) -> Option<(bool, [bool; 3])> {
+    let met = met(alloc, text, free, item)?;
+    let agree = met.agree;
+    Some((met.touch, agree))
+}
+
+/// Whether free wiring and its probe lie inside the board, and whether it lies as its net wants it.
+fn lies(alloc: Global, text: &str, free: usize) -> Option<([bool; 2], bool)> {
+    let met = met(alloc, text, free, 0)?;
+    let inside = met.inside;
+    Some((inside, met.laid))
+}
+
+// ---- wires
+
+/// Of the fixed wires 1 to 5 three lie beside free wire 0, and two cross it; fixed 6 to 8 lie at free via 1.
+const WIRES: &str = "(pcb wires
+  (resolution um 10)
+  (structure
+    (layer F (type signal)) (layer B (type signal))
+    (boundary (rect pcb 0 0 100000 100000))
+    (via V) (rule (width 200) (clearance 200)))
+  (library (padstack V (shape (circle F 600)) (shape (circle B 600))))
+  (network (net GND) (net VCC))
+  (wiring
+    (wire (path F 200 10000 10000 20000 10000) (net GND))
+    (via V 50000 50000 (net GND))
+    (wire (path F 200 10000 10400 20000 10400) (net VCC) (type fix))
+    (wire (path F 200 10000 10399.9 20000 10399.9) (net VCC) (type fix))
+    (wire (path F 200 10000 10399.9 20000 10399.9) (net GND) (type fix))
+    (wire (path F 200 15000 5000 15000 15000) (net VCC) (type fix))
+    (wire (path B 200 15000 5000 15000 15000) (net VCC) (type fix))
+    (via V 50601 50000 (net VCC) (type fix))
+    (via V 50600.999 50000 (net VCC) (type fix))
+    (wire (path B 200 50000 40000 50000 60000) (net VCC) (type fix))))";
+
+#[test]
+fn wires_keep_their_clearance_and_half_of_each_width(rt: HostRuntime) {
+    for (item, agree) in [(1, true), (2, false), (3, true)] {
+        assert_eq!(rt; pair(rt.alloc(), WIRES, 0, item), Some((false, [agree; 3])));
+    }
+}
+
+#[test]
+fn items_meet_on_each_layer_that_both_have(rt: HostRuntime) {
+    for (free, item, meet) in [(0, 4, true), (0, 5, false), (1, 8, true)] {
+        assert_eq!(rt;
+            pair(rt.alloc(), WIRES, free, item),
+            Some((meet, [!meet; 3]))
+        );
+    }
+}
+
+fn extents(alloc: Global, free: usize, item: usize) -> Option<[bool; 2]> {
+    let met = met(alloc, WIRES, free, item)?;
+    Some(met.far)
+}
+
+#[test]
+fn items_are_far_where_their_boxes_or_layers_are(rt: HostRuntime) {
+    for (free, item, far) in [(1, 6, true), (1, 7, false), (0, 4, false), (0, 5, true)] {
+        assert_eq!(rt; extents(rt.alloc(), free, item), Some([far; 2]));
+    }
+}
+
+// ---- vias at pads
+
+/// An smd pad of GND, and two vias of its net: one on it, and one beside it.
+const PAD: &str = "(pcb pad
+  (resolution um 10)
+  (structure
+    (layer F (type signal)) (layer B (type signal))
+    (boundary (rect pcb 0 0 10000 10000))
+    (via V) (rule (width 200) (clearance 200)))
+  (placement (component I (place C1 5000 5000 front 0)))
+  (library
+    (image I (pin S 1 0 0))
+    (padstack S (shape (circle F 1000)))
+    (padstack V (shape (circle F 600)) (shape (circle B 600))))
+  (network (net GND (pins C1-1)))
+  (wiring (via V 5000 5000 (net GND)) (via V 5801 5000 (net GND))))";
+
+/// The same with leave for vias at smd pads.
+const OPEN_PAD: &str = "(pcb pad
+  (resolution um 10)
+  (structure
+    (layer F (type signal)) (layer B (type signal))
+    (boundary (rect pcb 0 0 10000 10000))
+    (via V) (rule (width 200) (clearance 200)) (control (via_at_smd on)))
+  (placement (component I (place C1 5000 5000 front 0)))
+  (library
+    (image I (pin S 1 0 0))
+    (padstack S (shape (circle F 1000)))
+    (padstack V (shape (circle F 600)) (shape (circle B 600))))
+  (network (net GND (pins C1-1)))
+  (wiring (via V 5000 5000 (net GND))))";
+
+#[test]
+fn a_via_stays_off_an_smd_pad_of_its_net_unless_it_is_allowed(rt: HostRuntime) {
+    for (text, free, touch, agree) in [
+        (PAD, 0, true, false),
+        (PAD, 1, false, true),
+        (OPEN_PAD, 0, true, true),
+    ] {
+        assert_eq!(rt; pair(rt.alloc(), text, free, 1), Some((touch, [agree; 3])));
+    }
+}
+
+// ---- widths, layers and padstacks
+
+/// Free wiring of one net; it is inside, and padstack W isn't in the list of vias.
+const LAID: &str = "(pcb laid
+  (resolution um 10)
+  (structure
+    (layer F (type signal)) (layer P (type power)) (layer B (type signal))
+    (boundary (rect pcb -100 -100 100 100))
+    (via V) (rule (width 200) (clearance 200)))
+  (library
+    (padstack V (shape (circle F 600)) (shape (circle B 600)))
+    (padstack W (shape (circle F 600)) (shape (circle B 600))))
+  (network (net GND))
+  (wiring
+    (wire (path F 200 0 0 90 0) (net GND))
+    (wire (path B 200.001 0 0 90 0) (net GND))
+    (wire (path F 199.999 0 0 90 0) (net GND))
+    (wire (path P 200 0 0 90 0) (net GND))
+    (via V 7 -5 (net GND))
+    (via W 7 -5 (net GND))))";
+
+#[test]
+fn wires_lie_wide_enough_on_signal_layers_and_vias_are_of_a_listed_padstack(rt: HostRuntime) {
+    for (free, laid) in [
+        (0, true),
+        (1, true),
+        (2, false),
+        (3, false),
+        (4, true),
+        (5, false),
+    ] {
+        assert_eq!(rt; lies(rt.alloc(), LAID, free), Some(([true; 2], laid)));
+    }
+}
+
+// ---- the board's edge
+
+/// Wires beside the left edge, within the clearance of it or not, inside and outside.
+const EDGE: &str = "(pcb edge
+  (resolution um 10)
+  (structure
+    (layer F (type signal))
+    (boundary (rect pcb 0 0 10000 10000))
+    (rule (width 200) (clearance 200)))
+  (network (net GND))
+  (wiring
+    (wire (path F 200 300 1000 300 2000) (net GND))
+    (wire (path F 200 299.9 1000 299.9 2000) (net GND))
+    (wire (path F 200 -299.9 1000 -299.9 2000) (net GND))
+    (wire (path F 200 -300 1000 -300 2000) (net GND))))";
+
+#[test]
+fn routed_copper_is_inside_and_keeps_from_the_edge(rt: HostRuntime) {
+    for (free, inside, agree) in [
+        (0, true, true),
+        (1, true, false),
+        (2, false, false),
+        (3, false, true),
+    ] {
+        assert_eq!(rt; lies(rt.alloc(), EDGE, free), Some(([inside; 2], true)));
+        assert_eq!(rt; pair(rt.alloc(), EDGE, free, 0), Some((false, [agree; 3])));
+    }
+}
+
+// ---- keepouts
+
+/// Three keepouts of one place; free are a wire and a via in them, and a via beside them.
+const KEEPOUTS: &str = "(pcb keepouts
+  (resolution um 10)
+  (structure
+    (layer F (type signal)) (layer B (type signal))
+    (boundary (rect pcb 0 0 100000 100000))
+    (keepout (rect F 20000 20000 30000 30000))
+    (wire_keepout (rect F 20000 20000 30000 30000))
+    (via_keepout (rect F 20000 20000 30000 30000))
+    (via V) (rule (width 200) (clearance 200)))
+  (library (padstack V (shape (circle F 600)) (shape (circle B 600))))
+  (network (net GND))
+  (wiring
+    (wire (path F 200 15000 22000 35000 22000) (net GND))
+    (via V 22000 22000 (net GND))
+    (via V 30500 25000 (net GND))))";
+
+#[test]
+fn a_keepout_bans_what_it_names_and_leaves_what_is_beside_it(rt: HostRuntime) {
+    for (item, free, touch, agree) in [
+        (1, 0, true, false),
+        (1, 1, true, false),
+        (1, 2, false, true),
+        (2, 0, true, false),
+        (2, 1, true, true),
+        (3, 0, true, true),
+        (3, 1, true, false),
+    ] {
+        assert_eq!(rt;
+            pair(rt.alloc(), KEEPOUTS, free, item),
+            Some((touch, [agree; 3]))
+        );
+    }
+}

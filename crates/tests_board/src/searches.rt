@@ -1,0 +1,155 @@
+//! What searches among the fixed items of a board answer.
+//! Lengths in the texts are in um.
+
+ghost use Rattle.std.specs.Prelude.{◌≡◌, ◌<◌, ◌++◌, ◌∷◌, [], All, IfOk, OnOk};
+ghost use Rattle.pcb_model.specs.Bounds.{IsItemFit, IsProbeFit};
+ghost use Rattle.pcb_model.specs.Sound.{IsSound, Serves};
+
+use crate::board::{board, fixed, probe};
+use pcb_model::{Copper, Design, Item, PlainCopper, Probe, Steps, copy_item};
+use std::alloc::{AllocError, Global};
+use std::marker::Brand;
+use std::sync::ledger::{Blank, Ledger};
+
+fn add_item(copper: &mut PlainCopper, item: Item) -> Result<(), AllocError>
+    requires above { All (λ b. b.id < item.id) copper.old }
+    requires fits { IsItemFit item }
+    ensures { OnOk result (copper.new ≡ copper.old ++ item ∷ []) }
+{
+    match copper.add(item) {
+        Ok(()) => Ok(()),
+        Err((_, e)) => Err(e),
+    }
+}
+
+/// The copper of the fixed items.
+fn fixed_copper(alloc: Global, d: &Design) -> Result<PlainCopper, AllocError>
+    requires { IsSound d.now }
+    ensures { IfOk result (λ copper. Serves copper d.now) }
+{
+    let mut copper = PlainCopper::new(alloc);
+    for item in d.fixed.as_slice() {
+        let copy = copy_item(alloc, item)?;
+        add_item(&mut copper, copy)?;
+    }
+    Ok(copper)
+}
+
+/// The least ids from `from` that clash with the item, that block the probe of net 0, and that touch the item.
+fn search_counting<L: Ledger>(
+    copper: &PlainCopper,
+    d: &Design,
+    a: &Item,
+    p: &Probe,
+    from: u64,
+    blank: Blank,
+) -> [Option<u64>; 3]
+    requires name { blank.name ≡ L.name }
+    requires parts { blank.parts ≡ L.parts }
+    requires whole { 0 < blank.parts }
+    requires serves { Serves copper.now d.now }
+    requires a_fits { IsItemFit a.now }
+    requires p_fits { IsProbeFit d.now p.now }
+{
+    let mut steps: Steps<L> = Steps::new(blank);
+    [
+        copper.next_clash(d, a, from, &mut steps),
+        copper.next_block(d, 0, p, from, &mut steps),
+        copper.next_touch(a, from, &mut steps),
+    ]
+}
+
+fn search(copper: &PlainCopper, d: &Design, a: &Item, p: &Probe, from: u64) -> [Option<u64>; 3]
+    requires serves { Serves copper.now d.now }
+    requires a_fits { IsItemFit a.now }
+    requires p_fits { IsProbeFit d.now p.now }
+{
+    search_counting::<Brand>(copper, d, a, p, from, Blank::new(1))
+}
+
+/// Level wires: free and 1 and 4 of GND at one place; 2 of VCC far from it, and 3 of VCC and 5 without a net too near.
+const WIRES: &str = "(pcb wires
+  (resolution um 10)
+  (structure
+    (layer F (type signal))
+    (boundary (rect pcb 0 0 100000 100000))
+    (rule (width 200) (clearance 200)))
+  (network (net GND) (net VCC))
+  (wiring
+    (wire (path F 200 10000 10000 20000 10000) (net GND))
+    (wire (path F 200 10000 10000 20000 10000) (net GND) (type fix))
+    (wire (path F 200 10000 20000 20000 20000) (net VCC) (type fix))
+    (wire (path F 200 10000 10300 20000 10300) (net VCC) (type fix))
+    (wire (path F 200 10000 10000 20000 10000) (net GND) (type fix))
+    (wire (path F 200 10000 10300 20000 10300))))";
+
+fn search_at(alloc: Global, d: &Design, item: usize, from: u64) -> Option<[Option<u64>; 3]>
+    requires { IsSound d.now }
+{
+    let a = fixed(d, item)?;
+    let p = probe(d, 0)?;
+    let copper = fixed_copper(alloc, d).ok()?;
+    Some(search(&copper, d, a, &p, from))
+}
+
+/// What a search from an id answers for a fixed item, and for the free wire.
+fn found(alloc: Global, item: usize, from: u64) -> Option<[Option<u64>; 3]> {
+    let d = board(alloc, WIRES)?;
+    search_at(alloc, &d, item, from)
+}
+
+#[test]
+fn a_search_answers_the_least_id_or_none(rt: HostRuntime) {
+    for (item, from, answers) in [
+        (1, 0, [Some(3), Some(3), Some(4)]),
+        (1, 3, [Some(3), Some(3), Some(4)]),
+        (1, 4, [Some(5), Some(5), Some(4)]),
+        (1, 6, [None, None, None]),
+        (3, 2, [Some(4), Some(3), None]),
+        (4, 0, [Some(3), Some(3), Some(1)]),
+        (5, 4, [Some(4), Some(5), None]),
+        (5, 5, [None, Some(5), None]),
+    ] {
+        assert_eq!(rt; found(rt.alloc(), item, from), Some(answers));
+    }
+}
+
+/// Whether an item of this id is found.
+fn is_held(copper: &PlainCopper, id: u64) -> bool {
+    match copper.item(id) {
+        Some(b) => b.id == id,
+        None => false,
+    }
+}
+
+/// Whether an item of this id was there to be taken out.
+fn takes_out(copper: &mut PlainCopper, id: u64) -> bool {
+    match copper.remove(id) {
+        Some(b) => b.id == id,
+        None => false,
+    }
+}
+
+fn take_twice(alloc: Global, d: &Design, id: u64) -> Option<([bool; 4], usize)>
+    requires { IsSound d.now }
+{
+    let mut copper = fixed_copper(alloc, d).ok()?;
+    copper.in_order();
+    let before = is_held(&copper, id);
+    let first = takes_out(&mut copper, id);
+    let after = is_held(&copper, id);
+    let second = takes_out(&mut copper, id);
+    Some(([before, first, after, second], copper.items().len()))
+}
+
+/// Whether the item is found, taken out, found again and taken out again, and how many items are left.
+fn taken_twice(alloc: Global, id: u64) -> Option<([bool; 4], usize)> {
+    let d = board(alloc, WIRES)?;
+    take_twice(alloc, &d, id)
+}
+
+#[test]
+fn an_item_is_found_until_it_is_taken_out(rt: HostRuntime) {
+    let answers = ([true, true, false, false], 5);
+    assert_eq!(rt; taken_twice(rt.alloc(), 2), Some(answers));
+}

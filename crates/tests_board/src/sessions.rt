@@ -1,0 +1,309 @@
+//! Whole sessions of small boards, worked by hand, and their scale.
+//! Lengths in the designs are in um, those in the sessions in their resolution.
+
+ghost use Rattle.pcb_model.specs.Sound.{IsSound};
+
+use crate::board::{board, routed};
+use pcb_model::{Design, Item, SesScale};
+use ses_writer::session_text;
+use std::alloc::Global;
+
+fn bytes(alloc: Global, d: &Design, items: &[Item], omit_fixed: bool) -> Option<Vec<u8>> {
+    session_text(alloc, d, items, omit_fixed).ok()
+}
+
+fn is_text(
+    alloc: Global,
+    d: &Design,
+    items: &[Item],
+    omit_fixed: bool,
+    want: &str,
+) -> Option<bool> {
+    let text = bytes(alloc, d, items, omit_fixed)?;
+    Some(text.as_slice() == want.as_bytes())
+}
+
+fn has_session(
+    alloc: Global,
+    d: &Design,
+    other: &str,
+    omit_fixed: bool,
+    want: &str,
+) -> Option<bool> {
+    let other = board(alloc, other)?;
+    is_text(alloc, d, other.fixed.as_slice(), omit_fixed, want)
+}
+
+/// Whether the session of one board with the fixed items of another is this text, and the nm of its unit.
+fn session(
+    alloc: Global,
+    text: &str,
+    other: &str,
+    omit_fixed: bool,
+    want: &str,
+) -> Option<(bool, u64)> {
+    let d = board(alloc, text)?;
+    let is = has_session(alloc, &d, other, omit_fixed, want)?;
+    Some((is, SesScale::pick(&d).nm))
+}
+
+fn has_routed_session(alloc: Global, d: &Design, want: &str) -> Option<bool>
+    requires { IsSound d.now }
+{
+    let item = routed(alloc, d, 0)?;
+    is_text(alloc, d, std::slice::from_ref(&item), true, want)
+}
+
+/// Whether the session of a board with its first free wiring, and without fixed items, is this text.
+fn routed_session(alloc: Global, text: &str, want: &str) -> Option<bool> {
+    let d = board(alloc, text)?;
+    has_routed_session(alloc, &d, want)
+}
+
+// ---- two pads and a wire
+
+const TWO_PADS: &str = "(pcb T
+  (parser (string_quote \") (host_cad KiCad) (host_version 8))
+  (resolution um 10)
+  (unit um)
+  (structure
+    (layer F.Cu (type signal))
+    (layer B.Cu (type signal))
+    (boundary (rect pcb 0 0 10000 10000))
+    (via V)
+    (rule (width 200) (clearance 200)))
+  (placement (component P
+    (place C1 2000 5000 front 0)
+    (place C2 8000 5000 front 0)))
+  (library
+    (image P (pin PAD 1 0 0))
+    (padstack PAD (shape (circle F.Cu 1000)) (shape (circle B.Cu 1000)))
+    (padstack V (shape (circle F.Cu 600)) (shape (circle B.Cu 600))))
+  (network (net A (pins C1-1 C2-1)))
+  (wiring
+    (wire (path B.Cu 200 8000 5000 2000 5000))
+    (wire (path F.Cu 200 8000 5000 2000 5000) (net A) (type fix))
+    (wire (path F.Cu 200 2000 5000 8000 5000) (net A))))";
+
+/// Pads and the wire without a net aren't printed.
+const SESSION_OF_TWO_PADS: &str = "(session T
+  (base_design T)
+  (placement
+    (resolution um 10)
+    (component P
+      (place C1 20000 50000 front 0)
+      (place C2 80000 50000 front 0)
+    )
+  )
+  (was_is
+  )
+  (routes
+    (resolution um 10)
+    (parser
+      (host_cad KiCad)
+      (host_version 8)
+    )
+    (library_out
+    )
+    (network_out
+      (net A
+        (wire (path F.Cu 2000 20000 50000 80000 50000))
+      )
+    )
+  )
+)
+";
+
+#[test]
+fn a_session_has_the_wire_of_a_net(rt: HostRuntime) {
+    let fixed = session(rt.alloc(), TWO_PADS, TWO_PADS, false, SESSION_OF_TWO_PADS);
+    assert_eq!(rt; fixed, Some((true, 100)));
+    let routed = routed_session(rt.alloc(), TWO_PADS, SESSION_OF_TWO_PADS);
+    assert_eq!(rt; routed, Some(true));
+}
+
+// ---- a wire off the resolution
+
+const FINE_WIRE: &str = "(pcb T
+  (resolution um 10)
+  (structure
+    (layer F.Cu (type signal))
+    (boundary (rect pcb 0 0 10000 10000)))
+  (placement (component P (place C1 2000 5000 front 0)))
+  (library (image P))
+  (network (net A))
+  (wiring (wire (path F.Cu 200.05 8000 5000.05 -0.15 -0.05) (net A) (type fix))))";
+
+const FINE_SESSION: &str = "(session T
+  (base_design T)
+  (placement
+    (resolution um 1000)
+    (component P
+      (place C1 2000000 5000000 front 0)
+    )
+  )
+  (was_is
+  )
+  (routes
+    (resolution um 1000)
+    (parser
+    )
+    (library_out
+    )
+    (network_out
+      (net A
+        (wire (path F.Cu 200050 -150 -50 8000000 5000050))
+      )
+    )
+  )
+)
+";
+
+#[test]
+fn a_wire_that_is_not_whole_in_the_resolution_makes_the_session_finer(rt: HostRuntime) {
+    let finer = session(rt.alloc(), FINE_WIRE, FINE_WIRE, false, FINE_SESSION);
+    assert_eq!(rt; finer, Some((true, 1)));
+}
+
+const ROUNDED_SESSION: &str = "(session T
+  (base_design T)
+  (placement
+    (resolution um 10)
+    (component P
+      (place C1 20000 50000 front 0)
+      (place C2 80000 50000 front 0)
+    )
+  )
+  (was_is
+  )
+  (routes
+    (resolution um 10)
+    (parser
+      (host_cad KiCad)
+      (host_version 8)
+    )
+    (library_out
+    )
+    (network_out
+      (net A
+        (wire (path F.Cu 2001 -1 0 80000 50001))
+      )
+    )
+  )
+)
+";
+
+#[test]
+fn what_is_not_whole_in_a_kept_resolution_is_rounded_half_upwards(rt: HostRuntime) {
+    let rounded = session(rt.alloc(), TWO_PADS, FINE_WIRE, false, ROUNDED_SESSION);
+    assert_eq!(rt; rounded, Some((true, 100)));
+}
+
+// ---- all parts of a session
+
+const ALL: &str = "(pcb \"K board.dsn\"
+  (parser (string_quote \") (space_in_quoted_tokens on) (host_cad \"KiCad's Pcbnew\"))
+  (resolution um 10)
+  (structure
+    (layer F.Cu (type signal)) (layer B.Cu (type signal))
+    (boundary (rect pcb -5000 -5000 5000 5000))
+    (via unused) (rule (width 200) (clearance 200)))
+  (placement
+    (component R:0603 (place R1 -1000 0.2 front 0) (place \"R 2\" -1000 0.2 back 90.5))
+    (component \"\" (place C1 -1000 0.2 front 359.999999))
+    (component R:0603 (place R3 -1000 0.2 front 1.00001)))
+  (library
+    (image R:0603) (image \"\")
+    (padstack unused (shape (circle F.Cu 500)) (shape (circle B.Cu 500)))
+    (padstack \"Via[0-1]_800:400_um\"
+      (shape (circle F.Cu 800)) (shape (path F.Cu 400 0.1 0.3 0.1 -0.3))
+      (shape (polygon B.Cu 0 400 -400 400 400 -400 400))))
+  (network (net GND) (net \"Net 1\") (net VCC))
+  (wiring
+    (wire (path B.Cu 200 0.1 0.2 0.3 0 0.1 0.2) (net VCC) (type fix))
+    (wire (path F.Cu 0.3 0.2 -0.1 0.1 -0.1 0 0) (net \"Net 1\") (type protect))
+    (via \"Via[0-1]_800:400_um\" -0.9 1 (net VCC) (type fix))))";
+
+const SESSION_OF_ALL: &str = "(session \"K board.dsn\"
+  (base_design \"K board.dsn\")
+  (placement
+    (resolution um 10)
+    (component R:0603
+      (place R1 -10000 2 front 0)
+      (place \"R 2\" -10000 2 back 90.5)
+    )
+    (component \"\"
+      (place C1 -10000 2 front 359.999999)
+    )
+    (component R:0603
+      (place R3 -10000 2 front 1.00001)
+    )
+  )
+  (was_is
+  )
+  (routes
+    (resolution um 10)
+    (parser
+      (host_cad \"KiCad's Pcbnew\")
+    )
+    (library_out
+      (padstack \"Via[0-1]_800:400_um\"
+        (shape (circle F.Cu 8000 0 0))
+        (shape (path F.Cu 4000 1 -3 1 3))
+        (shape (polygon B.Cu 0 4000 -4000 4000 4000 -4000 4000))
+        (attach off)
+      )
+    )
+    (network_out
+      (net \"Net 1\"
+        (wire (path F.Cu 3 0 0 1 -1 2 -1))
+      )
+      (net VCC
+        (wire (path B.Cu 2000 1 2 3 0 1 2))
+        (via \"Via[0-1]_800:400_um\" -9 10)
+      )
+    )
+  )
+)
+";
+
+/// The same without the wiring, all of which is fixed.
+const SESSION_WITHOUT_WIRING: &str = "(session \"K board.dsn\"
+  (base_design \"K board.dsn\")
+  (placement
+    (resolution um 10)
+    (component R:0603
+      (place R1 -10000 2 front 0)
+      (place \"R 2\" -10000 2 back 90.5)
+    )
+    (component \"\"
+      (place C1 -10000 2 front 359.999999)
+    )
+    (component R:0603
+      (place R3 -10000 2 front 1.00001)
+    )
+  )
+  (was_is
+  )
+  (routes
+    (resolution um 10)
+    (parser
+      (host_cad \"KiCad's Pcbnew\")
+    )
+    (library_out
+    )
+    (network_out
+    )
+  )
+)
+";
+
+#[test]
+fn a_session_has_all_parts_and_leaves_fixed_wiring_out_where_asked(rt: HostRuntime) {
+    for (omit_fixed, want) in [(false, SESSION_OF_ALL), (true, SESSION_WITHOUT_WIRING)] {
+        assert_eq!(rt;
+            session(rt.alloc(), ALL, ALL, omit_fixed, want),
+            Some((true, 100))
+        );
+    }
+}

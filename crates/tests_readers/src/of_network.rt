@@ -1,0 +1,96 @@
+//! The network of the board: references to pins, nets and classes of both sections.
+//! Indices count from 0.
+
+use crate::board::{library, network, placing};
+use dsn_network::split_pin;
+use dsn_shapes::{Library, Network, PinRef, Placing, ReadClass, Split};
+use geo_kernel::List;
+use std::alloc::Global;
+
+fn split(alloc: Global, text: &str, library: &Library, placing: &Placing) -> Option<Split> {
+    let text = List::from_slice(alloc, text.as_bytes()).ok()?;
+    Some(split_pin(&text, library, placing))
+}
+
+fn split_on_board(alloc: Global, text: &str) -> Option<Split> {
+    let library = library(alloc)?;
+    let placing = placing(alloc)?;
+    split(alloc, text, &library, &placing)
+}
+
+#[test]
+fn a_reference_is_split_at_each_hyphen(rt: HostRuntime) {
+    for (text, wanted) in [
+        ("R1-2", Split::One(PinRef { place: 0, pin: 1 })),
+        ("J-1-1", Split::One(PinRef { place: 5, pin: 0 })),
+        ("K-1-2", Split::One(PinRef { place: 4, pin: 0 })),
+        ("J-1-2", Split::Many),
+        ("J-2", Split::Unknown),
+        ("R1", Split::Unknown),
+    ] {
+        assert_eq!(rt; split_on_board(rt.alloc(), text), Some(wanted));
+    }
+}
+
+fn is_net(network: &Network, i: usize, name: &str, pins: &[PinRef]) -> bool {
+    match network.nets.get(i) {
+        Some(net) => net.name.as_slice() == name.as_bytes() && net.pins.as_slice() == pins,
+        None => false,
+    }
+}
+
+#[test]
+fn a_net_has_each_of_its_pins_once(rt: HostRuntime) {
+    let network = network(rt.alloc()).expect(&rt, "a network");
+    let gnd = [PinRef { place: 0, pin: 0 }, PinRef { place: 2, pin: 1 }];
+    let vcc = [PinRef { place: 5, pin: 0 }];
+    assert!(rt; is_net(&network, 0, "GND", gnd.as_slice()));
+    assert!(rt; is_net(&network, 1, "VCC", vcc.as_slice()));
+    assert!(rt; is_net(&network, 2, "", &[]));
+    assert_eq!(rt; network.nets.len(), 3);
+}
+
+/// A net's width and class.
+fn rule(network: &Network, i: usize) -> Option<(Option<u64>, Option<u32>)> {
+    let net = network.nets.get(i)?;
+    Some((net.rules.width, net.class))
+}
+
+#[test]
+fn a_net_has_its_rules_and_the_last_class_that_names_it(rt: HostRuntime) {
+    let network = network(rt.alloc()).expect(&rt, "a network");
+    for (i, width, class) in [
+        (0, Some(300), Some(0)),
+        (1, None, Some(1)),
+        (2, None, Some(0)),
+    ] {
+        assert_eq!(rt; rule(&network, i), Some((width, class)));
+    }
+}
+
+fn has_rules(class: &ReadClass, width: Option<u64>, plain: Option<u64>) -> bool {
+    class.rules.width == width && class.rules.plain == plain
+}
+
+/// The vias of a class, or none where it names none.
+fn vias(class: &ReadClass) -> &[u32] {
+    match &class.vias {
+        Some(vias) => vias.as_slice(),
+        None => &[],
+    }
+}
+
+#[test]
+fn classes_have_their_rules_and_their_vias_in_the_order_of_the_text(rt: HostRuntime) {
+    let network = network(rt.alloc()).expect(&rt, "a network");
+    let [one, two, three] = network.classes.as_slice() else {
+        return assert!(rt; false, "three classes are wanted");
+    };
+    assert!(rt; has_rules(one, None, Some(200)));
+    assert!(rt; has_rules(two, Some(400_000), None));
+    assert!(rt; has_rules(three, None, None));
+    assert_eq!(rt; vias(one), [1, 0].as_slice());
+    assert!(rt; one.vias.is_some() && two.vias.is_none());
+    // Two (z) in lists, a net that a class names and that isn't there, and a (z) in a section.
+    assert_eq!(rt; network.notes, 4);
+}

@@ -34,6 +34,14 @@ impl Left {
         self.desk.file("u.ses")
     }
 
+    /// The length of the session in bytes, if one was written.
+    pub(crate) fn session_len(&self) -> Option<usize> {
+        match self.session() {
+            Some(bytes) => Some(bytes.len()),
+            None => None,
+        }
+    }
+
     /// Whether this session was written.
     pub(crate) fn wrote(&self, session: &str) -> bool {
         self.session() == Some(session.as_bytes())

@@ -139,7 +139,7 @@ fn length_of(numbers: &[i64]) -> u64 {
 }
 
 #[test]
-fn a_net_whose_straight_way_is_shut_goes_round_by_eight_mm(rt: HostRuntime) -> Result<(), Fail> {
+fn a_net_whose_straight_way_is_shut_takes_a_way_of_sixteen_mm(rt: HostRuntime) -> Result<(), Fail> {
     let left = routed(&rt, rt.alloc(), CROSSING, &[NO_B_LAST, B_FIRST])?;
     let session = std::str::from_utf8(left.session().unwrap_or_default()).unwrap_or_default();
     let numbers = numbers_of(rt.alloc(), path_of(session))?;
@@ -259,7 +259,7 @@ fn faults_leave_a_front_of_what_was_due(rt: HostRuntime) -> Result<(), Fail> {
     for (desk_fails, sink_fails, status, kept, report) in cases {
         let left = called(&rt, alloc, CROSSING, &ROUTE, desk_fails, sink_fails)?;
         assert!(rt; left.says(status, report), "{report}");
-        assert_eq!(rt; left.session().map(|bytes| bytes.len()), kept, "{report}");
+        assert_eq!(rt; left.session_len(), kept, "{report}");
     }
     Ok(())
 }

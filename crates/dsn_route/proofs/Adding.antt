@@ -7,7 +7,7 @@ use Rattle.std.proofs.lemmas.List.Quantifiers.{all_pairs_push}
 use Rattle.pcb_model.specs.declared.item.Item.{Item}
 use Rattle.pcb_model.specs.declared.design.Design.{Design}
 use Rattle.pcb_model.specs.Pairs.{Agrees}
-use Rattle.pcb_model.specs.Board.{IsLegal, IsRouted, IsLaid, AreInside, is_fixed}
+use Rattle.pcb_model.specs.Board.{IsLegal, IsRouted, IsLaid, IsMade, AreInside, is_fixed}
 use Rattle.dsn_route.proofs.Elements.{all_at_end, pair_at_end}
 
 -- what is asked of the item beside the items of the board
@@ -15,6 +15,7 @@ pub record Fits (d : Design) (board : List Item) (a : Item) : Type 0 where
   pub agrees : (b : Item) → Contains board b → Agrees d b a
   pub inside : AreInside d.bounds a.pieces
   pub laid : IsLaid d a
+  pub made : IsMade d a
 
 abbrev Paired : Design → Item → Item → Type 0
 Paired d a b = IsRouted a ⊎ IsRouted b → Agrees d a b
@@ -30,6 +31,7 @@ fits_legal d board a legal routed fits = record {
   agree = all_pairs_push (Paired d) board a legal.agree (λ k x within r. fits.agrees (get_or board k x) (Contains-get_or board k x within));
   inside = All-append (λ (b : Item). IsRouted b → AreInside d.bounds b.pieces) board (a ∷ []) legal.inside (one (λ (b : Item). IsRouted b → AreInside d.bounds b.pieces) a (λ r. fits.inside));
   laid = All-append (λ (b : Item). IsRouted b → IsLaid d b) board (a ∷ []) legal.laid (one (λ (b : Item). IsRouted b → IsLaid d b) a (λ r. fits.laid));
+  made = All-append (λ (b : Item). IsRouted b → IsMade d b) board (a ∷ []) legal.made (one (λ (b : Item). IsRouted b → IsMade d b) a (λ r. fits.made));
   fixed_stay = filter-append is_fixed board (a ∷ []) ∙ ap (λ rest. filter is_fixed board ++ rest) (filtered a routed) ∙ append-nil (filter is_fixed board) ∙ legal.fixed_stay;
 }
 
@@ -38,6 +40,7 @@ legal_fits d board a routed legal = record {
   agrees = λ b there. pair_at_end (Paired d) board a b legal.agree there (inr routed);
   inside = all_at_end (λ (b : Item). IsRouted b → AreInside d.bounds b.pieces) board a legal.inside routed;
   laid = all_at_end (λ (b : Item). IsRouted b → IsLaid d b) board a legal.laid routed;
+  made = all_at_end (λ (b : Item). IsRouted b → IsMade d b) board a legal.made routed;
 }
 
 abbrev pub IsFixed : Item → Type 0
@@ -62,5 +65,6 @@ fixed_legal d fixed = record {
   agree = λ i j x before within r. neither_routed (get_or d.fixed i x) (get_or d.fixed j x) (fixed i x (omega arith)) (fixed j x within) r;
   inside = λ k x within r. not_routed (get_or d.fixed k x) (fixed k x within) r;
   laid = λ k x within r. not_routed (get_or d.fixed k x) (fixed k x within) r;
+  made = λ k x within r. not_routed (get_or d.fixed k x) (fixed k x within) r;
   fixed_stay = kept d.fixed fixed;
 }

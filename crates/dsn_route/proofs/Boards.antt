@@ -10,7 +10,7 @@ use Rattle.pcb_model.specs.declared.item.Item.{Item}
 use Rattle.pcb_model.specs.declared.item.Metal.{Metal}
 use Rattle.pcb_model.specs.declared.design.Design.{Design}
 use Rattle.pcb_model.specs.Pairs.{Agrees}
-use Rattle.pcb_model.specs.Board.{IsLegal, IsRouted, IsLaid, AreInside, is_fixed}
+use Rattle.pcb_model.specs.Board.{IsLegal, IsRouted, IsLaid, IsMade, AreInside, is_fixed}
 use Rattle.pcb_model.specs.Sound.{IsSound, IsItemOf, IsFixedSound}
 use Rattle.pcb_model.specs.Copper.{Ascends}
 use Rattle.pcb_model.specs.Plain.{IsPlainItem, IsPlainCopper}
@@ -90,6 +90,7 @@ front_legal d xs ys legal fixed = record {
   agree = pairs_front (λ (a b : Item). IsRouted a ⊎ IsRouted b → Agrees d a b) xs ys legal.agree;
   inside = All-append_first (λ (a : Item). IsRouted a → AreInside d.bounds a.pieces) xs ys legal.inside;
   laid = All-append_first (λ (a : Item). IsRouted a → IsLaid d a) xs ys legal.laid;
+  made = All-append_first (λ (a : Item). IsRouted a → IsMade d a) xs ys legal.made;
   fixed_stay = fixed;
 }
 
@@ -136,16 +137,17 @@ with_more d net board a metals =
 pub rest : {X : Type 0} (P : X → Type 0) (x : X) (xs : List X) → All P (x ∷ xs) → All P xs
 rest P x xs all = λ k y within. all (suc k) y (omega (arith, within))
 
-pub metals_board : (d : Design) (net : ℕ) (board : List Item) (metals : List Metal) → IsBoard d board → AreLaidOn d net board metals
+pub metals_board : (d : Design) (net : ℕ) (board : List Item) (metals : List Metal) → net < length d.nets → IsBoard d board → AreLaidOn d net board metals
     → ((i j : ℕ) (a b : Metal) → Agrees d (laid_item d net i a) (laid_item d net j b)) → ((id : ℕ) (a : Metal) → IsPlainItem (laid_item d net id a)) → IsBoard d (with_metals d net board metals)
-metals_board d net board [] is laid own plain = subst (IsBoard d) (sym (append-nil board)) is
-metals_board d net board (a ∷ metals) is laid own plain =
+metals_board d net board [] there is laid own plain = subst (IsBoard d) (sym (append-nil board)) is
+metals_board d net board (a ∷ metals) there is laid own plain =
     let item : Item = laid_item d net (length board) a in
     let well : IsWellLaid d net (length board) a = laid.well (length board) 0 a (omega arith) in
     let fits : Fits d board item = record {
       agrees = λ b there. laid.agree (length board) b there 0 a (omega arith);
       inside = laid.inside 0 a (omega arith);
       laid = well.laid;
+      made = record { net = net; net_there = there; made = refl };
     } in
     let next : IsBoard d (board ++ item ∷ []) = board_more d board item is (fits_legal d board item is.legal refl fits) refl refl well.fits (plain (length board) a) in
     let later : AreLaidOn d net (board ++ item ∷ []) metals = record {
@@ -156,7 +158,7 @@ metals_board d net board (a ∷ metals) is laid own plain =
       inside = rest (IsMetalInside d) a metals laid.inside;
       well = λ id. rest (IsWellLaid d net id) a metals (laid.well id);
     } in
-    subst (IsBoard d) (with_more d net board a metals) (metals_board d net (board ++ item ∷ []) metals next later own plain)
+    subst (IsBoard d) (with_more d net board a metals) (metals_board d net (board ++ item ∷ []) metals there next later own plain)
 
 -- the last of metals is taken off
 pub taken : (left others : List Metal) (a : Metal) → left ≡ others ++ a ∷ [] → reverse left ≡ a ∷ reverse others

@@ -67,7 +67,7 @@ impl Task<'_> {
         let moves = LegalMoves::of(self.lat, self.d, copper, island.net, self.via_cost);
         legal_graph_sound();
         box_bound_sound();
-        let bound = BoxBound::of(self.lat, &goals);
+        let bound = BoxBound::of(alloc, self.lat, &goals)?;
         let ties = LayerDirections { lat: self.lat };
         match search.tied_walk(alloc, &moves, &bound, &ties, &starts, &goals)? {
             Found::Walk(walk) => Ok(Some(walk)),

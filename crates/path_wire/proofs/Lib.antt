@@ -8,3 +8,4 @@ pub mod Fitted
 pub mod Joining
 pub mod Hopping
 pub mod Touching
+pub mod Widths

@@ -1,6 +1,7 @@
 -- What a walk lays, move by move.
-use Rattle.std.specs.Prelude.{ℕ, List, [], ◌∷◌, Some, false}
+use Rattle.std.specs.Prelude.{◌≡◌, ℕ, ◌≤◌, List, [], ◌∷◌, length, Some, false}
 use Rattle.pcb_model.specs.declared.item.Metal.{Metal}
+use Rattle.pcb_model.specs.declared.item.Metal.TheVariants as metal
 use Rattle.pcb_model.specs.declared.item.Item.{Item}
 use Rattle.pcb_model.specs.declared.item.Probe.{Probe}
 use Rattle.pcb_model.specs.declared.design.Design.{Design}
@@ -31,6 +32,13 @@ IsProbeInside d p = AreInside d.bounds (pieces_of d (metal_of p))
 
 abbrev pub IsMetalInside : Design → Metal → Type 0
 IsMetalInside d a = AreInside d.bounds (pieces_of d a)
+
+-- a wire of the width with two points or more, or a via
+abbrev pub IsWireOrVia : ℕ → Metal → Type 0
+IsWireOrVia width (metal.Wire layer w chain) = (w ≡ width) × (2 ≤ length chain)
+IsWireOrVia width (metal.Via padstack at) = Unit {0}
+IsWireOrVia width (metal.Pad pin) = ⊥
+IsWireOrVia width (metal.Ban wires vias) = ⊥
 
 -- the metal is laid as the net wants it, and its item fits the design
 pub record IsWellLaid (d : Design) (net id : ℕ) (a : Metal) : Type 0 where

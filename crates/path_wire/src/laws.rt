@@ -6,6 +6,7 @@ ghost use Rattle.geo_kernel.specs.declared.point.Point.{Point as OnePoint};
 ghost use Rattle.pcb_model.specs.declared.item.Item.{Item as OneItem};
 ghost use Rattle.pcb_model.specs.declared.item.Metal.{Metal as OneMetal};
 ghost use Rattle.pcb_model.specs.declared.design.Design.{Design as TheDesign};
+ghost use Rattle.pcb_model.specs.Rules.{width_for};
 ghost use Rattle.pcb_model.specs.Pairs.{Agrees, ProbeAgrees, AreTouching};
 ghost use Rattle.pcb_model.specs.Board.{IsMetalLaid};
 ghost use Rattle.pcb_model.specs.Sound.{IsSound};
@@ -17,7 +18,7 @@ ghost use Rattle.route_lattice.specs.Fits.{FitsDesign};
 ghost use Rattle.route_lattice.specs.Anchors.{Holds, Anchors};
 ghost use Rattle.route_lattice.specs.Legal.{IsLegalProbe, legal_graph};
 ghost use Rattle.path_wire.specs.Wires.{IsNetWalk, copper_of};
-ghost use Rattle.path_wire.specs.Lays.{move_probes, walk_probes, laid_item, IsProbeInside, IsMetalInside, IsWellLaid};
+ghost use Rattle.path_wire.specs.Lays.{move_probes, walk_probes, laid_item, IsProbeInside, IsMetalInside, IsWellLaid, IsWireOrVia};
 ghost use Rattle.path_wire.specs.Joins.{HasNode, Connect, last_node};
 ghost use Rattle.pcb_model.specs.Plain.{ArePlain, IsPlainItem, IsPlainCopper};
 
@@ -41,6 +42,12 @@ pub fn copper_inside()
 /// The copper is laid as its net wants it, and its items fit the design.
 pub fn copper_well_laid()
     ensures { (d : TheDesign) (m : Mesh) (net id : ℕ) (nodes : Seq ℕ) (moves : Seq OneMove) → IsSound d → FitsDesign d m → net < length d.nets → IsNetWalk d m net nodes moves → All (IsWellLaid d net id) (copper_of d m net nodes moves) }
+{}
+
+/// Each wire of the copper has just the net's width, and two points at least.
+pub fn copper_widths()
+    ensures { (d : TheDesign) (m : Mesh) (net : ℕ) (nodes : Seq ℕ) (moves : Seq OneMove) → IsNetWalk d m net nodes moves
+        → All (IsWireOrVia (width_for d net)) (copper_of d m net nodes moves) }
 {}
 
 /// Routed items of one net that metals make agree with each other.

@@ -1,6 +1,5 @@
 -- How far the islands of a net are found.
-use Rattle.std.specs.Prelude.{◌≡◌, ℕ, List, [], ◌∷◌, ◌++◌, length, Contains, Some, slice_get, slice_set}
-use Rattle.std.specs.Option.{IsSome}
+use Rattle.std.specs.Prelude.{◌≡◌, ℕ, ◌≤◌, ◌<◌, List, [], ◌∷◌, ◌++◌, length, Contains, Some, slice_get, slice_set}
 use Rattle.pcb_model.specs.declared.item.Item.{Item}
 use Rattle.pcb_model.specs.declared.item.Metal.TheVariants.{Pad}
 use Rattle.pcb_model.specs.declared.design.Design.{Design}
@@ -15,10 +14,11 @@ pub record IsPadAt (fixed : List Item) (pin place : ℕ) : Type 0 where
   pub there : slice_get fixed place ≡ Some pad
   pub is_pad : pad.metal ≡ Pad pin
 
--- the places of the pads of a net by their pins
-pub record ArePadsAt (fixed : List Item) (net : ℕ) (pads : List (ℕ × ℕ)) : Type 0 where
-  pub each : (pin place : ℕ) → place_at pads pin ≡ Some place → IsPadAt fixed pin place
-  pub whole : (a : Item) → Contains fixed a → a.net ≡ Some net → (pin : ℕ) → a.metal ≡ Pad pin → IsSome (place_at pads pin)
+-- the pad of the pin r.1 stands at the place r.0, from a place on and before an end
+pub record IsPadFrom (fixed : List Item) (from end : ℕ) (r : ℕ × ℕ) : Type 0 where
+  pub from_on : from ≤ r.0
+  pub to_end : r.0 < end
+  pub pad : IsPadAt fixed r.1 r.0
 
 -- ---- islands
 -- these pins are in islands, and each item of an island has the island's place

@@ -5,50 +5,19 @@ ghost use Rattle.std.specs.Prelude.{◌≡◌, ◌+◌, ◌<◌, take, length, A
 ghost use Rattle.pcb_model.specs.Sound.{IsSound};
 ghost use Rattle.pcb_model.specs.Bounds.{IsItemFit};
 ghost use Rattle.pcb_model.specs.Copper.{Ascends};
-ghost use Rattle.pcb_islands.specs.Islands.{pins_of, IsPadOf, AreIslands};
+ghost use Rattle.pcb_islands.specs.Islands.{pins_of, AreIslands};
 ghost use Rattle.pcb_islands.specs.Flooding.{HasIdWithin};
-ghost use Rattle.pcb_islands.specs.Progress.{ArePadsAt, ArePlaced, HasPinMore, HasIslandMore, IsProgress};
+ghost use Rattle.pcb_islands.specs.Progress.{ArePlaced, HasPinMore, HasIslandMore, IsProgress};
 
 use crate::flood::flood;
 use crate::net::Island;
+use crate::pad::pad_of;
 use crate::places::Places;
 use geo_kernel::List;
-use pcb_model::{Copper, Design, Item, Metal, pairs_are_symmetric};
+use pcb_model::{Copper, Design, Item, pairs_are_symmetric};
 use std::alloc::{AllocError, Global};
 use std::marker::Brand;
 use std::sync::ledger::Blank;
-
-/// The places of the pads of a net among the fixed items, by their pins.
-pub(crate) fn pads_of(alloc: Global, fixed: &[Item], net: u32) -> Result<Places, AllocError>
-    ensures { IfOk result (ArePadsAt fixed.now net) }
-{
-    let mut pads = Places::new(alloc);
-    for (place, a) in fixed.iter().enumerate() {
-        if a.net != Some(net) {
-            continue;
-        }
-        if let Metal::Pad { pin } = a.metal {
-            pads.set(u64::from(pin), place)?;
-        }
-    }
-    Ok(pads)
-}
-
-/// The pad of a pin of the net.
-fn pad_of<'a>(d: &'a Design, net: u32, pads: &Places, pin: u32) -> &'a Item
-    requires sound { IsSound d.now }
-    requires pads { ArePadsAt d.now.fixed net pads.now }
-    requires pin { Contains (pins_of d.now net) pin }
-    ensures { IsPadOf d.entry.now pin result.now }
-{
-    let Some(place) = pads.get(u64::from(pin)) else {
-        unreachable!();
-    };
-    let Some(pad) = d.fixed.get(place) else {
-        unreachable!();
-    };
-    pad
-}
 
 /// Gives all ids one place.
 pub(crate) fn place_all(places: &mut Places, ids: &[u64], place: usize) -> Result<(), AllocError>
@@ -99,7 +68,6 @@ pub(crate) struct Task<'a, C: Copper> {
     pub d: &'a Design,
     pub c: &'a C,
     pub net: u32,
-    pub pads: &'a Places,
 }
 
 impl<'a, C: Copper> Task<'a, C> {
@@ -116,7 +84,6 @@ impl<'a, C: Copper> Task<'a, C> {
         requires serves { C.serves self.now.c.now self.now.d.now }
         requires in_order { Ascends (C.items self.now.c.now) }
         requires ids { All HasIdWithin (C.items self.now.c.now) }
-        requires pads { ArePadsAt self.now.d.now.fixed self.now.net self.now.pads.now }
         requires pins { pins.now ≡ pins_of self.now.d.now self.now.net }
         requires place { k < length pins.now }
         requires progress { IsProgress self.now.d.now (C.items self.now.c.now) self.now.net (take k pins.now) found.old.items places.old }
@@ -124,7 +91,7 @@ impl<'a, C: Copper> Task<'a, C> {
     {
         pairs_are_symmetric();
         let pin = pins[k];
-        let pad = pad_of(self.d, self.net, self.pads, pin);
+        let pad = pad_of(self.d, pin);
         match places.get(pad.id) {
             Some(place) => join(found, place, pin),
             None => open(alloc, self.c, self.net, pin, pad, found, places),
@@ -137,7 +104,6 @@ impl<'a, C: Copper> Task<'a, C> {
         requires serves { C.serves self.now.c.now self.now.d.now }
         requires in_order { Ascends (C.items self.now.c.now) }
         requires ids { All HasIdWithin (C.items self.now.c.now) }
-        requires pads { ArePadsAt self.now.d.now.fixed self.now.net self.now.pads.now }
         requires pins { pins.now ≡ pins_of self.now.d.now self.now.net }
         ensures { IfOk result (λ found. AreIslands self.now.d.now (C.items self.now.c.now) self.now.net found.items) }
     {

@@ -7,6 +7,7 @@ mod gather;
 mod ids;
 mod laws;
 mod net;
+mod pad;
 mod places;
 
 pub use laws::{island_items_own, islands_are_one, joining_falls, others_change_nothing};

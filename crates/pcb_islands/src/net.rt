@@ -7,7 +7,7 @@ ghost use Rattle.pcb_model.specs.declared.design.Design.{Design as TheDesign};
 ghost use Rattle.pcb_model.specs.Sound.{IsSound, Serves};
 ghost use Rattle.pcb_islands.specs.Islands.{AreIslands, IsComplete};
 
-use crate::gather::{Task, pads_of};
+use crate::gather::Task;
 use geo_kernel::List;
 use pcb_model::{Copper, Design, pairs_are_symmetric};
 use std::alloc::{AllocError, Global};
@@ -34,13 +34,7 @@ pub fn islands<C: Copper>(
     ensures { IfOk result (AreIslands d.now (C.items c.now) net) }
 {
     c.in_order();
-    let pads = pads_of(alloc, d.fixed.as_slice(), net)?;
-    let task = Task {
-        d,
-        c,
-        net,
-        pads: &pads,
-    };
+    let task = Task { d, c, net };
     let pins = d.nets.as_slice()[net as usize].pins.as_slice();
     let found = task.gather_all(alloc, pins)?;
     Ok(List::from_vec(found))

@@ -70,7 +70,7 @@ all_flat : (P : Point → Type 0) (ls : List (List Point)) → All (All P) ls �
 all_flat P [] h = All-nil P
 all_flat P (l ∷ ls) h = All-append P l (flat_map (λ x. x) ls) (All-head (All P) l ls h) (all_flat P ls (All-tail (All P) l ls h))
 
-vertices_within : (m : ℕ) (s : Spine) → IsSpineWithin m s → All (IsWithin m) (vertices s)
+pub vertices_within : (m : ℕ) (s : Spine) → IsSpineWithin m s → All (IsWithin m) (vertices s)
 vertices_within m (Chain ps) h = h
 vertices_within m (Area ls) h = all_flat (IsWithin m) ls h
 

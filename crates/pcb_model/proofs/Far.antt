@@ -6,7 +6,7 @@ use Rattle.pcb_model.specs.declared.item.Piece.{Piece}
 use Rattle.pcb_model.specs.declared.item.Item.{Item}
 use Rattle.pcb_model.specs.declared.design.Design.{Design}
 use Rattle.pcb_model.specs.declared.near.Extent.{Extent}
-use Rattle.pcb_model.specs.Bounds.{HasRulesWithin}
+use Rattle.pcb_model.specs.Bounds.{HasRulesWithin, HasClearancesWithin}
 use Rattle.pcb_model.specs.Rules.{clearance_of}
 use Rattle.pcb_model.specs.Pairs.{PieceKeeps, KeepsFrom, PieceTouches, TouchesSome, Agrees}
 use Rattle.pcb_model.specs.Near.{IsPieceIn, IsExtentOf, AreFar, AreApart}
@@ -50,10 +50,13 @@ far_apart reach e f ps rs a b far = record {
 less : (c reach p r : ℕ) → c ≤ reach → max 1 (2 * c + p + r) ≤ max 1 (2 * reach + p + r)
 less c reach p r h = omega (arith, h)
 
-pub apart_agree : (reach : ℕ) (d : Design) (a b : Item) → HasRulesWithin reach d → AreApart reach a.pieces b.pieces → Agrees d a b
+pub clearances_within : (m : ℕ) (d : Design) → HasRulesWithin m d → HasClearancesWithin m d
+clearances_within m d h = record { each = λ a b ka kb. clearance_within m d a ka b kb h }
+
+pub apart_agree : (reach : ℕ) (d : Design) (a b : Item) → HasClearancesWithin reach d → AreApart reach a.pieces b.pieces → Agrees d a b
 apart_agree reach d a b w h =
     let c = clearance_of d a.net a.kind b.net b.kind in
-    let l = clearance_within reach d a.net a.kind b.net b.kind w in
+    let l = w.each a.net b.net a.kind b.kind in
     record {
       keep = λ m. record {
         each = All-weaken (KeepsFrom reach b.pieces) (KeepsFrom c b.pieces) a.pieces

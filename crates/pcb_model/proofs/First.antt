@@ -7,7 +7,7 @@ use Prim.Native.Nat.{zero, suc}
 use Rattle.std.proofs.lemmas.List.{length-take, get_or-take}
 use Rattle.std.proofs.lemmas.List.Elements.{All-more}
 use Rattle.pcb_model.specs.declared.item.Item.{Item}
-use Rattle.pcb_model.specs.Copper.{IsOther, IsLookedAt, IsLeast, Ascends, IsAt, AreExtentsOf}
+use Rattle.pcb_model.specs.Copper.{IsOther, IsLookedAt, IsLeast, IsFirstFrom, Ascends, IsAt, AreExtentsOf}
 use Rattle.pcb_model.specs.declared.near.Extent.{Extent}
 use Rattle.pcb_model.specs.Near.{IsExtentOf}
 
@@ -22,7 +22,7 @@ same_or_more zero (suc k) h = inr (omega arith)
 same_or_more (suc i) zero h = absurd (omega arith)
 same_or_more (suc i) (suc k) h = elim (same_or_more i k (omega arith)) [ inl a ↦ inl (ap suc a) | inr a ↦ inr (omega arith) ]
 
-cases_lt : (k i : ℕ) → (k < i) ⊎ (i ≤ k)
+pub cases_lt : (k i : ℕ) → (k < i) ⊎ (i ≤ k)
 cases_lt k zero = inr (omega arith)
 cases_lt zero (suc i) = inl (omega arith)
 cases_lt (suc k) (suc i) = elim (cases_lt k i) [ inl a ↦ inl (omega arith) | inr a ↦ inr (omega arith) ]
@@ -86,6 +86,15 @@ none_found No from but items i h all b m l = let t = in_take items i m.0 b (omeg
 
 pub item_at : (P : Item → Type 0) (items : List Item) → All P items → (i : ℕ) → i < length items → (b : Item) → b ≡ get_or items i b → P b
 item_at P items h i l b bi = subst P (sym bi) (h i b l)
+
+-- the first item whose id isn't below a number
+pub first_is : (items : List Item) (from i : ℕ) (b : Item) → Ascends items → i < length items → b ≡ get_or items i b
+    → ((k : ℕ) (e : Item) → k < i → (get_or items k e).id < from) → from ≤ (get_or items i b).id → IsFirstFrom from items b
+first_is items from i b up h bi below from_on = record {
+  there = (i, h, sym bi);
+  from_on = omega (arith, from_on, ap (λ (x : Item). x.id) bi);
+  before = λ e m lt. let k = earlier items i m.0 b e up h bi m.1 m.2 lt in omega (arith, below m.0 e k, ap (λ (x : Item). x.id) m.2);
+}
 
 -- ---- an id that is nowhere, and one that is somewhere
 pub nowhere_below : (items : List Item) (i id : ℕ) → length items ≤ i → ((k : ℕ) (e : Item) → k < i → (get_or items k e).id < id) → All (λ b. b.id ≡ id → ⊥) items

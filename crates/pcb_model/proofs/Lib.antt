@@ -6,6 +6,8 @@ pub mod Inside
 pub mod Growing
 pub mod Extents
 pub mod Far
+pub mod Least
+pub mod Clearances
 pub mod Symmetry
 pub mod Counting
 pub mod Changed

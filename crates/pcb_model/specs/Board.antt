@@ -1,5 +1,5 @@
 -- Legal boards, and items that are joined.
-use Rattle.std.specs.Prelude.{◌≡◌, ℕ, ◌≤◌, Bool, false, List, [], ◌∷◌, Option, filter, All, AllPairs, Any, Contains, slice_get, ◌⊎◌}
+use Rattle.std.specs.Prelude.{◌≡◌, ℕ, ◌≤◌, ◌<◌, Bool, false, List, [], ◌∷◌, Option, Some, length, filter, All, AllPairs, Any, Contains, slice_get, ◌⊎◌}
 use Rattle.std.specs.Option.{IsSomeAnd, IfSome}
 use Rattle.geo_kernel.specs.declared.point.Point.{Point}
 use Rattle.geo_kernel.specs.Spine.{outline, BeginInside, IsInside}
@@ -10,6 +10,7 @@ use Rattle.pcb_model.specs.declared.item.Item.{Item}
 use Rattle.pcb_model.specs.declared.design.BoardLayer.{BoardLayer}
 use Rattle.pcb_model.specs.declared.design.Net.{Net}
 use Rattle.pcb_model.specs.declared.design.Design.{Design}
+use Rattle.pcb_model.specs.Pieces.{item_of}
 use Rattle.pcb_model.specs.Rules.{width_for}
 use Rattle.pcb_model.specs.Pairs.{Agrees, AreTouching}
 
@@ -44,6 +45,13 @@ IsMetalLaid d net (Ban wires vias) = Unit {0}
 abbrev pub IsLaid : Design → Item → Type 0
 IsLaid d a = IsMetalLaid d a.net a.metal
 
+-- ---- made of metal
+-- the item is what its metal makes of a net of the design
+pub record IsMade (d : Design) (a : Item) : Type 0 where
+  pub net : ℕ
+  pub net_there : net < length d.nets
+  pub made : a ≡ item_of d a.id (Some net) false a.metal
+
 -- ---- legal boards
 abbrev pub is_fixed : Item → Bool
 is_fixed a = a.fixed
@@ -51,11 +59,13 @@ is_fixed a = a.fixed
 abbrev pub IsRouted : Item → Type 0
 IsRouted a = a.fixed ≡ false
 
--- each pair with a routed item agrees; routed items are inside and laid as their nets want; the fixed items are the design's
+-- each pair with a routed item agrees; routed items are inside, laid as their nets want and made of their metal;
+-- the fixed items are the design's
 pub record IsLegal (d : Design) (items : List Item) : Type 0 where
   pub agree : AllPairs (λ (a b : Item). IsRouted a ⊎ IsRouted b → Agrees d a b) items
   pub inside : All (λ (a : Item). IsRouted a → AreInside d.bounds a.pieces) items
   pub laid : All (λ (a : Item). IsRouted a → IsLaid d a) items
+  pub made : All (λ (a : Item). IsRouted a → IsMade d a) items
   pub fixed_stay : filter is_fixed items ≡ d.fixed
 
 -- ---- joined items

@@ -1,5 +1,5 @@
 -- How large the numbers of a design and of its items may be.
-use Rattle.std.specs.Prelude.{ℕ, ◌≤◌, ◌<◌, ◌^◌, List, length, All, IfSome}
+use Rattle.std.specs.Prelude.{◌≡◌, ℕ, ◌≤◌, ◌<◌, ◌^◌, List, Option, length, All, IfSome}
 use Rattle.geo_kernel.specs.declared.point.Point.{Point}
 use Rattle.geo_kernel.specs.Plane.{IsWithin}
 use Rattle.geo_kernel.specs.Spine.{IsWellFormed, IsSpineWithin}
@@ -13,7 +13,9 @@ use Rattle.pcb_model.specs.declared.design.Typed.{Typed}
 use Rattle.pcb_model.specs.declared.design.RuleSet.{RuleSet}
 use Rattle.pcb_model.specs.declared.design.Net.{Net}
 use Rattle.pcb_model.specs.declared.design.Design.{Design}
+use Rattle.pcb_model.specs.declared.item.Kind.{Kind}
 use Rattle.pcb_model.specs.Pieces.{pieces_of, metal_of}
+use Rattle.pcb_model.specs.Rules.{value_of, clearance_of}
 
 -- no clearance of the rules is above m
 pub record AreRulesWithin (m : ℕ) (rs : RuleSet) : Type 0 where
@@ -25,6 +27,26 @@ pub record HasRulesWithin (m : ℕ) (d : Design) : Type 0 where
   pub structure : AreRulesWithin m d.rules
   pub classes_within : All (AreRulesWithin m) d.classes
   pub nets_within : All (λ (n : Net). AreRulesWithin m n.rules) d.nets
+
+-- no clearance between two nets is above m
+pub record HasClearancesWithin (m : ℕ) (d : Design) : Type 0 where
+  pub each : (a b : Option ℕ) (ka kb : Kind) → clearance_of d a ka b kb ≤ m
+
+-- some net, or none, has the value for some pair of kinds
+pub record IsValue (d : Design) (m : ℕ) : Type 0 where
+  pub net : Option ℕ
+  pub one : Kind
+  pub other : Kind
+  pub is : value_of d net one other ≡ m
+
+-- no value of the net is above m
+pub record AreValuesWithin (d : Design) (net : Option ℕ) (m : ℕ) : Type 0 where
+  pub each : (one other : Kind) → value_of d net one other ≤ m
+
+-- no clearance between two nets is above m, and there is one of m
+pub record IsGreatestClearance (d : Design) (m : ℕ) : Type 0 where
+  pub within : HasClearancesWithin m d
+  pub reached : (a b : Option ℕ) × (ka : Kind) × (kb : Kind) × (clearance_of d a ka b kb ≡ m)
 
 -- a well formed piece with coordinates up to 2^29 and a width up to 2^28
 pub record IsFit (p : Piece) : Type 0 where

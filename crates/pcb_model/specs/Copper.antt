@@ -3,7 +3,10 @@ use Rattle.std.specs.Prelude.{◌≡◌, ℕ, ◌≤◌, ◌<◌, ◌^◌, List,
 use Rattle.std.specs.List.{AllZip}
 use Rattle.pcb_model.specs.declared.item.Item.{Item}
 use Rattle.pcb_model.specs.declared.near.Extent.{Extent}
+use Rattle.pcb_model.specs.declared.item.Probe.{Probe}
+use Rattle.pcb_model.specs.declared.design.Design.{Design}
 use Rattle.pcb_model.specs.Bounds.{IsItemFit}
+use Rattle.pcb_model.specs.Pairs.{ProbeAgrees}
 use Rattle.pcb_model.specs.Near.{IsExtentOf}
 
 -- the item's id isn't `but`
@@ -27,6 +30,22 @@ pub record IsLeast (Yes No : Item → Type 0) (from : ℕ) (but : Option ℕ) (i
 abbrev pub Finds : (Item → Type 0) → (Item → Type 0) → ℕ → Option ℕ → List Item → Option ℕ → Type 0
 Finds Yes No from but items None = (b : Item) → Contains items b → IsLookedAt from but b → No b
 Finds Yes No from but items (Some id) = IsLeast Yes No from but items id
+
+-- the item with the least id from an id on
+pub record IsFirstFrom (from : ℕ) (items : List Item) (a : Item) : Type 0 where
+  pub there : Contains items a
+  pub from_on : from ≤ a.id
+  pub before : (b : Item) → Contains items b → b.id < a.id → b.id < from
+
+-- some item disagrees with what the probe of the net stands for
+pub record IsBlocked (d : Design) (net : ℕ) (p : Probe) (items : List Item) : Type 0 where
+  pub item : Item
+  pub there : Contains items item
+  pub disagrees : ProbeAgrees d net p item → ⊥
+
+-- each item agrees with it
+abbrev pub IsUnblocked : Design → ℕ → Probe → List Item → Type 0
+IsUnblocked d net p items = (b : Item) → Contains items b → ProbeAgrees d net p b
 
 -- the ids ascend
 abbrev pub Ascends : List Item → Type 0

@@ -1,8 +1,10 @@
 -- How far items are told apart: by a box, a greatest width and the layers of all their pieces.
-use Rattle.std.specs.Prelude.{◌≡◌, ℕ, ◌≤◌, ◌<◌, ◌+◌, ◌*◌, ◌⊎◌, ◌+ℤ◌, ◌≤ℤ◌, ◌^◌, unsigned_abs, List, All, Option}
+use Rattle.std.specs.Prelude.{◌≡◌, ℕ, ℤ, pos, neg_ℤ, max, min, ◌≤◌, ◌<◌, ◌+◌, ◌*◌, ◌⊎◌, ◌+ℤ◌, ◌≤ℤ◌, ◌^◌, unsigned_abs, List, [], ◌∷◌, flat_map, All, Option}
+use Rattle.std.specs.Int.{int_min, int_max}
 use Rattle.geo_kernel.specs.declared.point.Point.{Point}
 use Rattle.geo_kernel.specs.declared.point.Rect4.{Rect4}
 use Rattle.geo_kernel.specs.Boxes.{IsInBox, IsParted}
+use Rattle.geo_kernel.specs.Spine.{vertices}
 use Rattle.pcb_model.specs.declared.item.Kind.{Kind}
 use Rattle.pcb_model.specs.declared.item.Kind.TheVariants.{Wire, Via, Pin, Smd, Area}
 use Rattle.pcb_model.specs.declared.item.Piece.{Piece}
@@ -49,6 +51,40 @@ pub record Encloses (outer inner : Extent) : Type 0 where
 pub record IsExtentOf (ps : List Piece) (e : Extent) : Type 0 where
   pub each : All (IsPieceIn e) ps
   pub width_within : e.width ≤ 2 ^ 28
+
+-- the least value at some points, or 2^29 where there are none
+abbrev pub least : (Point → ℤ) → List Point → ℤ
+least f [] = pos (2 ^ 29)
+least f (p ∷ ps) = int_min (f p) (least f ps)
+
+-- the greatest one, or -2^29
+abbrev pub greatest : (Point → ℤ) → List Point → ℤ
+greatest f [] = neg_ℤ (pos (2 ^ 29))
+greatest f (p ∷ ps) = int_max (f p) (greatest f ps)
+
+-- the least box that holds some points
+abbrev pub box_of_points : List Point → Rect4
+box_of_points ps = record { x0 = least (λ p. p.x) ps; y0 = least (λ p. p.y) ps; x1 = greatest (λ p. p.x) ps; y1 = greatest (λ p. p.y) ps }
+
+-- the vertices of all spines
+abbrev pub vertices_of : List Piece → List Point
+vertices_of ps = flat_map (λ (p : Piece). vertices p.spine) ps
+
+abbrev pub greatest_width : List Piece → ℕ
+greatest_width [] = 0
+greatest_width (p ∷ ps) = max p.width (greatest_width ps)
+
+abbrev pub first_layer : List Piece → ℕ
+first_layer [] = 255
+first_layer (p ∷ ps) = min p.layer (first_layer ps)
+
+abbrev pub last_layer : List Piece → ℕ
+last_layer [] = 0
+last_layer (p ∷ ps) = max p.layer (last_layer ps)
+
+-- the least extent of some pieces
+abbrev pub extent_of : List Piece → Extent
+extent_of ps = record { bounds = box_of_points (vertices_of ps); width = greatest_width ps; first = first_layer ps; last = last_layer ps }
 
 -- no layer is in both, or the boxes are parted by more than the reach and half of both widths
 abbrev pub AreFar : ℕ → Extent → Extent → Type 0

@@ -1,14 +1,15 @@
 //! Copper: items by id, and searches among them.
 //! A board's tiles, its snapshots and the plain list all answer these calls alike.
 
-ghost use Rattle.std.specs.Prelude.{◌≡◌, ◌<◌, ◌^◌, List, All, Contains, Some, None, MatchOption};
+ghost use Rattle.std.specs.Prelude.{◌≡◌, ℕ, ◌+◌, ◌≤◌, ◌<◌, ◌^◌, List, All, Contains, Some, None, MatchOption};
+ghost use Rattle.std.specs.Bool.{OnTrue, OnFalse};
 ghost use Rattle.std.specs.Option.{option_copied};
 ghost use Rattle.pcb_model.specs.declared.item.Item.{Item as OneItem};
 ghost use Rattle.pcb_model.specs.declared.design.Design.{Design as TheDesign};
 ghost use Rattle.pcb_model.specs.Bounds.{IsItemFit, IsProbeFit};
 ghost use Rattle.pcb_model.specs.Pairs.{Agrees, ProbeAgrees, AreTouching};
 ghost use Rattle.pcb_model.specs.Sound.{Serves};
-ghost use Rattle.pcb_model.specs.Copper.{Ascends, Finds};
+ghost use Rattle.pcb_model.specs.Copper.{Ascends, Finds, IsFirstFrom, IsBlocked, IsUnblocked};
 
 use crate::{Design, Item, Probe, Steps};
 use std::sync::ledger::Ledger;
@@ -21,6 +22,9 @@ pub trait Copper {
     /// Whether the copper serves the design: what its calls require to be asked about it.
     ghost serves: { Self → TheDesign → Type 0 };
 
+    /// How many pair tests a search for what disagrees with an item takes at most.
+    ghost ticks: { Self → OneItem → ℕ };
+
     /// The items stand in order of id, so no two have one id: a call that does nothing but say so.
     fn in_order(&self)
         ensures ascends { Ascends (items self.now) }
@@ -29,6 +33,10 @@ pub trait Copper {
     /// The item of this id, or None exactly where there is none.
     fn item(&self, id: u64) -> Option<&Item>
         ensures { MatchOption (option_copied result) (All (λ b. b.id ≡ id → ⊥) (items self.now)) (λ b. Contains (items self.now) b × (b.id ≡ id)) };
+
+    /// The item of the least id at or above `from`, or None exactly where there is none.
+    fn next_item(&self, from: u64) -> Option<&Item>
+        ensures { MatchOption (option_copied result) (All (λ b. b.id < from) (items self.now)) (IsFirstFrom from (items self.now)) };
 
     /// The least id at or above `from` of an item that disagrees with `a`, other than the one with the id of `a`,
     /// or None exactly where there is none.
@@ -41,7 +49,8 @@ pub trait Copper {
     ) -> Option<u64>
         requires serves { serves self.now d.now }
         requires a_fits { IsItemFit a.now }
-        ensures { Finds (λ b. Agrees d.now a.now b → ⊥) (Agrees d.now a.now) from (Some a.now.id) (items self.now) result };
+        ensures finds { Finds (λ b. Agrees d.now a.now b → ⊥) (Agrees d.now a.now) from (Some a.now.id) (items self.now) result }
+        ensures cost { steps.new ≤ steps.old + ticks self.now a.now };
 
     /// The least id at or above `from` of an item that disagrees with what the probe of the net stands for,
     /// or None exactly where there is none.
@@ -56,6 +65,16 @@ pub trait Copper {
         requires serves { serves self.now d.now }
         requires p_fits { IsProbeFit d.now p.now }
         ensures { Finds (λ b. ProbeAgrees d.now net p.now b → ⊥) (ProbeAgrees d.now net p.now) from None (items self.now) result };
+
+    /// Whether some item disagrees with what the probe of the net stands for: the search ends at the first that it meets.
+    fn is_blocked<L: Ledger>(&self, d: &Design, net: u32, p: &Probe, steps: &mut Steps<L>) -> bool
+        requires serves { serves self.now d.now }
+        requires p_fits { IsProbeFit d.now p.now }
+        ensures yes { OnTrue result (IsBlocked d.now net p.now (items self.now)) }
+        ensures no { OnFalse result (IsUnblocked d.now net p.now (items self.now)) }
+    {
+        self.next_block(d, net, p, 0, steps).is_some()
+    }
 
     /// The least id at or above `from` of an item that has the net of `a` and touches it, other than the one
     /// with the id of `a`, or None exactly where there is none.

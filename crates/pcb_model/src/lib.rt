@@ -4,6 +4,7 @@
 
 mod copper;
 mod design;
+mod greatest;
 mod item;
 mod laws;
 mod legal;
@@ -21,13 +22,15 @@ pub use copper::Copper;
 pub use design::{
     BoardLayer, Component, Design, FreeWire, Net, Padstack, Pin, RuleSet, SesScale, Typed,
 };
+pub use greatest::greatest_clearance;
 pub use item::{Item, Kind, Metal, Piece, Probe};
 pub use laws::{counts_are_unique, pairs_are_symmetric};
 pub use legal::{inside_board, width_ok};
-pub use make::{copy_item, make_item};
+pub use make::{copy_item, copy_metal, make_item};
 pub use near::{Extent, Query};
 pub use pair::{pair_ok, touch};
 pub use plain::PlainCopper;
 pub use probe::{probe_inside, probe_ok};
 pub use rules::{clearance, reach_of, width_of};
+pub use search::joins;
 pub use steps::Steps;

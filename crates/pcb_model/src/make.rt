@@ -177,7 +177,8 @@ fn copy_pieces(alloc: Global, ps: &[Piece]) -> Result<List<Piece>, AllocError>
     Ok(copies)
 }
 
-fn copy_metal(alloc: Global, m: &Metal) -> Result<Metal, AllocError>
+/// An equal metal. `AllocError` comes only for want of memory.
+pub fn copy_metal(alloc: Global, m: &Metal) -> Result<Metal, AllocError>
     ensures { IfOk result (λ n. n ≡ m.now) }
 {
     match m {

@@ -1,15 +1,15 @@
 //! Boxes, widths and layers of whole items, by which far items are told apart before any segment is looked at.
 //! What a search keeps of the item that it asks about is looked up once, when the search begins.
 
-ghost use Rattle.std.specs.Prelude.{◌≡◌, ◌↔◌, ◌≤◌, ◌+ℤ◌, ◌^◌, [], ◌∷◌, IsTrue, map, All, Some};
+ghost use Rattle.std.specs.Prelude.{◌≡◌, ◌↔◌, ◌≤◌, ◌+ℤ◌, ◌^◌, [], ◌∷◌, IsTrue, map, max, min, All, Some};
 ghost use Rattle.std.specs.Int.{int_min, int_max};
 ghost use Rattle.geo_kernel.specs.Plane.{IsWithin};
-ghost use Rattle.geo_kernel.specs.Spine.{IsWellFormed, IsSpineWithin};
+ghost use Rattle.geo_kernel.specs.Spine.{IsWellFormed, IsSpineWithin, vertices};
 ghost use Rattle.geo_kernel.specs.Boxes.{IsIn, IsInBox};
 ghost use Rattle.geo_kernel.specs.Moved.{moved_spine};
 ghost use Rattle.pcb_model.specs.Pieces.{moved_piece, wire_piece, pieces_of, metal_of, kind_of};
 ghost use Rattle.pcb_model.specs.Bounds.{IsFit, IsItemFit, IsProbeFit, IsDesignFit};
-ghost use Rattle.pcb_model.specs.Near.{IsPieceIn, IsExtentOf, IsBoxWithin, moved_box_by, Encloses, AreFar, SeparatesAll, IsQueryOf};
+ghost use Rattle.pcb_model.specs.Near.{IsPieceIn, IsExtentOf, IsBoxWithin, moved_box_by, Encloses, AreFar, SeparatesAll, IsQueryOf, box_of_points, vertices_of, extent_of};
 
 use crate::probe::{padstack_pieces, probe_kind};
 use crate::rules::{Side, reach_of};
@@ -31,7 +31,8 @@ const EDGE: i64 = 1 << 29;
 impl Extent {
     // That of no piece.
     fn empty() -> Extent
-        ensures { IsExtentOf [] result }
+        ensures has { IsExtentOf [] result }
+        ensures least { result ≡ extent_of [] }
     {
         Extent {
             bounds: Rect4 {
@@ -46,18 +47,30 @@ impl Extent {
         }
     }
 
+    fn on_layer(layer: u8, bounds: Rect4, width: u64) -> Extent
+        ensures is { result ≡ record { bounds = bounds; width = width; first = layer; last = layer } }
+        ensures layer_within { layer ≤ 255 }
+    {
+        Extent {
+            bounds,
+            width,
+            first: layer,
+            last: layer,
+        }
+    }
+
     // That of one piece.
     fn of_piece(p: &Piece) -> Extent
         requires { IsFit p.now }
         ensures has { IsPieceIn result p.now }
         ensures width_within { result.width ≤ 2 ^ 28 }
+        ensures bounds { result.bounds ≡ box_of_points (vertices p.now.spine) }
+        ensures width { result.width ≡ p.now.width }
+        ensures layer_within { p.now.layer ≤ 255 }
+        ensures first { result.first ≡ p.now.layer }
+        ensures last { result.last ≡ p.now.layer }
     {
-        Extent {
-            bounds: box_of(&p.spine),
-            width: p.width,
-            first: p.layer,
-            last: p.layer,
-        }
+        Extent::on_layer(p.layer, box_of(&p.spine), p.width)
     }
 
     fn of_moved_piece(p: &Piece, by: Point) -> Extent
@@ -65,6 +78,7 @@ impl Extent {
         requires moved_fit { IsFit (moved_piece by p.now) }
         ensures has { IsPieceIn result (moved_piece by p.now) }
         ensures width_within { result.width ≤ 2 ^ 28 }
+        ensures within { IsBoxWithin (2 ^ 29) result.bounds }
     {
         Extent {
             bounds: moved_box(&p.spine, by),
@@ -81,6 +95,13 @@ impl Extent {
         ensures self_in { Encloses result self }
         ensures other_in { Encloses result other }
         ensures width_within { result.width ≤ 2 ^ 28 }
+        ensures x0 { result.bounds.x0 ≡ int_min self.bounds.x0 other.bounds.x0 }
+        ensures y0 { result.bounds.y0 ≡ int_min self.bounds.y0 other.bounds.y0 }
+        ensures x1 { result.bounds.x1 ≡ int_max self.bounds.x1 other.bounds.x1 }
+        ensures y1 { result.bounds.y1 ≡ int_max self.bounds.y1 other.bounds.y1 }
+        ensures width { result.width ≡ max self.width other.width }
+        ensures first { result.first ≡ min self.first other.first }
+        ensures last { result.last ≡ max self.last other.last }
     {
         Extent {
             bounds: joined_box(self.bounds, other.bounds),
@@ -92,7 +113,8 @@ impl Extent {
 
     fn of_pieces(ps: &[Piece]) -> Extent
         requires { All IsFit ps.now }
-        ensures { IsExtentOf ps.now result }
+        ensures has { IsExtentOf ps.now result }
+        ensures least { result ≡ extent_of ps.now }
     {
         let mut extent = Extent::empty();
         for p in ps {
@@ -104,7 +126,8 @@ impl Extent {
     fn of_moved(ps: &[Piece], by: Point) -> Extent
         requires ps_fit { All IsFit ps.now }
         requires moved_fit { All (λ p. IsFit (moved_piece by p)) ps.now }
-        ensures { IsExtentOf (map (moved_piece by) ps.now) result }
+        ensures has { IsExtentOf (map (moved_piece by) ps.now) result }
+        ensures within { IsBoxWithin (2 ^ 29) result.bounds }
     {
         let mut extent = Extent::empty();
         for p in ps {
@@ -116,7 +139,9 @@ impl Extent {
     /// That of an item's pieces.
     pub fn of_item(a: &Item) -> Extent
         requires { IsItemFit a.now }
-        ensures { IsExtentOf a.now.pieces result }
+        ensures has { IsExtentOf a.now.pieces result }
+        ensures least { result ≡ extent_of a.now.pieces }
+        ensures within { IsBoxWithin (2 ^ 29) result.bounds }
     {
         Extent::of_pieces(a.pieces.as_slice())
     }
@@ -125,7 +150,8 @@ impl Extent {
     pub fn of_probe(d: &Design, p: &Probe) -> Extent
         requires design { IsDesignFit d.now }
         requires p_fits { IsProbeFit d.now p.now }
-        ensures { IsExtentOf (pieces_of d.now (metal_of p.now)) result }
+        ensures has { IsExtentOf (pieces_of d.now (metal_of p.now)) result }
+        ensures within { IsBoxWithin (2 ^ 29) result.bounds }
     {
         match *p {
             Probe::Disc { layer, width, at } => of_wire(layer, width, at, at),
@@ -168,6 +194,7 @@ fn shifted(r: Rect4, by: Point) -> Rect4
     ensures y0 { result.y0 ≡ r.y0 +ℤ by.y }
     ensures x1 { result.x1 ≡ r.x1 +ℤ by.x }
     ensures y1 { result.y1 ≡ r.y1 +ℤ by.y }
+    ensures within { IsBoxWithin (2 ^ 29) result }
 {
     Rect4 {
         x0: r.x0 + by.x,
@@ -181,7 +208,8 @@ fn moved_box(s: &Spine, by: Point) -> Rect4
     requires well_formed { IsWellFormed s.now }
     requires within { IsSpineWithin (2 ^ 29) s.now }
     requires moved_within { IsSpineWithin (2 ^ 29) (moved_spine by s.now) }
-    ensures { IsInBox result (moved_spine by s.now) }
+    ensures has { IsInBox result (moved_spine by s.now) }
+    ensures within { IsBoxWithin (2 ^ 29) result }
 {
     shifted(box_of(s), by)
 }
@@ -192,6 +220,10 @@ fn box_of_step(a: Point, b: Point) -> Rect4
     requires b_within { IsWithin (2 ^ 29) b }
     ensures a_in { IsIn result a }
     ensures b_in { IsIn result b }
+    ensures x0 { result.x0 ≡ int_min a.x b.x }
+    ensures y0 { result.y0 ≡ int_min a.y b.y }
+    ensures x1 { result.x1 ≡ int_max a.x b.x }
+    ensures y1 { result.y1 ≡ int_max a.y b.y }
 {
     Rect4 {
         x0: a.x.min(b.x),
@@ -208,6 +240,7 @@ fn of_wire(layer: u8, width: u64, a: Point, b: Point) -> Extent
     requires width_within { width ≤ 2 ^ 28 }
     ensures one { IsExtentOf (wire_piece layer width (a ∷ []) ∷ []) result }
     ensures two { IsExtentOf (wire_piece layer width (a ∷ b ∷ []) ∷ []) result }
+    ensures within { IsBoxWithin (2 ^ 29) result.bounds }
 {
     Extent {
         bounds: box_of_step(a, b),

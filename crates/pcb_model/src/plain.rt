@@ -1,14 +1,14 @@
 //! Copper as a plain list of items.
 //! Beside each item stands its extent, so that a search passes over what is far.
 
-ghost use Rattle.std.specs.Prelude.{◌≡◌, ◌<◌, ◌^◌, [], ◌∷◌, ◌++◌, All, OnOk, IfErr, IfSome};
+ghost use Rattle.std.specs.Prelude.{◌≡◌, ◌<◌, ◌^◌, [], ◌∷◌, ◌++◌, All, OnOk, IfErr, IfSome, length};
 ghost use Rattle.std.specs.Option.{IfNone};
 ghost use Rattle.pcb_model.specs.Bounds.{IsItemFit};
 ghost use Rattle.pcb_model.specs.Sound.{Serves};
 ghost use Rattle.pcb_model.specs.Copper.{Ascends, Removes};
 
 use crate::near::Extent;
-use crate::search::{first_block, first_clash, first_touch, index_of};
+use crate::search::{first_block, first_clash, first_from, first_touch, index_of};
 use crate::{Copper, Design, Item, Probe, Steps};
 use geo_kernel::List;
 use std::alloc::{AllocError, AllocFailed, Global};
@@ -95,6 +95,8 @@ impl Copper for PlainCopper {
 
     ghost serves = { λ c d. Serves c d };
 
+    ghost ticks = { λ c a. length c };
+
     fn in_order(&self) {
         let _ = self.items();
     }
@@ -105,6 +107,10 @@ impl Copper for PlainCopper {
             Some(i) => Some(&items[i]),
             None => None,
         }
+    }
+
+    fn next_item(&self, from: u64) -> Option<&Item> {
+        first_from(self.items.as_slice(), from)
     }
 
     fn next_clash<L: Ledger>(

@@ -1,14 +1,15 @@
 //! Searches among items in order of id, beside which their extents stand.
 //! A far item costs one comparison of boxes: no step, no clearance and no segment.
 
-ghost use Rattle.std.specs.Prelude.{◌≡◌, ℕ, ◌≤◌, ◌<◌, All, length, slice_index_or, Some, None, MatchOption};
+ghost use Rattle.std.specs.Prelude.{◌≡◌, ℕ, ◌+◌, ◌≤◌, ◌<◌, All, length, slice_index_or, Some, None, MatchOption};
 ghost use Rattle.std.specs.Bool.{OnTrue, OnFalse};
+ghost use Rattle.std.specs.Option.{option_copied};
 ghost use Rattle.pcb_model.specs.declared.item.Item.{Item as OneItem};
 ghost use Rattle.pcb_model.specs.Pieces.{pieces_of, metal_of, kind_of};
 ghost use Rattle.pcb_model.specs.Bounds.{IsDesignFit, IsItemFit, IsProbeFit};
 ghost use Rattle.pcb_model.specs.Pairs.{Agrees, ProbeAgrees, AreTouching};
 ghost use Rattle.pcb_model.specs.Near.{IsExtentOf, IsQueryOf};
-ghost use Rattle.pcb_model.specs.Copper.{IsOther, Finds, Ascends, IsAt, AreExtentsOf};
+ghost use Rattle.pcb_model.specs.Copper.{IsOther, Finds, IsFirstFrom, Ascends, IsAt, AreExtentsOf};
 
 use crate::near::{Extent, Query};
 use crate::pair::{pair_agrees, same_net, touch};
@@ -42,6 +43,7 @@ fn clashes<L: Ledger>(
     requires extent_of { IsExtentOf b.now.pieces extent.now }
     ensures yes { OnTrue result (IsOther (Some a.now.id) b.now × (Agrees d.now a.now b.now → ⊥)) }
     ensures no { OnFalse result (IsOther (Some a.now.id) b.now → Agrees d.now a.now b.now) }
+    ensures cost { steps.new ≤ steps.old + 1 }
 {
     if b.id == a.id {
         return false;
@@ -79,7 +81,7 @@ fn blocks<L: Ledger>(
 }
 
 /// Whether the item is another one of the net of `a` and touches it. At most one step.
-fn joins<L: Ledger>(
+pub fn joins<L: Ledger>(
     a: &Item,
     around: &Extent,
     b: &Item,
@@ -92,6 +94,7 @@ fn joins<L: Ledger>(
     requires extent_of { IsExtentOf b.now.pieces extent.now }
     ensures yes { OnTrue result (IsOther (Some a.now.id) b.now × AreTouching a.now b.now) }
     ensures no { OnFalse result (IsOther (Some a.now.id) b.now → AreTouching a.now b.now → ⊥) }
+    ensures cost { steps.new ≤ steps.old + 1 }
 {
     if b.id == a.id || !same_net(a.net, b.net) {
         return false;
@@ -116,7 +119,8 @@ pub(crate) fn first_clash<L: Ledger>(
     requires ascends { Ascends items.now }
     requires fit { All IsItemFit items.now }
     requires paired { AreExtentsOf items.now extents.now }
-    ensures { Finds (λ b. Agrees d.now a.now b → ⊥) (Agrees d.now a.now) from (Some a.now.id) items.now result }
+    ensures finds { Finds (λ b. Agrees d.now a.now b → ⊥) (Agrees d.now a.now) from (Some a.now.id) items.now result }
+    ensures cost { steps.new ≤ steps.old + length items.now }
 {
     let q = Query::of_item(d, a);
     for i in place_of(items, from)..items.len() {
@@ -172,6 +176,18 @@ pub(crate) fn first_touch<L: Ledger>(
         }
     }
     None
+}
+
+/// The item of the least id at or above `from`, or None exactly where there is none.
+pub(crate) fn first_from(items: &[Item], from: u64) -> Option<&Item>
+    requires { Ascends items.now }
+    ensures { MatchOption (option_copied result) (All (λ b. b.id < from) items.now) (IsFirstFrom from items.now) }
+{
+    let i = place_of(items, from);
+    if i == items.len() {
+        return None;
+    }
+    Some(&items[i])
 }
 
 /// Where the item of this id stands.

@@ -35,10 +35,7 @@ fn agrees<C: Copper, L: Ledger>(d: &Design, c: &C, net: u32, p: &Probe, blank: B
     ensures no { OnFalse result (((b : OneItem) → Contains (C.items c.now) b → ProbeAgrees d.now net p.now b) → ⊥) }
 {
     let mut steps: Steps<L> = Steps::new(blank);
-    match c.next_block(d, net, p, 0, &mut steps) {
-        None => true,
-        Some(_) => false,
-    }
+    !c.is_blocked(d, net, p, &mut steps)
 }
 
 /// Whether what the probe stands for lies inside every boundary and agrees with all items.

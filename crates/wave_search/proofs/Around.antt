@@ -1,6 +1,7 @@
 -- The way to the box of the goals is a bound on the price of a walk to a goal.
-use Rattle.std.proofs.Common.{◌≡◌, ℕ, zero, suc, ℤ, pos, ◌+◌, ◌-◌, ◌*◌, ◌/◌, ◌%◌, ◌<◌, ◌≤◌, ◌^◌, ◌-ℤ◌, ◌≤ℤ◌, ◌==◌, List, [], ◌∷◌, length, get_or, Option, Some, None, Bool, true, false, cond, ltb-true, refl, sym, ap, ◌∙◌, subst, arith, rules, take}
-use Rattle.std.specs.Prelude.{nat_lt, slice_index, unsigned_abs, fold, Contains, IfSome}
+use Rattle.std.proofs.Common.{◌≡◌, ℕ, zero, suc, ℤ, pos, ◌+◌, ◌-◌, ◌*◌, ◌/◌, ◌%◌, ◌<◌, ◌≤◌, ◌^◌, ◌-ℤ◌, ◌≤ℤ◌, ◌==◌, List, [], ◌∷◌, length, get_or, Option, Some, None, Bool, true, false, cond, ltb-true, ltb-false, inl, inr, ◌++◌, refl, sym, ap, ◌∙◌, subst, arith, rules, take}
+use Rattle.std.specs.Prelude.{nat_lt, slice_index, unsigned_abs, fold, All, min}
+use Rattle.std.proofs.Math.ListN.{set}
 use Rattle.std.specs.Int.{int_min, int_max}
 use Rattle.std.proofs.lemmas.Int.{ints, clamps}
 use Rattle.std.proofs.lemmas.List.Sums.{fold_more}
@@ -8,6 +9,7 @@ use Rattle.std.proofs.lemmas.Nat.{div-mul-add, mod-mul-add}
 use Rattle.geo_kernel.specs.declared.point.Point.{Point}
 use Rattle.geo_kernel.specs.declared.point.Rect4.{Rect4}
 use Rattle.geo_kernel.specs.Boxes.{IsIn}
+use Rattle.geo_kernel.proofs.Growing.{box_is_of}
 use Rattle.geo_kernel.specs.Plane.{IsWithin}
 use Rattle.pcb_model.specs.declared.item.Item.{Item}
 use Rattle.pcb_model.specs.declared.design.Design.{Design}
@@ -21,7 +23,7 @@ use Rattle.route_lattice.specs.Legal.{way_between, move_price, way_price, legal_
 use Rattle.route_lattice.proofs.Places.{row_below}
 use Rattle.route_lattice.proofs.Windows.{column_below}
 use Rattle.route_lattice.proofs.Leading.{way_leads}
-use Rattle.wave_search.specs.Around.{AreLinesWithin, widened, with_node, box_around, above_by, outside_of, way_to, low_at}
+use Rattle.wave_search.specs.Around.{AreLinesWithin, box_at, widened, IsHeldBy, AreAround, above_by, outside_of, way_to, nearer_of, way_to_nearest, low_at}
 use Rattle.wave_search.specs.Bounds.{IsBound}
 
 pub by_cond : {X : Type 0} (P : X → Type 0) (b : Bool) (x y : X) → (b ≡ true → P x) → (b ≡ false → P y) → P (cond b x y)
@@ -31,12 +33,7 @@ by_cond P false x y f g = g refl
 pub point_within : (m : Mesh) (v : ℕ) → AreLinesWithin m → v < node_count m → IsWithin (2 ^ 29) (point_of m v)
 point_within m v w h = (w.xs (column m v) (pos 0) (column_below m v h), w.ys (row m v) (pos 0) (row_below (length m.xs) (length m.ys) (length m.layers) v h))
 
--- ---- the box
--- the box is there and has the point
-abbrev Holds : Option Rect4 → Point → Type 0
-Holds None p = ⊥
-Holds (Some r) p = IsIn r p
-
+-- ---- the boxes
 still_left : (a x y : ℤ) → a ≤ℤ x → int_min a y ≤ℤ x
 still_left a x y h = omega (arith, ints, clamps)
 
@@ -52,33 +49,37 @@ new_right a y = omega (arith, ints, clamps)
 itself : (x : ℤ) → x ≤ℤ x
 itself x = omega (arith, ints)
 
-widened_keeps : (o : Option Rect4) (p q : Point) → Holds o p → IsIn (widened o q) p
-widened_keeps None p q h = absurd h
-widened_keeps (Some r) p q h = record { left = still_left r.x0 p.x q.x h.left; right = still_right r.x1 p.x q.x h.right; bottom = still_left r.y0 p.y q.y h.bottom; top = still_right r.y1 p.y q.y h.top }
+widened_keeps : (r : Rect4) (p q : Point) → IsIn r p → IsIn (widened r q) p
+widened_keeps r p q h = record { left = still_left r.x0 p.x q.x h.left; right = still_right r.x1 p.x q.x h.right; bottom = still_left r.y0 p.y q.y h.bottom; top = still_right r.y1 p.y q.y h.top }
 
-widened_holds : (o : Option Rect4) (q : Point) → IsIn (widened o q) q
-widened_holds None q = record { left = itself q.x; right = itself q.x; bottom = itself q.y; top = itself q.y }
-widened_holds (Some r) q = record { left = new_left r.x0 q.x; right = new_right r.x1 q.x; bottom = new_left r.y0 q.y; top = new_right r.y1 q.y }
+widened_holds : (r : Rect4) (q : Point) → IsIn (widened r q) q
+widened_holds r q = record { left = new_left r.x0 q.x; right = new_right r.x1 q.x; bottom = new_left r.y0 q.y; top = new_right r.y1 q.y }
 
-kept : (m : Mesh) (o : Option Rect4) (p : Point) (v : ℕ) → Holds o p → Holds (with_node m o v) p
-kept m o p v h = by_cond (λ (x : Option Rect4). Holds x p) (nat_lt v (node_count m)) (Some (widened o (point_of m v))) o (λ e. widened_keeps o p (point_of m v) h) (λ e. h)
+alone : (q : Point) → IsIn (box_at q) q
+alone q = record { left = itself q.x; right = itself q.x; bottom = itself q.y; top = itself q.y }
 
-kept_all : (m : Mesh) (o : Option Rect4) (p : Point) (vs : List ℕ) → Holds o p → Holds (fold (with_node m) o vs) p
-kept_all m o p [] h = h
-kept_all m o p (v ∷ vs) h = kept_all m (with_node m o v) p vs (kept m o p v h)
+-- one box widened
+pub put_keeps : (rs : List Rect4) (k : ℕ) (d r : Rect4) (q p : Point) → k < length rs → r ≡ widened (get_or rs k d) q → IsHeldBy rs p → IsHeldBy (set rs k r) p
+put_keeps [] k d r q p l e h = absurd h
+put_keeps (x ∷ xs) zero d r q p l e h = elim h [ inl i ↦ inl (subst (λ (z : Rect4). IsIn z p) (sym e) (widened_keeps x p q i)) | inr i ↦ inr i ]
+put_keeps (x ∷ xs) (suc k) d r q p l e h = elim h [ inl i ↦ inl i | inr i ↦ inr (put_keeps xs k d r q p (omega arith) e i) ]
+
+pub put_holds : (rs : List Rect4) (k : ℕ) (d r : Rect4) (q : Point) → k < length rs → r ≡ widened (get_or rs k d) q → IsHeldBy (set rs k r) q
+put_holds [] k d r q l e = absurd (omega arith)
+put_holds (x ∷ xs) zero d r q l e = inl (subst (λ (z : Rect4). IsIn z q) (sym e) (widened_holds x q))
+put_holds (x ∷ xs) (suc k) d r q l e = inr (put_holds xs k d r q (omega arith) e)
+
+-- one box more
+pub added_keeps : (rs : List Rect4) (q p : Point) → IsHeldBy rs p → IsHeldBy (rs ++ (box_at q ∷ [])) p
+added_keeps [] q p h = absurd h
+added_keeps (x ∷ xs) q p h = elim h [ inl i ↦ inl i | inr i ↦ inr (added_keeps xs q p i) ]
+
+pub added_holds : (rs : List Rect4) (q : Point) → IsHeldBy (rs ++ (box_at q ∷ [])) q
+added_holds [] q = inl (alone q)
+added_holds (x ∷ xs) q = inr (added_holds xs q)
 
 below_is : (a b : ℕ) → a < b → nat_lt a b ≡ true
 below_is a b h = search (rules, h)
-
-holds : (m : Mesh) (o : Option Rect4) (vs : List ℕ) (g : ℕ) → g < node_count m → Contains vs g → Holds (fold (with_node m) o vs) (point_of m g)
-holds m o [] g h (k, l, e) = absurd (omega arith)
-holds m o (v ∷ vs) g h (zero, l, e) = kept_all m (with_node m o v) (point_of m g) vs (subst (λ (x : ℕ). Holds (with_node m o x) (point_of m g)) (sym e)
-    (subst (λ (b : Bool). Holds (cond b (Some (widened o (point_of m g))) o) (point_of m g)) (sym (below_is g (node_count m) h)) (widened_holds o (point_of m g))))
-holds m o (v ∷ vs) g h (suc k, l, e) = holds m (with_node m o v) vs g h (k, omega arith, e)
-
-pub goal_held : (m : Mesh) (goals : List ℕ) (g : ℕ) → g < node_count m → Contains goals g → Holds (box_around m goals) (point_of m g)
-unfolding box_around
-goal_held m goals g h c = holds m None goals g h c
 
 min_small : (a b : ℤ) → unsigned_abs a ≤ 2 ^ 29 → unsigned_abs b ≤ 2 ^ 29 → unsigned_abs (int_min a b) ≤ 2 ^ 29
 min_small a b h k = omega (arith, ints, clamps)
@@ -86,29 +87,38 @@ min_small a b h k = omega (arith, ints, clamps)
 max_small : (a b : ℤ) → unsigned_abs a ≤ 2 ^ 29 → unsigned_abs b ≤ 2 ^ 29 → unsigned_abs (int_max a b) ≤ 2 ^ 29
 max_small a b h k = omega (arith, ints, clamps)
 
-pub widened_within : (o : Option Rect4) (p : Point) → IfSome o IsBoxWithin → IsWithin (2 ^ 29) p → IsBoxWithin (widened o p)
-widened_within None p h k = record { left = k.0; right = k.0; bottom = k.1; top = k.1 }
-widened_within (Some r) p h k = record { left = min_small r.x0 p.x h.left k.0; right = max_small r.x1 p.x h.right k.0; bottom = min_small r.y0 p.y h.bottom k.1; top = max_small r.y1 p.y h.top k.1 }
+pub widened_within : (r : Rect4) (p : Point) → IsBoxWithin r → IsWithin (2 ^ 29) p → IsBoxWithin (widened r p)
+widened_within r p h k = record { left = min_small r.x0 p.x h.left k.0; right = max_small r.x1 p.x h.right k.0; bottom = min_small r.y0 p.y h.bottom k.1; top = max_small r.y1 p.y h.top k.1 }
 
-pub with_node_within : (m : Mesh) (o : Option Rect4) (v : ℕ) → AreLinesWithin m → IfSome o IsBoxWithin → IfSome (with_node m o v) IsBoxWithin
-with_node_within m o v w h = by_cond (λ (x : Option Rect4). IfSome x IsBoxWithin) (nat_lt v (node_count m)) (Some (widened o (point_of m v))) o
-    (λ e. widened_within o (point_of m v) h (point_within m v w (ltb-true v (node_count m) e))) (λ e. h)
+pub alone_within : (p : Point) → IsWithin (2 ^ 29) p → IsBoxWithin (box_at p)
+alone_within p k = record { left = k.0; right = k.0; bottom = k.1; top = k.1 }
 
-all_within : (m : Mesh) (o : Option Rect4) (vs : List ℕ) → AreLinesWithin m → IfSome o IsBoxWithin → IfSome (fold (with_node m) o vs) IsBoxWithin
-all_within m o [] w h = h
-all_within m o (v ∷ vs) w h = all_within m (with_node m o v) vs w (with_node_within m o v w h)
+pub grown_is : (r g : Rect4) (p : Point) → g.x0 ≡ int_min r.x0 p.x → g.y0 ≡ int_min r.y0 p.y → g.x1 ≡ int_max r.x1 p.x → g.y1 ≡ int_max r.y1 p.y → g ≡ widened r p
+grown_is r g p a b c d = box_is_of _ _ _ _ _ _ _ _ a b c d
 
--- one number more
-pub around_more : (m : Mesh) (o n : Option Rect4) (vs : List ℕ) (i v d : ℕ) → i < length vs → v ≡ get_or vs i d → o ≡ fold (with_node m) None (take i vs) → n ≡ with_node m o v → n ≡ fold (with_node m) None (take (i + 1) vs)
-around_more m o n vs i v d h e was now = now ∙ (λ k. with_node m (was k) (e k)) ∙ sym (fold_more (with_node m) None vs i d h)
+-- the goals up to a place are held
+abbrev pub AreHeld : Mesh → List ℕ → ℕ → List Rect4 → Type 0
+AreHeld m goals n boxes = (i g : ℕ) → i < n → get_or goals i g ≡ g → g < node_count m → IsHeldBy boxes (point_of m g)
 
-pub around_is : (m : Mesh) (o : Option Rect4) (vs xs : List ℕ) → xs ≡ vs → o ≡ fold (with_node m) None xs → o ≡ box_around m vs
-unfolding box_around
-around_is m o vs xs e f = f ∙ ap (fold (with_node m) None) e
+pub none_held : (m : Mesh) (goals : List ℕ) (boxes : List Rect4) → AreHeld m goals 0 boxes
+none_held m goals boxes i g l e h = absurd (omega (arith, l))
 
-pub box_within : (m : Mesh) (goals : List ℕ) → AreLinesWithin m → IfSome (box_around m goals) IsBoxWithin
-unfolding box_around
-box_within m goals w = all_within m None goals w tt
+not_less : (i n : ℕ) → nat_lt i n ≡ false → i < n + 1 → i ≡ n
+not_less i n t k = omega (arith, ltb-false i n t, k)
+
+same_at : (goals : List ℕ) (n d g : ℕ) → n < length goals → get_or goals n g ≡ get_or goals n d
+same_at [] n d g h = absurd (omega arith)
+same_at (x ∷ xs) zero d g h = refl
+same_at (x ∷ xs) (suc n) d g h = same_at xs n d g (omega arith)
+
+pub one_more : (m : Mesh) (goals : List ℕ) (n v d : ℕ) (old new : List Rect4) → n < length goals → v ≡ get_or goals n d → AreHeld m goals n old → ((q : Point) → IsHeldBy old q → IsHeldBy new q) → (v < node_count m → IsHeldBy new (point_of m v)) → AreHeld m goals (n + 1) new
+one_more m goals n v d old new l e f keeps holds i g k c h = by_cond (λ (x : ℕ). IsHeldBy new (point_of m g)) (nat_lt i n) 0 0
+    (λ t. keeps (point_of m g) (f i g (ltb-true i n t) c h))
+    (λ t. let is : v ≡ g = e ∙ sym (same_at goals n d g l) ∙ ap (λ (x : ℕ). get_or goals x g) (sym (not_less i n t k)) ∙ c in
+    subst (λ (x : ℕ). IsHeldBy new (point_of m x)) is (holds (subst (λ (x : ℕ). x < node_count m) (sym is) h)))
+
+pub all_held : (m : Mesh) (goals : List ℕ) (n : ℕ) (boxes : List Rect4) → length goals ≤ n → All IsBoxWithin boxes → AreHeld m goals n boxes → AreAround m goals boxes
+all_held m goals n boxes l w f = record { within = w; held = λ g c h. f c.0 g (omega (arith, l, c.1)) c.2 h }
 
 -- ---- the way to it
 above_none : (a b : ℤ) → a ≤ℤ b → above_by a b ≡ 0
@@ -132,17 +142,55 @@ outside_small low high x h k l = omega (arith, above_small low x h l, above_smal
 nearer : (low high x y : ℤ) → outside_of low high x ≤ unsigned_abs (y -ℤ x) + outside_of low high y
 nearer low high x y = omega (arith, above_falls low x y, below_falls high x y)
 
-way_none : (o : Option Rect4) (p : Point) → Holds o p → way_to o p ≡ 0
-way_none None p h = refl
-way_none (Some r) p h = omega (arith, inside_none r.x0 r.x1 p.x h.left h.right, inside_none r.y0 r.y1 p.y h.bottom h.top)
+way_none : (r : Rect4) (p : Point) → IsIn r p → way_to r p ≡ 0
+way_none r p h = omega (arith, inside_none r.x0 r.x1 p.x h.left h.right, inside_none r.y0 r.y1 p.y h.bottom h.top)
 
-way_small : (o : Option Rect4) (p : Point) → IfSome o IsBoxWithin → IsWithin (2 ^ 29) p → way_to o p ≤ 2 ^ 31
-way_small None p h k = omega arith
-way_small (Some r) p h k = omega (arith, outside_small r.x0 r.x1 p.x h.left h.right k.0, outside_small r.y0 r.y1 p.y h.bottom h.top k.1)
+way_falls : (r : Rect4) (p q : Point) → way_to r p ≤ way_between p q + way_to r q
+way_falls r p q = omega (arith, nearer r.x0 r.x1 p.x q.x, nearer r.y0 r.y1 p.y q.y)
 
-way_falls : (o : Option Rect4) (p q : Point) → way_to o p ≤ way_between p q + way_to o q
-way_falls None p q = omega arith
-way_falls (Some r) p q = omega (arith, nearer r.x0 r.x1 p.x q.x, nearer r.y0 r.y1 p.y q.y)
+least_falls : (w a b c d : ℕ) → a ≤ w + b → c ≤ w + d → min a c ≤ w + min b d
+least_falls w a b c d h k = grind (arith, h, k)
+
+least_small : (a c : ℕ) → min a c ≤ a
+least_small a c = grind arith
+
+folds_fall : (rs : List Rect4) (p q : Point) (a b : ℕ) → a ≤ way_between p q + b → fold (nearer_of p) a rs ≤ way_between p q + fold (nearer_of q) b rs
+folds_fall [] p q a b h = h
+folds_fall (r ∷ rs) p q a b h = folds_fall rs p q (min a (way_to r p)) (min b (way_to r q)) (least_falls (way_between p q) a b (way_to r p) (way_to r q) h (way_falls r p q))
+
+folds_small : (rs : List Rect4) (p : Point) (a : ℕ) → fold (nearer_of p) a rs ≤ a
+folds_small [] p a = omega arith
+folds_small (r ∷ rs) p a = omega (arith, folds_small rs p (min a (way_to r p)), least_small a (way_to r p))
+
+least_none : (a c : ℕ) → c ≡ 0 → min a c ≡ 0
+least_none a c h = grind (arith, h)
+
+folds_none : (rs : List Rect4) (p : Point) (a : ℕ) → IsHeldBy rs p → fold (nearer_of p) a rs ≡ 0
+folds_none [] p a h = absurd h
+folds_none (r ∷ rs) p a h = elim h [
+  | inl i ↦ omega (arith, folds_small rs p (min a (way_to r p)), least_none a (way_to r p) (way_none r p i))
+  | inr i ↦ folds_none rs p (min a (way_to r p)) i
+]
+
+nearest_falls : (rs : List Rect4) (p q : Point) → way_to_nearest rs p ≤ way_between p q + way_to_nearest rs q
+unfolding way_to_nearest
+nearest_falls rs p q = folds_fall rs p q (2 ^ 31) (2 ^ 31) (omega arith)
+
+pub nearest_small : (rs : List Rect4) (p : Point) → way_to_nearest rs p ≤ 2 ^ 31
+unfolding way_to_nearest
+nearest_small rs p = folds_small rs p (2 ^ 31)
+
+nearest_none : (rs : List Rect4) (p : Point) → IsHeldBy rs p → way_to_nearest rs p ≡ 0
+unfolding way_to_nearest
+nearest_none rs p h = folds_none rs p (2 ^ 31) h
+
+-- one box more is looked at
+pub way_more : (p : Point) (rs : List Rect4) (i old new : ℕ) (d r : Rect4) → i < length rs → r ≡ get_or rs i d → old ≡ fold (nearer_of p) (2 ^ 31) (take i rs) → new ≡ nearer_of p old r → new ≡ fold (nearer_of p) (2 ^ 31) (take (i + 1) rs)
+way_more p rs i old new d r h e was now = now ∙ (λ k. nearer_of p (was k) (e k)) ∙ sym (fold_more (nearer_of p) (2 ^ 31) rs i d h)
+
+pub way_is : (p : Point) (n : ℕ) (rs xs : List Rect4) → xs ≡ rs → n ≡ fold (nearer_of p) (2 ^ 31) xs → n ≡ way_to_nearest rs p
+unfolding way_to_nearest
+way_is p n rs xs e f = f ∙ ap (fold (nearer_of p) (2 ^ 31)) e
 
 -- ---- a via stays at its point
 abbrev IsStill : Mesh → ℕ → Move → ℕ → Type 0
@@ -192,33 +240,31 @@ way_still d m net v i h =
     (λ e. via_still d m v (slice_index (vias_of d net) ((i - 4) / length m.layers)) ((i - 4) % length m.layers) h)
 
 -- ---- the bound
-move_falls : (m : Mesh) (o : Option Rect4) (via_cost v : ℕ) (mv : Move) (to : ℕ) → IsStill m v mv to → way_to o (point_of m v) ≤ move_price m via_cost v mv to + way_to o (point_of m to)
-move_falls m o via_cost v (Step dir) to s = way_falls o (point_of m v) (point_of m to)
-move_falls m o via_cost v (Via padstack layer) to s = omega (arith, ap (way_to o) s)
+move_falls : (m : Mesh) (rs : List Rect4) (via_cost v : ℕ) (mv : Move) (to : ℕ) → IsStill m v mv to → way_to_nearest rs (point_of m v) ≤ move_price m via_cost v mv to + way_to_nearest rs (point_of m to)
+move_falls m rs via_cost v (Step dir) to s = nearest_falls rs (point_of m v) (point_of m to)
+move_falls m rs via_cost v (Via padstack layer) to s = omega (arith, ap (way_to_nearest rs) s)
 
-pub low_is : (m : Mesh) (o : Option Rect4) (v : ℕ) → v < node_count m → low_at m o v ≡ way_to o (point_of m v)
+pub low_is : (m : Mesh) (rs : List Rect4) (v : ℕ) → v < node_count m → low_at m rs v ≡ way_to_nearest rs (point_of m v)
 unfolding low_at
-low_is m o v h = ap (λ (b : Bool). cond b (way_to o (point_of m v)) 0) (below_is v (node_count m) h)
+low_is m rs v h = ap (λ (b : Bool). cond b (way_to_nearest rs (point_of m v)) 0) (below_is v (node_count m) h)
 
-low_none : (m : Mesh) (o : Option Rect4) (v : ℕ) → (v < node_count m → way_to o (point_of m v) ≡ 0) → low_at m o v ≡ 0
+low_none : (m : Mesh) (rs : List Rect4) (v : ℕ) → (v < node_count m → way_to_nearest rs (point_of m v) ≡ 0) → low_at m rs v ≡ 0
 unfolding low_at
-low_none m o v f = by_cond (λ (n : ℕ). n ≡ 0) (nat_lt v (node_count m)) (way_to o (point_of m v)) 0 (λ e. f (ltb-true v (node_count m) e)) (λ e. refl)
+low_none m rs v f = by_cond (λ (n : ℕ). n ≡ 0) (nat_lt v (node_count m)) (way_to_nearest rs (point_of m v)) 0 (λ e. f (ltb-true v (node_count m) e)) (λ e. refl)
 
-pub low_out : (m : Mesh) (o : Option Rect4) (v : ℕ) → node_count m ≤ v → low_at m o v ≡ 0
-low_out m o v h = low_none m o v (λ k. absurd (omega (arith, h, k)))
+pub low_out : (m : Mesh) (rs : List Rect4) (v : ℕ) → node_count m ≤ v → low_at m rs v ≡ 0
+low_out m rs v h = low_none m rs v (λ k. absurd (omega (arith, h, k)))
 
-pub bounds : (d : Design) (m : Mesh) (items : List Item) (net via_cost : ℕ) (goals : List ℕ) → CanMove d m net via_cost → IsBound (legal_graph d m items net via_cost) goals (low_at m (box_around m goals))
-bounds d m items net via_cost goals can =
-    let o = box_around m goals in
-    let w : AreLinesWithin m = record { xs = can.fits.xs_within; ys = can.fits.ys_within } in record {
-      limit = λ v h. let e = low_is m o v h in let s = way_small o (point_of m v) (box_within m goals w) (point_within m v w h) in omega (arith, e, s);
-      at_goals = λ g c. low_none m o g (λ h. way_none o (point_of m g) (goal_held m goals g h c));
-      falls = λ v a h p.
-          let to_in = way_leads d m net v a.index a.move a.to h p.leads in
-          let still : IsStill m v a.move a.to = subst (IsWayStill m v) p.leads (way_still d m net v a.index h) in
-          let paid : a.price ≡ move_price m via_cost v a.move a.to = p.costs ∙ ap (way_price m via_cost v) p.leads in
-          let falls = move_falls m o via_cost v a.move a.to still in
-          let e = low_is m o v h in
-          let f = low_is m o a.to to_in in
-          omega (arith, paid, falls, e, f);
-    }
+pub bounds : (d : Design) (m : Mesh) (items : List Item) (net via_cost : ℕ) (goals : List ℕ) (boxes : List Rect4) → CanMove d m net via_cost → AreAround m goals boxes → IsBound (legal_graph d m items net via_cost) goals (low_at m boxes)
+bounds d m items net via_cost goals rs can around = record {
+  limit = λ v h. let e = low_is m rs v h in let s = nearest_small rs (point_of m v) in omega (arith, e, s);
+  at_goals = λ g c. low_none m rs g (λ h. nearest_none rs (point_of m g) (around.held g c h));
+  falls = λ v a h p.
+      let to_in = way_leads d m net v a.index a.move a.to h p.leads in
+      let still : IsStill m v a.move a.to = subst (IsWayStill m v) p.leads (way_still d m net v a.index h) in
+      let paid : a.price ≡ move_price m via_cost v a.move a.to = p.costs ∙ ap (way_price m via_cost v) p.leads in
+      let falls = move_falls m rs via_cost v a.move a.to still in
+      let e = low_is m rs v h in
+      let f = low_is m rs a.to to_in in
+      omega (arith, paid, falls, e, f);
+}

@@ -1,21 +1,42 @@
-//! A bound by the box of the goals: a walk costs at least the way along the axes to the box.
+//! A bound by the boxes of the goals: a walk costs at least the way along the axes to the nearest of them.
 //! It holds on a lattice whose steps cost the gaps that they cross.
 
-ghost use Rattle.std.specs.Prelude.{◌≡◌, ◌≤◌, ◌^◌, ℕ, List as Seq, IfSome, unsigned_abs};
+ghost use Rattle.std.specs.Prelude.{◌≡◌, ◌≤◌, ◌<◌, ◌^◌, ℕ, List as Seq, All, IfOk, IfSome, OnOk, length, unsigned_abs};
 ghost use Rattle.std.specs.Int.{int_min, int_max};
 ghost use Rattle.std.proofs.Props.{props};
+ghost use Rattle.geo_kernel.specs.declared.point.Point.{Point as OnePoint};
+ghost use Rattle.geo_kernel.specs.declared.point.Rect4.{Rect4 as OneBox};
 ghost use Rattle.geo_kernel.specs.Plane.{IsWithin};
 ghost use Rattle.pcb_model.specs.declared.design.Design.{Design as TheDesign};
 ghost use Rattle.pcb_model.specs.declared.item.Item.{Item as OneItem};
 ghost use Rattle.route_lattice.specs.Legal.{legal_graph, CanMove};
 ghost use Rattle.route_lattice.specs.Mesh.{Mesh};
 ghost use Rattle.route_lattice.specs.Parts.{IsBoxWithin};
-ghost use Rattle.wave_search.specs.Around.{AreLinesWithin, widened, with_node, box_around, above_by, outside_of, way_to as way_to_box, low_at};
+ghost use Rattle.wave_search.specs.Around.{AreLinesWithin, box_at, widened, IsHeldBy, AreAround, above_by, outside_of, way_to as way_to_box, way_to_nearest, low_at};
 ghost use Rattle.wave_search.specs.Bounds.{IsBound};
 
 use crate::bound::Bound;
 use geo_kernel::{List, Point, Rect4};
 use route_lattice::Lattice;
+use std::alloc::{AllocError, Global};
+
+/// How many boxes a bound has at most: a look at the bound goes over them.
+const MOST_BOXES: usize = 64;
+
+/// A goal joins a box that it is as near as this, in nm, where the box stays as thin as this.
+const NEAR: u64 = 1_000_000;
+
+/// The box of a point alone.
+fn box_of(p: Point) -> Rect4
+    ensures { result ≡ box_at p }
+{
+    Rect4 {
+        x0: p.x,
+        y0: p.y,
+        x1: p.x,
+        y1: p.y,
+    }
+}
 
 /// The least box of a box and a point.
 fn grown_by(r: Rect4, p: Point) -> Rect4
@@ -30,45 +51,6 @@ fn grown_by(r: Rect4, p: Point) -> Rect4
         x1: r.x1.max(p.x),
         y1: r.y1.max(p.y),
     }
-}
-
-/// The least box of a box and a point, or of a point alone.
-fn grown(around: Option<Rect4>, p: Point) -> Rect4
-    ensures { result ≡ widened around p }
-{
-    match around {
-        None => Rect4 {
-            x0: p.x,
-            y0: p.y,
-            x1: p.x,
-            y1: p.y,
-        },
-        Some(r) => grown_by(r, p),
-    }
-}
-
-/// The box with a node's point; a number that is no node adds nothing.
-fn grown_to(lat: &Lattice, around: Option<Rect4>, node: u32) -> Option<Rect4>
-    ensures { result ≡ with_node lat.now around node }
-{
-    if node < lat.count() {
-        Some(grown(around, lat.point(node)))
-    } else {
-        around
-    }
-}
-
-/// The least box of the points of those of the numbers that are nodes.
-fn box_of_nodes(lat: &Lattice, nodes: &[u32]) -> Option<Rect4>
-    requires { AreLinesWithin lat.now }
-    ensures value { result ≡ box_around lat.now nodes.now }
-    ensures within { IfSome result IsBoxWithin }
-{
-    let mut around = None;
-    for v in nodes {
-        around = grown_to(lat, around, *v);
-    }
-    around
 }
 
 /// How far a coordinate is above another, in nm; 0 where it isn't.
@@ -93,54 +75,132 @@ fn outside(low: i64, high: i64, x: i64) -> u64
 }
 
 /// The way along the axes from a point to a box, in nm.
-fn way_to(around: Option<Rect4>, p: Point) -> u64
-    requires around { IfSome around IsBoxWithin }
+fn way_to(r: Rect4, p: Point) -> u64
+    requires r { IsBoxWithin r }
     requires p { IsWithin (2 ^ 29) p }
-    ensures { result ≡ way_to_box around p }
+    ensures { result ≡ way_to_box r p }
 {
-    match around {
-        None => 0,
-        Some(r) => outside(r.x0, r.x1, p.x) + outside(r.y0, r.y1, p.y),
+    outside(r.x0, r.x1, p.x) + outside(r.y0, r.y1, p.y)
+}
+
+/// The way along the axes from a point to the nearest of the boxes, in nm, at most 2^31.
+fn nearest_way(boxes: &[Rect4], p: Point) -> u64
+    requires boxes { All IsBoxWithin boxes.now }
+    requires p { IsWithin (2 ^ 29) p }
+    ensures { result ≡ way_to_nearest boxes.now p }
+{
+    let mut least: u64 = 1 << 31;
+    for r in boxes {
+        least = least.min(way_to(*r, p));
+    }
+    least
+}
+
+/// Whether a box is thin.
+fn is_thin(r: Rect4) -> bool
+    requires { IsBoxWithin r }
+{
+    above(r.x1, r.x0) <= NEAR || above(r.y1, r.y0) <= NEAR
+}
+
+/// The place of a box that a point joins, or None where it takes one of its own.
+fn place_for(boxes: &[Rect4], p: Point) -> Option<usize>
+    requires boxes { All IsBoxWithin boxes.now }
+    requires p { IsWithin (2 ^ 29) p }
+    ensures { IfSome result (λ k. k < length boxes.now) }
+{
+    let mut place = 0;
+    let mut least = u64::MAX;
+    for k in 0..boxes.len() {
+        let way = way_to(boxes[k], p);
+        if way < least {
+            least = way;
+            place = k;
+        }
+    }
+    if place >= boxes.len() {
+        return None;
+    }
+    if boxes.len() >= MOST_BOXES || least <= NEAR && is_thin(grown_by(boxes[place], p)) {
+        Some(place)
+    } else {
+        None
     }
 }
 
-/// The distance of a node's point from the box of the goals, as a sum over x and y, in nm; 0 where there are no goals.
-/// `around` is the box.
+/// Widens one of the boxes by a point, or adds a box for it.
+fn take_in(boxes: &mut Vec<Rect4>, p: Point) -> Result<(), AllocError>
+    requires boxes { All IsBoxWithin boxes.old.items }
+    requires p { IsWithin (2 ^ 29) p }
+    ensures within { OnOk result (All IsBoxWithin boxes.new.items) }
+    ensures keeps { OnOk result ((q : OnePoint) → IsHeldBy boxes.old.items q → IsHeldBy boxes.new.items q) }
+    ensures holds { OnOk result (IsHeldBy boxes.new.items p) }
+{
+    if let Some(k) = place_for(boxes.as_slice(), p) {
+        let grown = grown_by(boxes[k], p);
+        boxes[k] = grown;
+        return Ok(());
+    }
+    boxes.push(box_of(p))?;
+    Ok(())
+}
+
+/// Boxes around those of the numbers that are nodes.
+fn boxes_of_nodes(alloc: Global, lat: &Lattice, nodes: &[u32]) -> Result<Vec<Rect4>, AllocError>
+    requires { AreLinesWithin lat.now }
+    ensures { IfOk result (λ boxes. AreAround lat.now nodes.now boxes.items) }
+{
+    let mut boxes = Vec::new(alloc);
+    for v in nodes {
+        let node = *v;
+        if node < lat.count() {
+            take_in(&mut boxes, lat.point(node))?;
+        }
+    }
+    Ok(boxes)
+}
+
+/// The distance of a node's point from the nearest of the boxes of the goals, as a sum over x and y, in nm.
 #[derive(Drop)]
 pub struct BoxBound<'a> {
     pub lat: &'a Lattice,
-    pub around: Option<Rect4>,
+    pub boxes: List<Rect4>,
     ghost lines_within: { AreLinesWithin lat.now },
-    ghost box_within: { IfSome around IsBoxWithin } by { Prim.hlevel props },
+    ghost boxes_within: { All IsBoxWithin boxes } by { Prim.hlevel props },
 }
 
 impl<'a> BoxBound<'a> {
     /// The bound for these goals, of which those that are no nodes don't count.
-    pub fn of(lat: &'a Lattice, goals: &List<u32>) -> BoxBound<'a>
+    pub fn of(
+        alloc: Global,
+        lat: &'a Lattice,
+        goals: &List<u32>,
+    ) -> Result<BoxBound<'a>, AllocError>
         requires { AreLinesWithin lat.now }
-        ensures lat { result.lat.now ≡ lat.now }
-        ensures around { result.around ≡ box_around lat.now goals.now }
+        ensures lat { IfOk result (λ b. b.lat.now ≡ lat.now) }
+        ensures around { IfOk result (λ b. AreAround lat.now goals.now b.boxes) }
     {
-        BoxBound {
+        let boxes = boxes_of_nodes(alloc, lat, goals.as_slice())?;
+        Ok(BoxBound {
             lat,
-            around: box_of_nodes(lat, goals.as_slice()),
-        }
+            boxes: List::from_vec(boxes),
+        })
     }
 }
 
 impl Bound for BoxBound<'_> {
-    ghost low_of = { λ s v. low_at s.lat.now s.around v };
+    ghost low_of = { λ s v. low_at s.lat.now s.boxes v };
 
     fn low(&self, node: u32) -> u64 {
         if node < self.lat.count() {
-            way_to(self.around, self.lat.point(node))
+            nearest_way(self.boxes.as_slice(), self.lat.point(node))
         } else {
             0
         }
     }
 }
 
-/// Over the legal moves of a net on a lattice of its design, the distance from the box of the goals is a bound for them. A law, on a call that does nothing.
+/// Over the legal moves of a net on a lattice of its design, the distance from the nearest of boxes around the goals is a bound for them. A law, on a call that does nothing.
 pub fn box_bound_sound()
-    ensures { (d : TheDesign) (m : Mesh) (items : Seq OneItem) (net via_cost : ℕ) (goals : Seq ℕ) → CanMove d m net via_cost → IsBound (legal_graph d m items net via_cost) goals (low_at m (box_around m goals)) }
+    ensures { (d : TheDesign) (m : Mesh) (items : Seq OneItem) (net via_cost : ℕ) (goals : Seq ℕ) (boxes : Seq OneBox) → CanMove d m net via_cost → AreAround m goals boxes → IsBound (legal_graph d m items net via_cost) goals (low_at m boxes) }
 {}

@@ -9,8 +9,8 @@ use Rattle.pcb_model.proofs.near.moved_box.Goals as goal
 pub shifted-requires : goal.shifted-requires
 shifted-requires c = sides_within (2 ^ 29) c.args.by c.args.s.now c.box_of.result c.box_of.ensures c.requires.moved_within
 
-pub returns : goal.returns
-returns c =
+pub returns-clause-has : goal.returns-clause-has
+returns-clause-has c =
     let F : Rect4 → Type 0 = λ r. IsInBox r (moved_spine c.args.by c.args.s.now) in
     let r = c.box_of.result in
     let e = c.shifted.ensures in

@@ -16,13 +16,19 @@ clashes-requires-clause-b_fits g c = item_at IsItemFit c.args.items.now c.requir
 pub clashes-requires-clause-extent_of : goal.clashes-requires-clause-extent_of
 clashes-requires-clause-extent_of g c = extent_at c.args.items.now c.args.extents.now c.loop-i.i c.index-items-i.result no_extent c.requires.paired c.loop-i-test.true c.index-items-i.is
 
-pub returns-then-clashes : goal.returns-then-clashes
-returns-then-clashes g c =
-    found_id (λ b. Agrees c.args.d.now c.args.a.now b → ⊥) (Agrees c.args.d.now c.args.a.now) c.args.from (Some c.args.a.now.id) c.args.items.now c.loop-i.i c.index-items-i.result c.index-items-i-then-clashes.result c.requires.ascends c.loop-i-test.true c.loop-i.invariant c.index-items-i.is
+pub returns-then-clashes-clause-finds : goal.returns-then-clashes-clause-finds
+returns-then-clashes-clause-finds g c =
+    found_id (λ b. Agrees c.args.d.now c.args.a.now b → ⊥) (Agrees c.args.d.now c.args.a.now) c.args.from (Some c.args.a.now.id) c.args.items.now c.loop-i.i c.index-items-i.result c.index-items-i-then-clashes.result c.requires.ascends c.loop-i-test.true c.loop-i.invariant.passed c.index-items-i.is
     (c.place_of-i.ensures.above c.loop-i.i c.index-items-i.result c.loop-i.auto.i c.loop-i-test.true) c.if-clashes.ensures.yes.0 c.if-clashes.ensures.yes.1
 
-pub loop-i-preserved : goal.loop-i-preserved
-loop-i-preserved g c = one_more (Agrees c.args.d.now c.args.a.now) c.args.from (Some c.args.a.now.id) c.args.items.now c.loop-i.i c.index-items-i.result c.loop-i-test.true c.loop-i.invariant c.index-items-i.is c.if-clashes.ensures.no
+pub returns-then-clashes-clause-cost : goal.returns-then-clashes-clause-cost
+returns-then-clashes-clause-cost g c = omega (arith, c.clashes.ensures.cost, c.loop-i.invariant.cost, c.loop-i-test.true)
 
-pub returns : goal.returns
-returns g c = none_found (Agrees c.args.d.now c.args.a.now) c.args.from (Some c.args.a.now.id) c.args.items.now c.loop-i.i c.loop-i-test.false c.loop-i.invariant
+pub loop-i-preserved : goal.loop-i-preserved
+loop-i-preserved g c = record {
+  passed = one_more (Agrees c.args.d.now c.args.a.now) c.args.from (Some c.args.a.now.id) c.args.items.now c.loop-i.i c.index-items-i.result c.loop-i-test.true c.loop-i.invariant.passed c.index-items-i.is c.if-clashes.ensures.no;
+  cost = omega (arith, c.clashes.ensures.cost, c.loop-i.invariant.cost);
+}
+
+pub returns-clause-finds : goal.returns-clause-finds
+returns-clause-finds g c = none_found (Agrees c.args.d.now c.args.a.now) c.args.from (Some c.args.a.now.id) c.args.items.now c.loop-i.i c.loop-i-test.false c.loop-i.invariant.passed

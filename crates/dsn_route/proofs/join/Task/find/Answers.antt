@@ -1,5 +1,4 @@
-use Rattle.std.proofs.Common.{ℕ, List, Option, sym, subst}
-use Rattle.geo_kernel.specs.declared.point.Rect4.{Rect4}
+use Rattle.std.proofs.Common.{ℕ, List, sym, subst}
 use Rattle.route_lattice.specs.Mesh.{Mesh}
 use Rattle.route_lattice.specs.Walks.{MoveGraph}
 use Rattle.route_lattice.specs.Legal.{legal_graph}
@@ -8,8 +7,8 @@ use Rattle.wave_search.specs.Bounds.{IsBound}
 use Rattle.dsn_route.proofs.Walking.{starts_there, none_leads_on}
 use Rattle.dsn_route.proofs.join.Task.find.Goals as goal
 
-pub of-bound-requires : goal.of-bound-requires
-of-bound-requires c = record { xs = c.requires.task.fits.xs_within; ys = c.requires.task.fits.ys_within }
+pub of-requires : goal.of-requires
+of-requires c = record { xs = c.requires.task.fits.xs_within; ys = c.requires.task.fits.ys_within }
 
 pub tied_walk-requires-clause-sound : goal.tied_walk-requires-clause-sound
 tied_walk-requires-clause-sound c =
@@ -21,10 +20,9 @@ pub tied_walk-requires-clause-bound : goal.tied_walk-requires-clause-bound
 tied_walk-requires-clause-bound c =
     let graph : MoveGraph = legal_graph c.args.self.now.d.now c.args.self.now.lat.now c.args.copper.now c.args.island.now.net c.args.self.now.via_cost in
     let goals : List ℕ = c.in_ok-goals.goals in
-    let law = c.box_bound_sound.ensures c.args.self.now.d.now c.args.self.now.lat.now c.args.copper.now c.args.island.now.net c.args.self.now.via_cost goals
-    (record { sound = c.requires.task.sound; fits = c.requires.task.fits; net_there = c.requires.net; small_cost = c.requires.task.small_cost }) in
-    let by_box = subst (λ (o : Option Rect4). IsBound graph goals (low_at c.args.self.now.lat.now o)) (sym c.of-bound.ensures.around) law in
-    let by_lattice = subst (λ (m : Mesh). IsBound graph goals (low_at m c.of-bound.result.around)) (sym c.of-bound.ensures.lat) by_box in
+    let law = c.box_bound_sound.ensures c.args.self.now.d.now c.args.self.now.lat.now c.args.copper.now c.args.island.now.net c.args.self.now.via_cost goals c.in_ok-bound.bound.boxes
+    (record { sound = c.requires.task.sound; fits = c.requires.task.fits; net_there = c.requires.net; small_cost = c.requires.task.small_cost }) c.in_ok-bound.ensures.around in
+    let by_lattice = subst (λ (m : Mesh). IsBound graph goals (low_at m c.in_ok-bound.bound.boxes)) (sym c.in_ok-bound.ensures.lat) law in
     rw (c.of-moves.ensures.d, c.of-moves.ensures.lat, c.of-moves.ensures.c, c.of-moves.ensures.net, c.of-moves.ensures.via_cost) by_lattice
 
 pub tied_walk-requires-clause-starts : goal.tied_walk-requires-clause-starts

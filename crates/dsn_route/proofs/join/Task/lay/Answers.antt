@@ -43,7 +43,7 @@ returns-clause-board c =
     (c.pairs_are_symmetric.ensures.agree c.args.self.now.d.now) in
     subst (λ (xs : List Item). IsBoard c.args.self.now.d.now xs)
     (sym (c.in_ok-add_metals.ensures ∙ ap (λ (ms : List Metal). with_metals c.args.self.now.d.now c.args.island.now.net c.args.copper.now ms) c.in_ok-metals.ensures))
-    (metals_board c.args.self.now.d.now c.args.island.now.net c.args.copper.now _ c.requires.board laid (c.own_copper_agrees.ensures c.args.self.now.d.now c.args.island.now.net)
+    (metals_board c.args.self.now.d.now c.args.island.now.net c.args.copper.now _ c.requires.net c.requires.board laid (c.own_copper_agrees.ensures c.args.self.now.d.now c.args.island.now.net)
     (λ id a. c.copper_touches.ensures.plain c.args.self.now.d.now c.args.island.now.net id a c.requires.task.plain))
 
 pub returns-clause-grows : goal.returns-clause-grows

@@ -1,0 +1,3 @@
+mod Puts
+mod Orders
+mod Short

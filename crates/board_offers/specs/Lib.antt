@@ -1,0 +1,7 @@
+pub mod Items
+pub mod Given
+pub mod Offers
+pub mod Judging
+pub mod Troubles
+pub mod Inner
+pub mod Searching

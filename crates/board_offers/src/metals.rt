@@ -1,0 +1,71 @@
+//! Whether wires and vias may be added for a net.
+//! A wire has the width of its net and lies on a signal layer; a via's padstack is in the net's list.
+
+ghost use Rattle.std.specs.Prelude.{◌≡◌, ◌↔◌, ◌<◌, ◌≤◌, ◌^◌, All, Any, IsTrue, length};
+ghost use Rattle.pcb_model.specs.Bounds.{IsDesignFit};
+ghost use Rattle.pcb_model.specs.Board.{IsSignal, IsListed};
+ghost use Rattle.board_offers.specs.Offers.{IsAddable};
+
+use crate::near::{are_near, is_near, is_via_near};
+use pcb_model::{Design, Metal, width_of};
+
+fn is_signal(d: &Design, layer: u8) -> bool
+    ensures { IsTrue result ↔ IsSignal d.now layer }
+{
+    match d.layers.as_slice().get(layer as usize) {
+        Some(l) => !l.power,
+        None => false,
+    }
+}
+
+fn has_via(vias: &[u32], padstack: u32) -> bool
+    ensures { IsTrue result ↔ Any (λ v. v ≡ padstack) vias.now }
+{
+    vias.iter().any(|v| *v == padstack)
+}
+
+fn is_listed(d: &Design, net: u32, padstack: u32) -> bool
+    ensures { IsTrue result ↔ IsListed d.now net padstack }
+{
+    match d.nets.as_slice().get(net as usize) {
+        Some(n) => has_via(n.vias.as_slice(), padstack),
+        None => false,
+    }
+}
+
+fn is_addable(d: &Design, net: u32, m: &Metal) -> bool
+    requires design { IsDesignFit d.now }
+    ensures { IsTrue result ↔ IsAddable d.now net m.now }
+{
+    match m {
+        Metal::Wire {
+            layer,
+            width,
+            chain,
+        } => {
+            is_signal(d, *layer)
+                && *width == width_of(d, net)
+                && chain.len() >= 2
+                && are_near(chain.as_slice())
+        }
+        Metal::Via { padstack, at } => {
+            is_listed(d, net, *padstack) && is_near(*at) && is_via_near(d, *padstack, *at)
+        }
+        _ => false,
+    }
+}
+
+fn are_addable(d: &Design, net: u32, add: &[Metal]) -> bool
+    requires design { IsDesignFit d.now }
+    ensures { IsTrue result ↔ All (IsAddable d.now net) add.now }
+{
+    add.iter().all(|m| is_addable(d, net, m))
+}
+
+/// Whether there are metals, and each may be added.
+pub(crate) fn has_metals(d: &Design, net: u32, add: &[Metal]) -> bool
+    requires design { IsDesignFit d.now }
+    ensures { IsTrue result ↔ ((0 < length add.now) × All (IsAddable d.now net) add.now) }
+{
+    !add.is_empty() && are_addable(d, net, add)
+}

@@ -1,0 +1,103 @@
+//! Coordinates up to 2^29 nm, also of what is moved.
+//! Nothing here makes a moved piece.
+
+ghost use Rattle.std.specs.Prelude.{◌≡◌, ◌↔◌, ◌≤◌, ◌^◌, All, IsTrue, map, unsigned_abs};
+ghost use Rattle.geo_kernel.specs.Plane.{IsWithin};
+ghost use Rattle.geo_kernel.specs.Moved.{moved, moved_spine};
+ghost use Rattle.geo_kernel.specs.Spine.{IsSpineWithin};
+ghost use Rattle.pcb_model.specs.declared.item.Piece.{Piece as OnePiece};
+ghost use Rattle.pcb_model.specs.Bounds.{IsDesignFit, IsFit};
+ghost use Rattle.pcb_model.specs.Pieces.{moved_piece, padstack_pieces as padstack_pieces_of, pieces_of};
+
+use geo_kernel::{List, Point, Spine};
+use pcb_model::{Design, Metal, Piece};
+
+/// Whether both coordinates are at most 2^29 in absolute value.
+pub(crate) fn is_near(p: Point) -> bool
+    ensures { IsTrue result ↔ IsWithin (2 ^ 29) p }
+{
+    p.x.unsigned_abs() <= 536_870_912 && p.y.unsigned_abs() <= 536_870_912
+}
+
+/// Whether those of each point are.
+pub(crate) fn are_near(points: &[Point]) -> bool
+    ensures { IsTrue result ↔ All (IsWithin (2 ^ 29)) points.now }
+{
+    points.iter().all(|p| is_near(*p))
+}
+
+fn moved_by(p: Point, by: Point) -> Point
+    requires p_within { IsWithin (2 ^ 29) p }
+    requires by_within { IsWithin (2 ^ 29) by }
+    ensures { result ≡ moved by p }
+{
+    Point {
+        x: p.x + by.x,
+        y: p.y + by.y,
+    }
+}
+
+fn are_near_at(points: &[Point], at: Point) -> bool
+    requires points_within { All (IsWithin (2 ^ 29)) points.now }
+    requires at_within { IsWithin (2 ^ 29) at }
+    ensures { IsTrue result ↔ All (IsWithin (2 ^ 29)) (map (moved at) points.now) }
+{
+    points.iter().all(|p| is_near(moved_by(*p, at)))
+}
+
+fn are_loops_near_at(loops: &[List<Point>], at: Point) -> bool
+    requires loops_within { All (All (IsWithin (2 ^ 29))) loops.now }
+    requires at_within { IsWithin (2 ^ 29) at }
+    ensures { IsTrue result ↔ All (All (IsWithin (2 ^ 29))) (map (map (moved at)) loops.now) }
+{
+    loops
+        .iter()
+        .all(|points| are_near_at(points.as_slice(), at))
+}
+
+fn is_spine_near_at(s: &Spine, at: Point) -> bool
+    requires within { IsSpineWithin (2 ^ 29) s.now }
+    requires at_within { IsWithin (2 ^ 29) at }
+    ensures { IsTrue result ↔ IsSpineWithin (2 ^ 29) (moved_spine at s.now) }
+{
+    match s {
+        Spine::Chain(points) => are_near_at(points.as_slice(), at),
+        Spine::Area(loops) => are_loops_near_at(loops.as_slice(), at),
+    }
+}
+
+fn is_piece_near_at(p: &Piece, at: Point) -> bool
+    requires fits { IsFit p.now }
+    requires at_within { IsWithin (2 ^ 29) at }
+    ensures { IsTrue result ↔ IsSpineWithin (2 ^ 29) (moved_piece at p.now).spine }
+{
+    is_spine_near_at(&p.spine, at)
+}
+
+fn are_pieces_near_at(ps: &[Piece], at: Point) -> bool
+    requires fit { All IsFit ps.now }
+    requires at_within { IsWithin (2 ^ 29) at }
+    ensures { IsTrue result ↔ All (λ (p : OnePiece). IsSpineWithin (2 ^ 29) p.spine) (map (moved_piece at) ps.now) }
+{
+    ps.iter().all(|p| is_piece_near_at(p, at))
+}
+
+// The pieces of a padstack, about the origin.
+fn padstack_pieces(d: &Design, padstack: u32) -> &[Piece]
+    ensures { result.now ≡ padstack_pieces_of d.now padstack }
+{
+    match d.padstacks.as_slice().get(padstack as usize) {
+        Some(stack) => stack.pieces.as_slice(),
+        None => &[],
+    }
+}
+
+/// Whether those of each piece of a via of the padstack are.
+pub(crate) fn is_via_near(d: &Design, padstack: u32, at: Point) -> bool
+    requires design { IsDesignFit d.now }
+    requires at_within { IsWithin (2 ^ 29) at }
+    ensures { IsTrue result ↔
+        All (λ (p : OnePiece). IsSpineWithin (2 ^ 29) p.spine) (pieces_of d.now (Metal.Via padstack at)) }
+{
+    are_pieces_near_at(padstack_pieces(d, padstack), at)
+}

@@ -1,0 +1,79 @@
+use Rattle.std.proofs.Common.{◌≡◌, ◌+◌, ◌++◌, ◌∷◌, [], ℕ, Bool, List, length, refl, sym, ◌∙◌, ap, subst, rules}
+use Rattle.std.specs.List.{filter}
+use Rattle.pcb_model.specs.declared.item.Item.{Item}
+use Rattle.pcb_model.specs.declared.design.Design.{Design}
+use Rattle.pcb_model.specs.Bounds.{HasClearancesWithin}
+use Rattle.board_offers.specs.Given.{AreGiven}
+use Rattle.pcb_board.specs.declared.answer.Entry.{Entry}
+use Rattle.pcb_board.specs.declared.answer.Entry.TheVariants.{Back}
+use Rattle.pcb_board.specs.declared.board.Board.TheInside.{Inside}
+use Rattle.pcb_board.specs.Turning.{AreTurned, is_marked}
+use Rattle.pcb_board.specs.Indexing.{board_of}
+use Rattle.pcb_board.proofs.Returning.{IsReturned, returned_view, returned_indexed}
+use Rattle.pcb_board.proofs.board.Board.go_back.Goals as goal
+
+pub marked_tiles-requires-clause-given : goal.marked_tiles-requires-clause-given
+marked_tiles-requires-clause-given c =
+    subst (λ (d : Design). AreGiven d c.as_slice-2.result.now) (sym c.get.ensures)
+    (subst (AreGiven c.self.inside.design) (sym c.self.invariant.indexed.items_are ∙ sym c.as_slice-2.ensures.value)
+    c.self.invariant.board.given_are)
+
+abbrev after_parts : goal.After-drop-marks-2 → Inside
+after_parts c = record {
+  alloc = c.self.inside.alloc;
+  design = c.self.inside.design;
+  cap = c.self.inside.cap;
+  history = c.push.new.self;
+  workers = c.self.inside.workers;
+  given = c.self.inside.given;
+  started = c.self.inside.started;
+  changed = c.renew_turned.new.changed;
+  tiles = c.in_ok-tiles.tiles;
+}
+
+history_is : (c : goal.After-drop-marks-2) → c.push.new.self ≡ c.self.inside.history ++ Back c.args.to ∷ []
+history_is c = search (rules, c.in_ok-push.ensures.ok)
+
+items_are : (c : goal.After-drop-marks-2)
+    → c.in_ok-tiles.tiles.items ≡ filter (λ (a : Item). is_marked c.in_ok-marks.marks.items a.id)
+    c.self.inside.given.items
+items_are c =
+    c.in_ok-tiles.ensures.items
+    ∙ ap (λ (ms : List Bool). filter (λ (a : Item). is_marked ms a.id) c.as_slice-2.result.now)
+    c.as_slice-3.ensures.value
+    ∙ ap (filter (λ (a : Item). is_marked c.in_ok-marks.marks.items a.id)) c.as_slice-2.ensures.value
+
+changed_is : (c : goal.After-drop-marks-2)
+    → AreTurned c.self.inside.tiles.items c.in_ok-marks.marks.items (length c.self.inside.history + 1)
+    (length c.self.inside.changed.items) c.self.inside.changed.items c.renew_turned.new.changed.items
+changed_is c =
+    let entries : length c.as_slice.result.now ≡ length c.self.inside.history = ap length c.as_slice.ensures in
+    subst (λ (n : ℕ). AreTurned c.self.inside.tiles.items c.in_ok-marks.marks.items (n + 1)
+    (length c.self.inside.changed.items) c.self.inside.changed.items c.renew_turned.new.changed.items) entries
+    (subst (λ (ms : List Bool). AreTurned c.self.inside.tiles.items ms (length c.as_slice.result.now + 1)
+    (length c.self.inside.changed.items) c.self.inside.changed.items c.renew_turned.new.changed.items)
+    c.as_slice-4.ensures.value c.renew_turned.ensures)
+
+parts : (c : goal.After-drop-marks-2) → IsReturned c.self.inside (after_parts c) c.args.to c.in_ok-marks.marks.items
+parts c = record {
+  design_is = refl;
+  cap_is = refl;
+  started_is = refl;
+  history_is = history_is c;
+  given_is = refl;
+  items_are = items_are c;
+  area = c.in_ok-tiles.ensures.area;
+  reach = subst (HasClearancesWithin c.in_ok-tiles.tiles.reach) c.get.ensures c.in_ok-tiles.ensures.reach;
+  changed_is = changed_is c;
+  workers_are = refl;
+}
+
+pub invariant_of-self-2 : goal.invariant_of-self-2
+invariant_of-self-2 c =
+    returned_indexed c.self.inside (after_parts c) c.args.self.now c.args.to c.in_ok-marks.marks.items c.self.view_is
+    c.self.invariant c.requires c.in_ok-marks.ensures.long c.in_ok-marks.ensures.marks (parts c)
+
+pub returns-clause-ok : goal.returns-clause-ok
+returns-clause-ok c =
+    returned_view c.self.inside (after_parts c) c.args.self.now c.args.to c.in_ok-marks.marks.items c.self.view_is
+    c.self.invariant c.requires c.in_ok-marks.ensures.long c.in_ok-marks.ensures.marks (parts c)

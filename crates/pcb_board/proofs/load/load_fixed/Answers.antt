@@ -1,0 +1,43 @@
+use Rattle.std.proofs.Common.{◌≡◌, ◌<◌, ◌≤◌, List, Some, length, take, refl, sym, ◌∙◌, ap, subst, arith}
+use Rattle.std.specs.Prelude.{All, slice_get}
+use Rattle.std.proofs.lemmas.List.{take_all}
+use Rattle.std.proofs.lemmas.Option.{slice_get_read}
+use Rattle.pcb_model.specs.declared.item.Item.{Item}
+use Rattle.pcb_model.specs.Bounds.{IsItemFit}
+use Rattle.pcb_board.proofs.Loading.{fixed_all}
+use Rattle.pcb_board.proofs.Opening.{fixed_below}
+use Rattle.pcb_board.proofs.load.load_fixed.Goals as goal
+
+pub keep-requires-clause-above : goal.keep-requires-clause-above
+keep-requires-clause-above c =
+    let items = c.as_slice-item-items.result.now in
+    let at : slice_get c.args.d.now.fixed c.loop-item.item-index ≡ Some c.item-item.result =
+    subst (λ (xs : List Item). slice_get xs c.loop-item.item-index ≡ Some c.item-item.result)
+    c.as_slice-item-items.ensures
+    (slice_get_read items (length items) c.loop-item.item-index c.item-item.result refl c.loop-item-test.true
+    c.item-item.is)
+    in
+    subst (λ (a : Item). All (λ (b : Item). b.id < a.id) c.loop-item.loaded.tiles.items) (sym c.in_ok-copy_item.ensures)
+    (subst (λ (xs : List Item). All (λ (b : Item). b.id < c.item-item.result.id) xs) (sym c.loop-item.invariant.tiles)
+    (fixed_below c.args.d.now c.requires c.loop-item.item-index c.item-item.result at))
+
+pub keep-requires-clause-fits : goal.keep-requires-clause-fits
+keep-requires-clause-fits c =
+    let items = c.as_slice-item-items.result.now in
+    let at : slice_get c.args.d.now.fixed c.loop-item.item-index ≡ Some c.item-item.result =
+    subst (λ (xs : List Item). slice_get xs c.loop-item.item-index ≡ Some c.item-item.result)
+    c.as_slice-item-items.ensures
+    (slice_get_read items (length items) c.loop-item.item-index c.item-item.result refl c.loop-item-test.true
+    c.item-item.is)
+    in
+    subst IsItemFit (sym c.in_ok-copy_item.ensures)
+    (c.requires.fixed c.loop-item.item-index c.item-item.result at).item.fits
+
+pub returns : goal.returns
+returns c =
+    let all : take c.loop-item.item-index c.args.d.now.fixed ≡ c.args.d.now.fixed =
+    take_all c.loop-item.item-index c.args.d.now.fixed
+    (let e = ap length c.as_slice-item-items.ensures in omega (arith, e, c.loop-item-test.false)) in
+    fixed_all c.args.d.now c.loop-item.loaded c.requires (c.loop-item.invariant.tiles ∙ all)
+    (c.loop-item.invariant.given ∙ all) c.loop-item.invariant.dropped c.loop-item.invariant.area
+    c.loop-item.invariant.reach

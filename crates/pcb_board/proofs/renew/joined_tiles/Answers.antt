@@ -1,0 +1,41 @@
+use Rattle.std.proofs.Common.{◌≡◌, ◌<◌, ◌+◌, ◌++◌, ◌∷◌, [], ℕ, List, Some, get_or, length, take, refl, sym}
+use Rattle.std.proofs.Common.{◌∙◌, ap, subst, arith}
+use Rattle.std.specs.Prelude.{All, slice_get}
+use Rattle.std.proofs.lemmas.List.{take_more}
+use Rattle.std.proofs.lemmas.Option.{slice_get_read}
+use Rattle.pcb_model.specs.declared.item.Item.{Item}
+use Rattle.pcb_model.specs.Bounds.{IsItemFit}
+use Rattle.pcb_tiles.specs.Spread.{Spread, holding}
+use Rattle.board_offers.specs.Items.{without}
+use Rattle.pcb_board.proofs.Taking.{without_more, without_none, below_next}
+use Rattle.pcb_board.proofs.renew.joined_tiles.Goals as goal
+
+pub loop-id-init : goal.loop-id-init
+loop-id-init c = c.in_ok-next.ensures ∙ ap (holding c.args.tiles.now) (sym (without_none c.args.tiles.now.items))
+
+pub loop-id-preserved : goal.loop-id-preserved
+loop-id-preserved c =
+    let ids = c.args.gone.now in
+    let id = get_or c.args.gone.now c.loop-id.id-index 0 in
+    let items = c.args.tiles.now.items in
+    c.in_ok-take_out.ensures
+    ∙ ap (λ (t : Spread). holding t (without (id ∷ []) t.items)) c.loop-id.invariant
+    ∙ ap (holding c.args.tiles.now) (without_more (take c.loop-id.id-index ids) id items)
+    ∙ ap (λ (xs : List ℕ). holding c.args.tiles.now (without xs items))
+    (sym (take_more ids c.loop-id.id-index 0 c.loop-id-test.true))
+
+pub add-requires-clause-above : goal.add-requires-clause-above
+add-requires-clause-above c =
+    let at : slice_get c.args.come.now c.loop-item.item-index ≡ Some c.item-item.result =
+    slice_get_read c.args.come.now (length c.args.come.now) c.loop-item.item-index c.item-item.result refl
+    c.loop-item-test.true c.item-item.is in
+    let all = below_next c.args.gone.now c.args.tiles.now.items c.args.come.now c.args.first c.loop-item.item-index
+    c.item-item.result c.requires.below c.requires.numbered at in
+    subst (λ (a : Item). All (λ (b : Item). b.id < a.id) c.loop-item.next.items) (sym c.in_ok-copy.ensures)
+    (subst (λ (xs : List Item). All (λ (b : Item). b.id < c.item-item.result.id) xs)
+    (sym (ap (λ (t : Spread). t.items) c.loop-item.invariant)) all)
+
+pub add-requires-clause-fits : goal.add-requires-clause-fits
+add-requires-clause-fits c =
+    subst IsItemFit (sym (c.in_ok-copy.ensures ∙ c.item-item.is))
+    (c.requires.fit c.loop-item.item-index c.item-item.result c.loop-item-test.true)

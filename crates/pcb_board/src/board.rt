@@ -1,0 +1,384 @@
+//! The board: it takes offers, and goes back.
+//! Whatever it answers, it is legal after every entry of its history, and want of memory changes nothing.
+
+ghost use Rattle.std.specs.Prelude.{◌≡◌, ◌↔◌, ◌+◌, ◌≤◌, ◌<◌, ◌^◌, length, IsTrue, IfOk, IfErr, OnOk, OnErr, None};
+ghost use Rattle.pcb_model.specs.Sound.{IsSound};
+ghost use Rattle.pcb_model.specs.Plain.{IsPlainCopper};
+ghost use Rattle.board_offers.specs.Items.{new_items};
+ghost use Rattle.board_offers.specs.Offers.{IsWellFormed};
+ghost use Rattle.board_offers.specs.Troubles.{FailsLeast};
+ghost use Rattle.pcb_board.specs.Boards.{given, replayed};
+ghost use Rattle.pcb_board.specs.Answers.{Step, Makes, snap_of, taken_back, HasMade, IsFull, IsHeard, IsClearOn};
+ghost use Rattle.pcb_board.specs.Answers.{known, joined, BlamesLast};
+ghost use Rattle.pcb_board.specs.Turning.{LeadBack, AreMarks};
+ghost use Rattle.pcb_board.specs.Keeping.{IsBoard, IsStarted, AnswersBack};
+
+use crate::answer::{Answer, BackFault, Entry, OfferBack, RunBack};
+use crate::copy::{copy_history, copy_items};
+use crate::load::{Loaded, load_fixed, load_free};
+use crate::marks::{mark_entry, mark_range, marked_tiles, renew_turned};
+use crate::renew::{count_worker, joined_tiles, offer_of, renew};
+use crate::snap::Snap;
+use board_offers::{Judged, Offer, gone_ids, judge, least_trouble};
+use geo_kernel::List;
+use pcb_model::{Copper, Design, Item, pairs_are_symmetric};
+use pcb_tiles::Tiles;
+use shared_value::Shared;
+use std::alloc::{AllocError, AllocFailed, Global};
+use std::marker::Model;
+
+/// A board. Contracts see its design, its start list, how many entries of workers may stand, its history and its
+/// items.
+#[derive(Drop)]
+pub struct Board {
+    alloc: Global,
+    design: Shared<Design>,
+    cap: u64,
+    history: List<Entry>,
+    // how many entries are of workers
+    workers: u64,
+    // the items ever given; an item's id is its place
+    given: Vec<Item>,
+    // how many of them are of the start
+    started: usize,
+    // for each id the last entry that placed or removed it
+    changed: Vec<u64>,
+    tiles: Tiles,
+}
+
+impl Model for Board {
+    ghost use Rattle.std.specs.Prelude.{take};
+    ghost use Rattle.pcb_board.specs.Boards.{BoardOf};
+
+    ghost Value = { BoardOf };
+
+    ghost use Rattle.pcb_board.specs.Indexing.{board_of, IsIndexed};
+
+    ghost view = { board_of };
+
+    ghost invariant = { IsIndexed };
+}
+
+impl Board {
+    /// The board of a design's fixed items and of those of its free items that are legal with what is loaded by then,
+    /// and the places of the others. At most `cap` entries of workers may stand. `AllocError` comes only for want of
+    /// memory.
+    pub fn start(alloc: Global, design: Design, cap: u64) -> Result<(Board, List<u64>), AllocError>
+        requires sound { IsSound design }
+        requires plain { IsPlainCopper design }
+        requires cap { cap ≤ 2 ^ 19 }
+        ensures { IfOk result (λ r. IsStarted design cap r.0 r.1) }
+    {
+        let fixed = load_fixed(alloc, &design)?;
+        let Loaded {
+            tiles,
+            given,
+            dropped,
+        } = load_free(alloc, &design, fixed)?;
+        let started = given.len();
+        let mut changed = Vec::new(alloc);
+        changed.resize(started, 0)?;
+        let Ok(design) = Shared::new(alloc, design) else {
+            return Err(AllocError);
+        };
+        let board = Board {
+            alloc,
+            design,
+            cap,
+            history: List::new(alloc),
+            workers: 0,
+            given,
+            started,
+            changed,
+            tiles,
+        };
+        Ok((board, dropped))
+    }
+
+    /// What every board keeps: a call that does nothing but say so.
+    pub fn keeps(&self)
+        ensures { IsBoard self.now }
+    {
+        let _value = &self.tiles;
+    }
+
+    /// The entries, in order.
+    pub fn history(&self) -> &List<Entry>
+        ensures { result.now ≡ self.now.history }
+    {
+        &self.history
+    }
+
+    /// The items.
+    pub fn items(&self) -> &Tiles
+        ensures { result.now.items ≡ self.now.items }
+    {
+        &self.tiles
+    }
+
+    /// The design.
+    pub fn design(&self) -> &Design
+        ensures { result.now ≡ self.now.design }
+    {
+        self.design.get()
+    }
+
+    /// A snapshot of the board as it is.
+    pub fn snap(&self) -> Result<Snap, AllocError>
+        ensures { IfOk result (λ s. s ≡ snap_of self.now) }
+    {
+        Ok(Snap {
+            design: self.design.share()?,
+            tiles: self.tiles.share()?,
+            number: self.history.len() as u64,
+        })
+    }
+
+    /// Answers an offer. `Full` comes before `Malformed`, and that before `Stale` or `Wrong`; only `Committed` changes
+    /// the board. Where memory is wanting the offer comes back, and nothing changes.
+    pub fn offer(&mut self, offer: Offer) -> Result<Answer, OfferBack>
+        ensures ok { IfOk result (λ a. Step self.old offer a self.new) }
+        ensures err { IfErr result (λ e. (e.offer ≡ offer) × (self.new ≡ self.old) × ¬ (IsFull self.old offer)) }
+    {
+        if self.is_full(&offer) {
+            return Ok(Answer::Full);
+        }
+        let entries = self.history.len() as u64;
+        let judged = judge(
+            self.alloc,
+            self.design.get(),
+            self.given.as_slice(),
+            entries,
+            &offer,
+        );
+        let new = match judged {
+            Ok(Judged::Fine(new)) => new,
+            Ok(Judged::Fault(clause)) => return Ok(Answer::Malformed { clause }),
+            Err(cause) => return Err(OfferBack { offer, cause }),
+        };
+        match self.least_trouble(&offer, new.as_slice()) {
+            Ok(None) => self.commit(offer, new),
+            Ok(Some(item)) => Ok(self.trouble_at(offer.base, item)),
+            Err(cause) => Err(OfferBack { offer, cause }),
+        }
+    }
+
+    fn is_full(&self, offer: &Offer) -> bool
+        ensures { IsTrue result ↔ IsFull self.now offer.now }
+    {
+        offer.worker < 16 && self.workers >= self.cap
+    }
+
+    fn least_trouble(&self, offer: &Offer, new: &[Item]) -> Result<Option<u64>, AllocError>
+        requires formed { IsWellFormed (known self.now) offer.now }
+        requires new { new.now ≡ new_items self.now.design (given self.now) offer.now }
+        ensures { IfOk result (FailsLeast (IsClearOn self.now offer.now)) }
+    {
+        self.tiles.in_order();
+        least_trouble(
+            self.alloc,
+            self.design.get(),
+            &self.tiles,
+            self.given.as_slice(),
+            offer,
+            new,
+        )
+    }
+
+    // What is answered where there is trouble at an id.
+    fn trouble_at(&self, base: u64, item: u64) -> Answer
+        requires { item < length (given self.now) }
+        ensures { BlamesLast self.now base item result }
+    {
+        let commit = self.changed[item as usize];
+        if commit > base {
+            Answer::Stale { item, commit }
+        } else {
+            Answer::Wrong { item, commit }
+        }
+    }
+
+    // Takes an offer without trouble.
+    fn commit(&mut self, offer: Offer, new: List<Item>) -> Result<Answer, OfferBack>
+        requires heard { IsHeard self.old offer }
+        requires clear { FailsLeast (IsClearOn self.old offer) None }
+        requires new { new ≡ new_items self.old.design (given self.old) offer }
+        ensures ok { IfOk result (λ a. (a ≡ Answer.Committed (length self.old.history + 1))
+            × (self.new ≡ joined self.old offer)) }
+        ensures err { IfErr result (λ e. (e.offer ≡ offer) × (self.new ≡ self.old)) }
+    {
+        pairs_are_symmetric();
+        let first = self.given.len();
+        let after = first + new.len();
+        let number = self.history.as_slice().len() as u64 + 1;
+        let workers = count_worker(self.workers, offer.worker);
+        let gone = match gone_ids(self.alloc, &offer) {
+            Ok(gone) => gone,
+            Err(cause) => return Err(OfferBack { offer, cause }),
+        };
+        let tiles = match joined_tiles(
+            self.alloc,
+            &self.tiles,
+            gone.as_slice(),
+            first as u64,
+            new.as_slice(),
+        ) {
+            Ok(tiles) => tiles,
+            Err(cause) => return Err(OfferBack { offer, cause }),
+        };
+        let mut new = new.into_vec();
+        if let Err(cause) = self.given.reserve(new.len()) {
+            return Err(OfferBack { offer, cause });
+        }
+        if let Err(cause) = self.changed.reserve(new.len()) {
+            return Err(OfferBack { offer, cause });
+        }
+        let entry = Entry::Join {
+            offer,
+            first: first as u64,
+            after: after as u64,
+        };
+        if let Err(AllocFailed { value }) = self.history.push(entry) {
+            return Err(OfferBack {
+                offer: offer_of(value),
+                cause: AllocError,
+            });
+        }
+        renew(&mut self.changed, gone.as_slice(), number, after);
+        let _ = self.given.append(&mut new);
+        self.workers = workers;
+        self.tiles = tiles;
+        Ok(Answer::Committed { number })
+    }
+
+    /// Makes the items those after the first `to` entries, with their ids, by one more entry. It is refused exactly
+    /// where there are fewer entries; then, and where memory is wanting, nothing changes.
+    pub fn back(&mut self, to: u64) -> Result<(), BackFault>
+        ensures ok { OnOk result ((to ≤ length self.old.history) × (self.new ≡ taken_back self.old to)) }
+        ensures err { IfErr result (λ f. (self.new ≡ self.old) × AnswersBack self.old to f) }
+    {
+        let entries = self.history.len() as u64;
+        if to > entries {
+            return Err(BackFault::Later { entries });
+        }
+        match self.go_back(to) {
+            Ok(()) => Ok(()),
+            Err(cause) => Err(BackFault::Memory(cause)),
+        }
+    }
+
+    fn go_back(&mut self, to: u64) -> Result<(), AllocError>
+        requires { to ≤ length self.old.history }
+        ensures ok { OnOk result (self.new ≡ taken_back self.old to) }
+        ensures err { OnErr result (self.new ≡ self.old) }
+    {
+        let number = self.history.as_slice().len() as u64 + 1;
+        let marks = self.marks_after(to as usize)?;
+        let tiles = marked_tiles(
+            self.alloc,
+            self.design.get(),
+            self.given.as_slice(),
+            marks.as_slice(),
+        )?;
+        self.history.push(Entry::Back { to })?;
+        renew_turned(&mut self.changed, &self.tiles, marks.as_slice(), number);
+        self.tiles = tiles;
+        Ok(())
+    }
+
+    // The joins that lead to the items after the first `to` entries, the last first.
+    fn joins_to(&self, to: usize) -> Result<Vec<usize>, AllocError>
+        requires { to ≤ length self.now.history }
+        ensures { IfOk result (λ joins. LeadBack self.now to joins.items 0) }
+    {
+        let mut joins = Vec::new(self.alloc);
+        let mut k = to;
+        while k > 0 {
+            match &self.history.as_slice()[k - 1] {
+                Entry::Join { .. } => {
+                    k -= 1;
+                    joins.push(k)?;
+                }
+                Entry::Back { to } => k = *to as usize,
+            }
+        }
+        Ok(joins)
+    }
+
+    // Which of the ids stand after the first `to` entries.
+    fn marks_after(&self, to: usize) -> Result<Vec<bool>, AllocError>
+        requires { to ≤ length self.now.history }
+        ensures long { IfOk result (λ marks. length marks.items ≡ length (given self.now)) }
+        ensures marks { IfOk result (λ marks. AreMarks marks.items (replayed self.now to)) }
+    {
+        let mut joins = self.joins_to(to)?;
+        let mut marks = Vec::new(self.alloc);
+        marks.resize(self.given.len(), false)?;
+        mark_range(&mut marks, 0, self.started);
+        while let Some(k) = joins.pop() {
+            mark_entry(&mut marks, self.history.as_slice(), k);
+        }
+        Ok(marks)
+    }
+
+    /// An equal board.
+    pub fn copy(&self) -> Result<Board, AllocError>
+        ensures { IfOk result (λ c. c ≡ self.now) }
+    {
+        Ok(Board {
+            alloc: self.alloc,
+            design: self.design.share()?,
+            cap: self.cap,
+            history: copy_history(self.alloc, self.history.as_slice())?,
+            workers: self.workers,
+            given: copy_items(self.alloc, self.given.as_slice())?,
+            started: self.started,
+            changed: Vec::from_slice(self.alloc, self.changed.as_slice())?,
+            tiles: self.tiles.share()?,
+        })
+    }
+}
+
+/// A board that comes back for want of memory.
+#[derive(Drop)]
+pub struct PassBack {
+    pub board: Board,
+    pub cause: AllocError,
+}
+
+/// Makes offers, in order. Where memory is wanting, the answers so far stand in `done`, and the other offers come
+/// back.
+pub fn run_offers(
+    alloc: Global,
+    board: &mut Board,
+    offers: Vec<Offer>,
+) -> Result<Vec<Answer>, RunBack>
+    ensures ok { IfOk result (λ answers. Makes board.old offers.items answers.items board.new) }
+    ensures err { IfErr result (λ e. HasMade board.old offers.items e.left e.done board.new) }
+{
+    let mut left = offers;
+    let mut done = Vec::new(alloc);
+    if let Err(cause) = done.reserve(left.len()) {
+        return Err(RunBack {
+            done: List::from_vec(done),
+            left: List::from_vec(left),
+            cause,
+        });
+    }
+    left.reverse();
+    while let Some(offer) = left.pop() {
+        match board.offer(offer) {
+            Ok(answer) => done.push_reserved(answer),
+            Err(OfferBack { offer, cause }) => {
+                left.push_reserved(offer);
+                left.reverse();
+                return Err(RunBack {
+                    done: List::from_vec(done),
+                    left: List::from_vec(left),
+                    cause,
+                });
+            }
+        }
+    }
+    Ok(done)
+}

@@ -1,0 +1,200 @@
+//! The items that a board begins with: the design's fixed items, and its free ones as far as they break no rule.
+//! Each free item is looked at in order, beside what is loaded by then; the place of each one that is dropped is told.
+
+ghost use Rattle.std.specs.Prelude.{◌≡◌, ◌↔◌, ◌<◌, ◌≤◌, ◌^◌, [], ◌∷◌, ◌++◌, All, IfOk, IfSome, IsTrue, slice_get};
+ghost use Rattle.geo_kernel.specs.declared.spine.Spine.TheVariants.{Area};
+ghost use Rattle.geo_kernel.specs.Boxes.{IsBoxOf};
+ghost use Rattle.pcb_model.specs.declared.item.Item.{Item as OneItem};
+ghost use Rattle.pcb_model.specs.Bounds.{IsBoundFit, IsItemFit, HasClearancesWithin};
+ghost use Rattle.pcb_model.specs.Pairs.{Agrees};
+ghost use Rattle.pcb_model.specs.Board.{IsLegal, IsMade, IsRouted};
+ghost use Rattle.pcb_model.specs.Sound.{IsSound, IsFreeSound};
+ghost use Rattle.pcb_tiles.specs.Tiling.{IsArea};
+ghost use Rattle.pcb_tiles.specs.Spread.{holding, ServesSpread};
+ghost use Rattle.pcb_board.specs.Loading.{IsKept, LoadsOne, AreLoaded};
+
+use geo_kernel::{List, Point, Rect4, Spine, box_of};
+use pcb_model::{
+    Copper, Design, FreeWire, Item, Steps, copy_item, copy_metal, greatest_clearance, inside_board,
+    make_item, pairs_are_symmetric, width_ok,
+};
+use pcb_tiles::Tiles;
+use std::alloc::{AllocError, Global};
+use std::marker::Brand;
+use std::sync::ledger::{Blank, Ledger};
+
+/// What is loaded: in tiles, in order of id, and the places of what was dropped.
+#[derive(Drop)]
+pub(crate) struct Loaded {
+    pub(crate) tiles: Tiles,
+    pub(crate) given: Vec<Item>,
+    pub(crate) dropped: List<u64>,
+}
+
+fn copy_loops(alloc: Global, loops: &[List<Point>]) -> Result<List<List<Point>>, AllocError>
+    ensures { IfOk result (λ ls. ls ≡ loops.now) }
+{
+    let mut copies = List::new(alloc);
+    for points in loops {
+        copies.push(List::from_slice(alloc, points.as_slice())?)?;
+    }
+    Ok(copies)
+}
+
+// The least box that holds the first boundary.
+fn area_of(alloc: Global, bounds: &[List<List<Point>>]) -> Result<Rect4, AllocError>
+    requires { All IsBoundFit bounds.now }
+    ensures area { IfOk result IsArea }
+    ensures least { IfOk result (λ r. IfSome (slice_get bounds.now 0) (λ loops. IsBoxOf (Area loops) r)) }
+{
+    match bounds.get(0) {
+        Some(loops) => {
+            let spine = Spine::Area(copy_loops(alloc, loops.as_slice())?);
+            Ok(box_of(&spine))
+        }
+        None => Ok(Rect4 {
+            x0: 0,
+            y0: 0,
+            x1: 0,
+            y1: 0,
+        }),
+    }
+}
+
+/// Tiles for a design's items, without any.
+pub(crate) fn empty_tiles(alloc: Global, d: &Design) -> Result<Tiles, AllocError>
+    requires { IsSound d.now }
+    ensures empty { IfOk result (λ t. t.items ≡ []) }
+    ensures area { IfOk result (λ t. IsArea t.area) }
+    ensures reach { IfOk result (λ t. HasClearancesWithin t.reach d.now) }
+{
+    let area = area_of(alloc, d.bounds.as_slice())?;
+    Tiles::new(alloc, area, greatest_clearance(d))
+}
+
+// What is loaded, with one more item.
+fn keep(alloc: Global, loaded: Loaded, item: Item) -> Result<Loaded, AllocError>
+    requires above { All (λ (a : OneItem). a.id < item.id) loaded.tiles.items }
+    requires fits { IsItemFit item }
+    ensures tiles { IfOk result (λ l. l.tiles ≡ holding loaded.tiles (loaded.tiles.items ++ item ∷ [])) }
+    ensures given { IfOk result (λ l. l.given.items ≡ loaded.given.items ++ item ∷ []) }
+    ensures dropped { IfOk result (λ l. l.dropped ≡ loaded.dropped) }
+{
+    let Loaded {
+        mut tiles,
+        mut given,
+        dropped,
+    } = loaded;
+    let copy = copy_item(alloc, &item)?;
+    if let Err((_, cause)) = tiles.add(copy) {
+        return Err(cause);
+    }
+    given.push(item)?;
+    Ok(Loaded {
+        tiles,
+        given,
+        dropped,
+    })
+}
+
+/// The design's fixed items.
+pub(crate) fn load_fixed(alloc: Global, d: &Design) -> Result<Loaded, AllocError>
+    requires { IsSound d.now }
+    ensures { IfOk result (AreLoaded d.now d.now.free) }
+{
+    let mut loaded = Loaded {
+        tiles: empty_tiles(alloc, d)?,
+        given: Vec::new(alloc),
+        dropped: List::new(alloc),
+    };
+    for item in d.fixed.as_slice() {
+        loaded = keep(alloc, loaded, copy_item(alloc, item)?)?;
+    }
+    Ok(loaded)
+}
+
+fn is_agreed_by<L: Ledger>(d: &Design, tiles: &Tiles, item: &Item, blank: Blank) -> bool
+    requires name { blank.name ≡ L.name }
+    requires parts { blank.parts ≡ L.parts }
+    requires whole { 0 < blank.parts }
+    requires serves { ServesSpread tiles.now d.now }
+    requires fits { IsItemFit item.now }
+    requires above { All (λ (a : OneItem). a.id < item.now.id) tiles.now.items }
+    ensures { IsTrue result ↔ All (Agrees d.now item.now) tiles.now.items }
+{
+    let mut steps: Steps<L> = Steps::new(blank);
+    match tiles.next_clash(d, item, 0, &mut steps) {
+        Some(_) => false,
+        None => true,
+    }
+}
+
+// Whether what is loaded stays legal with one more item, which has a greater id.
+fn fits(d: &Design, tiles: &Tiles, item: &Item) -> bool
+    requires serves { ServesSpread tiles.now d.now }
+    requires fits { IsItemFit item.now }
+    requires above { All (λ (a : OneItem). a.id < item.now.id) tiles.now.items }
+    requires routed { IsRouted item.now }
+    requires made { IsMade d.now item.now }
+    requires legal { IsLegal d.now tiles.now.items }
+    ensures { IsTrue result ↔ IsLegal d.now (tiles.now.items ++ item.now ∷ []) }
+{
+    pairs_are_symmetric();
+    if !inside_board(d, item) {
+        return false;
+    }
+    if !width_ok(d, item) {
+        return false;
+    }
+    is_agreed_by::<Brand>(d, tiles, item, Blank::new(1))
+}
+
+// What is loaded, with one free item where it stays legal with that, and else with its place among the dropped.
+fn load_one(alloc: Global, d: &Design, loaded: Loaded, w: &FreeWire) -> Result<Loaded, AllocError>
+    requires sound { IsSound d.now }
+    requires wire { IsFreeSound d.now w.now }
+    requires kept { IsKept d.now loaded }
+    ensures kept { IfOk result (IsKept d.now) }
+    ensures one { IfOk result (LoadsOne d.now loaded w.now) }
+{
+    let id = loaded.given.len() as u64;
+    let metal = copy_metal(alloc, &w.metal)?;
+    let item = make_item(alloc, d, id, Some(w.net), false, metal)?;
+    if fits(d, &loaded.tiles, &item) {
+        keep(alloc, loaded, item)
+    } else {
+        drop_place(loaded, w.at)
+    }
+}
+
+// What is loaded, with one more place among the dropped.
+fn drop_place(loaded: Loaded, at: u64) -> Result<Loaded, AllocError>
+    ensures tiles { IfOk result (λ l. l.tiles ≡ loaded.tiles) }
+    ensures given { IfOk result (λ l. l.given.items ≡ loaded.given.items) }
+    ensures dropped { IfOk result (λ l. l.dropped ≡ loaded.dropped ++ at ∷ []) }
+{
+    let Loaded {
+        tiles,
+        given,
+        mut dropped,
+    } = loaded;
+    dropped.push(at)?;
+    Ok(Loaded {
+        tiles,
+        given,
+        dropped,
+    })
+}
+
+/// Behind the fixed items, the free ones in order.
+pub(crate) fn load_free(alloc: Global, d: &Design, fixed: Loaded) -> Result<Loaded, AllocError>
+    requires sound { IsSound d.now }
+    requires fixed { AreLoaded d.now d.now.free fixed }
+    ensures { IfOk result (AreLoaded d.now []) }
+{
+    let mut loaded = fixed;
+    for w in d.free.as_slice() {
+        loaded = load_one(alloc, d, loaded, w)?;
+    }
+    Ok(loaded)
+}

@@ -1,0 +1,97 @@
+//! Snapshots of a board: its items after some entries, which stay while the board goes on.
+//! A snapshot shares the board's design and tiles, and answers what copper is asked as the tiles do.
+
+ghost use Rattle.std.specs.Prelude.{◌≡◌, ◌*◌, ◌^◌, length};
+ghost use Rattle.pcb_model.specs.Sound.{Serves};
+
+use pcb_model::{Copper, Design, Item, Probe, Steps};
+use pcb_tiles::Tiles;
+use shared_value::Shared;
+use std::marker::Model;
+use std::sync::ledger::Ledger;
+
+/// The items of a board after a number of entries, and its design.
+#[derive(Drop)]
+pub struct Snap {
+    pub(crate) design: Shared<Design>,
+    pub(crate) tiles: Tiles,
+    pub(crate) number: u64,
+}
+
+impl Model for Snap {
+    ghost use Rattle.pcb_board.specs.Snaps.{IsSnapKept};
+    ghost use Rattle.pcb_board.specs.Boards.{SnapOf};
+
+    ghost Value = { SnapOf };
+
+    ghost view = { λ s. record { design = s.design; items = s.tiles.items; number = s.number } };
+
+    ghost invariant = { λ s. IsSnapKept s.tiles s.design };
+}
+
+impl Snap {
+    /// How many entries it has seen.
+    pub fn number(&self) -> u64
+        ensures { result ≡ self.now.number }
+    {
+        self.number
+    }
+
+    /// The board's design.
+    pub fn design(&self) -> &Design
+        ensures { result.now ≡ self.now.design }
+    {
+        self.design.get()
+    }
+}
+
+impl Copper for Snap {
+    ghost items = { λ s. s.items };
+
+    ghost serves = { λ s d. (s.design ≡ d) × Serves s.items d };
+
+    ghost ticks = { λ s a. 2 ^ 22 * length s.items };
+
+    fn in_order(&self) {
+        self.tiles.in_order();
+    }
+
+    fn item(&self, id: u64) -> Option<&Item> {
+        self.tiles.item(id)
+    }
+
+    fn next_item(&self, from: u64) -> Option<&Item> {
+        self.tiles.next_item(from)
+    }
+
+    fn next_clash<L: Ledger>(
+        &self,
+        d: &Design,
+        a: &Item,
+        from: u64,
+        steps: &mut Steps<L>,
+    ) -> Option<u64> {
+        self.tiles.next_clash(d, a, from, steps)
+    }
+
+    fn next_block<L: Ledger>(
+        &self,
+        d: &Design,
+        net: u32,
+        p: &Probe,
+        from: u64,
+        steps: &mut Steps<L>,
+    ) -> Option<u64> {
+        self.tiles.next_block(d, net, p, from, steps)
+    }
+
+    fn is_blocked<L: Ledger>(&self, d: &Design, net: u32, p: &Probe, steps: &mut Steps<L>) -> bool {
+        self.tiles.is_blocked(d, net, p, steps)
+    }
+
+    fn next_touch<L: Ledger>(&self, a: &Item, from: u64, steps: &mut Steps<L>) -> Option<u64> {
+        self.tiles.next_touch(a, from, steps)
+    }
+
+    ghost serving = { λ s d h. h.1 };
+}

@@ -1,0 +1,54 @@
+use Rattle.std.proofs.Common.{◌≡◌, ◌<◌, ℕ, List, length, All, arith, sym, ap, ◌∙◌, subst}
+use Prim.Native.Nat.{suc}
+use Rattle.std.specs.List.{sum_by}
+use Rattle.pcb_tiles.specs.declared.cells.Entry.{Entry}
+use Rattle.pcb_tiles.specs.Tiling.{columns_of, rows_of}
+use Rattle.pcb_tiles.specs.Cells.{grid_of, cell_at, row_in}
+use Rattle.pcb_tiles.specs.Searches.{IsEntry, RowsSoFar}
+use Rattle.pcb_tiles.proofs.Grids.{all_entries, all_wide, grid_rows, sought_of, cost_is}
+use Rattle.pcb_tiles.specs.Shelves.{flat}
+use Rattle.pcb_tiles.proofs.least.seek.Goals as goal
+
+pub best_in_rows-requires-clause-entries : goal.best_in_rows-requires-clause-entries
+best_in_rows-requires-clause-entries g c =
+    let e : c.as_slice.result.now ≡ grid_of c.args.area (flat c.args.shelf.now) =
+    c.as_slice.ensures ∙ (c.get.ensures ∙ c.requires.spread.grid_is) in
+    subst (All (All (All IsEntry))) (sym e) (all_entries c.args.area (flat c.args.shelf.now) c.requires.spread.fit)
+
+pub best_in_rows-requires-clause-wide : goal.best_in_rows-requires-clause-wide
+best_in_rows-requires-clause-wide g c =
+    let e : c.as_slice.result.now ≡ grid_of c.args.area (flat c.args.shelf.now) =
+    c.as_slice.ensures ∙ (c.get.ensures ∙ c.requires.spread.grid_is) in
+    subst (All (λ (row : List (List Entry)). c.args.b.now.last_column < length row)) (sym e)
+    (all_wide c.args.area (flat c.args.shelf.now) c.args.b.now.last_column c.requires.block.columns_within)
+
+pub best_in_rows-requires-clause-within : goal.best_in_rows-requires-clause-within
+best_in_rows-requires-clause-within g c =
+    let e : c.as_slice.result.now ≡ grid_of c.args.area (flat c.args.shelf.now) =
+    c.as_slice.ensures ∙ (c.get.ensures ∙ c.requires.spread.grid_is) in
+    let n : length c.as_slice.result.now ≡ length (grid_of c.args.area (flat c.args.shelf.now)) = ap length e in
+    let m = grid_rows c.args.area (flat c.args.shelf.now) in
+    omega (arith, n, m, c.requires.block.rows_within)
+
+pub returns-clause-so : goal.returns-clause-so
+returns-clause-so g c =
+    let e : c.as_slice.result.now ≡ grid_of c.args.area (flat c.args.shelf.now) =
+    c.as_slice.ensures ∙ (c.get.ensures ∙ c.requires.spread.grid_is) in
+    let F : List (List (List Entry)) → Type 0 =
+    λ x. RowsSoFar (g.S.Seeks.yes c.args.s.now)
+    (g.S.Seeks.no c.args.s.now) c.args.from c.best_in_rows.result x c.args.b.now (suc c.args.b.now.last_row) in
+    sought_of (g.S.Seeks.yes c.args.s.now) (g.S.Seeks.no c.args.s.now) c.args.from c.args.area
+    (flat c.args.shelf.now) c.args.b.now c.best_in_rows.result c.requires.block
+    (subst F e c.best_in_rows.ensures.so)
+
+pub returns-clause-cost : goal.returns-clause-cost
+returns-clause-cost g c =
+    let e : c.as_slice.result.now ≡ grid_of c.args.area (flat c.args.shelf.now) =
+    c.as_slice.ensures ∙ (c.get.ensures ∙ c.requires.spread.grid_is) in
+    let F : List (List (List Entry)) → ℕ =
+    λ x. sum_by (λ row. sum_by (λ column. length (cell_at (row_in x row) column)) (columns_of c.args.b.now))
+    (rows_of c.args.b.now) in
+    let n : F c.as_slice.result.now ≡ F (grid_of c.args.area (flat c.args.shelf.now)) = ap F e in
+    let m = cost_is c.args.area (flat c.args.shelf.now) c.args.b.now c.requires.block.columns c.requires.block.order
+    c.requires.block.columns_within c.requires.block.rows_within in
+    omega (arith, n, m, c.best_in_rows.ensures.cost)

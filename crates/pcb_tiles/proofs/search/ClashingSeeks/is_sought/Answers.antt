@@ -1,0 +1,11 @@
+use Rattle.std.proofs.Common.{refl}
+use Rattle.pcb_model.proofs.Far.{apart_agree}
+use Rattle.pcb_tiles.proofs.search.ClashingSeeks.is_sought.Goals as goal
+
+pub returns-then-is_far_from-clause-no : goal.returns-then-is_far_from-clause-no
+returns-then-is_far_from-clause-no g c = λ o.
+    apart_agree c.args.self.now.reach c.args.self.now.d.now c.args.self.now.a.now c.args.item.now
+    c.requires.ready.0.reaches
+    (c.if-is_far_from.ensures.apart refl c.args.self.now.a.now.pieces c.args.item.now.pieces
+    c.requires.ready.1.pieces_fit c.requires.item_fits.pieces_fit c.requires.ready.0.extent_is
+    c.requires.extent_of)

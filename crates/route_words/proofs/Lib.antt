@@ -1,0 +1,15 @@
+mod Forming
+mod Bools
+mod Looking
+mod Walking
+mod Rows
+mod Reading
+mod Laying
+mod Routes
+mod Gens
+mod Finding
+mod Fitting
+mod Spelling
+mod Holding
+mod Meaning
+mod Ranges

@@ -1,0 +1,107 @@
+-- What a command means, by what `clap` holds of its words.
+use Rattle.std.proofs.Common.{◌≡◌, ◌∙◌, ◌+◌, ◌≤◌, ℕ, true, refl, sym, ap, arith, nat_lt, true≢false}
+use Rattle.std.proofs.Common.{List, [], ◌∷◌, length, Option, Some, None, slice_get, codes, Err}
+use Rattle.std.proofs.lemmas.Bool.{ltb-true}
+use Rattle.clap.specs.Matches.{first_value}
+use Rattle.clap.specs.declared.parser.matches.Found.{Found}
+use Rattle.route_words.specs.Forms.{Holds, HoldsRoute, knobs_found}
+use Rattle.route_words.specs.Parts.{Form, Part, Word, fit_from, name, names_in, option, parts_of, stray}
+use Rattle.route_words.specs.Words.{gen_form, gen_of, gen_with, knobs_of, route_form, route_of, route_with}
+use Rattle.route_words.specs.declared.command.Knobs.{Knobs}
+use Rattle.route_words.specs.declared.command.WordFault.TheVariants.{Usage}
+use Rattle.route_words.proofs.Bools.{and_left, and_right}
+
+-- parts that fit have no more names than the form
+few_names : (f : Form) (parts : List Part) (seen : List Word) (n : ℕ) → n ≤ f.names → fit_from f seen n parts ≡ true
+    → n + length (names_in parts) ≤ f.names
+few_names f [] seen n le fits = omega arith
+few_names f (name t ∷ parts) seen n le fits =
+    let below = ltb-true n f.names (and_left (nat_lt n f.names) (fit_from f seen (n + 1) parts) fits) in
+    let next : n + 1 ≤ f.names = omega arith in
+    let rest : n + 1 + length (names_in parts) ≤ f.names = few_names f parts seen (n + 1) next
+    (and_right (nat_lt n f.names) (fit_from f seen (n + 1) parts) fits) in
+    omega arith
+few_names f (option x v ∷ parts) seen n le fits = few_names f parts (x ∷ seen) n le (and_right _ _ (and_right _ _ fits))
+few_names f (stray ∷ parts) seen n le fits = absurd (true≢false (sym fits))
+
+-- ---- route
+
+two_names : (names : List Word) (a b : Word) → length names ≤ 2 → slice_get names 0 ≡ Some a → slice_get names 1
+    ≡ Some b → names ≡ a ∷ b ∷ []
+two_names [] a b few first second = cc
+two_names (x ∷ []) a b few first second = cc
+two_names (x ∷ y ∷ []) a b few first second = cc
+two_names (x ∷ y ∷ z ∷ names) a b few first second = absurd (omega arith)
+
+no_first : (names : List Word) (knobs : Option Knobs) → slice_get names 0 ≡ None → route_with names knobs ≡ Err Usage
+no_first [] knobs none = refl
+no_first (x ∷ names) knobs none = cc
+
+no_second : (names : List Word) (knobs : Option Knobs) → slice_get names 1 ≡ None → route_with names knobs ≡ Err Usage
+no_second [] knobs none = refl
+no_second (x ∷ []) knobs none = refl
+no_second (x ∷ y ∷ names) knobs none = cc
+
+without_knobs : (names : List Word) → route_with names None ≡ Err Usage
+without_knobs [] = refl
+without_knobs (x ∷ []) = refl
+without_knobs (x ∷ y ∷ []) = refl
+without_knobs (x ∷ y ∷ z ∷ names) = refl
+
+module _ (words : List Word) (f : Found) (holds : HoldsRoute (parts_of route_form words) f) where
+  knobs_are : knobs_found f ≡ knobs_of (parts_of route_form words)
+  knobs_are = rw (
+    holds.held.values (codes "grid") refl,
+    holds.held.values (codes "workers") refl,
+    holds.held.values (codes "passes") refl,
+    holds.held.values (codes "via-cost") refl,
+    holds.omits,
+  ) refl
+
+  route_is : route_of words ≡ route_with (names_in (parts_of route_form words)) (knobs_found f)
+  route_is = rw holds.held.fits (ap (route_with (names_in (parts_of route_form words))) (sym knobs_are))
+
+  pub no_input : first_value f (codes "input") ≡ None → route_of words ≡ Err Usage
+  no_input none = route_is ∙ no_first _ _ (sym (holds.held.names 0 (codes "input") refl) ∙ none)
+
+  pub no_output : first_value f (codes "output") ≡ None → route_of words ≡ Err Usage
+  no_output none = route_is ∙ no_second _ _ (sym (holds.held.names 1 (codes "output") refl) ∙ none)
+
+  pub no_knobs : knobs_found f ≡ None → route_of words ≡ Err Usage
+  no_knobs none = route_is ∙ rw none (without_knobs (names_in (parts_of route_form words)))
+
+  pub route_named : (a b : Word) (knobs : Knobs) → first_value f (codes "input") ≡ Some a
+      → first_value f (codes "output") ≡ Some b
+      → knobs_found f ≡ Some knobs → route_of words ≡ route_with (a ∷ b ∷ []) (Some knobs)
+  route_named a b knobs first second given =
+      let few = few_names route_form (parts_of route_form words) [] 0 (omega arith) holds.held.fits in
+      let names = two_names (names_in (parts_of route_form words)) a b (omega arith)
+      (sym (holds.held.names 0 (codes "input") refl) ∙ first) (sym (holds.held.names 1 (codes "output") refl) ∙ second)
+      in
+      route_is ∙ rw (names, given) refl
+
+-- ---- gen
+
+one_name : (names : List Word) (a : Word) → length names ≤ 1 → slice_get names 0 ≡ Some a → names ≡ a ∷ []
+one_name [] a few first = cc
+one_name (x ∷ []) a few first = cc
+one_name (x ∷ y ∷ names) a few first = absurd (omega arith)
+
+no_name : (names : List Word) → slice_get names 0 ≡ None → gen_with names ≡ Err Usage
+no_name [] none = refl
+no_name (x ∷ names) none = cc
+
+module _ (words : List Word) (f : Found) (holds : Holds gen_form (codes "number" ∷ []) (parts_of gen_form words) f)
+  where
+    gen_is : gen_of words ≡ gen_with (names_in (parts_of gen_form words))
+    gen_is = rw holds.fits refl
+
+    pub no_number : first_value f (codes "number") ≡ None → gen_of words ≡ Err Usage
+    no_number none = gen_is ∙ no_name _ (sym (holds.names 0 (codes "number") refl) ∙ none)
+
+    pub gen_named : (a : Word) → first_value f (codes "number") ≡ Some a → gen_of words ≡ gen_with (a ∷ [])
+    gen_named a first =
+        let few = few_names gen_form (parts_of gen_form words) [] 0 (omega arith) holds.fits in
+        let names = one_name (names_in (parts_of gen_form words)) a (omega arith)
+        (sym (holds.names 0 (codes "number") refl) ∙ first) in
+        gen_is ∙ rw names refl

@@ -1,0 +1,115 @@
+//! The words of the command line.
+//! `route` and `gen` are read by forms of their own; what a list of words means is one definition.
+
+ghost use Rattle.std.specs.Prelude.{◌≡◌, ◌∷◌, [], Some, IfOk};
+ghost use Rattle.std.specs.Option.{option_map};
+ghost use Rattle.clap.specs.Matches.{found_of};
+ghost use Rattle.route_words.specs.Words.{texts, route_with, route_of, gen_with, gen_of, command_of, Says, IsWithin};
+ghost use Rattle.route_words.specs.Forms.{is_on, knobs_found};
+
+use crate::form::{find_gen, find_route};
+use crate::knobs::{read_knobs, read_number};
+use crate::{Command, Knobs, Text, WordFault};
+use clap::ArgMatches;
+use std::alloc::Global;
+
+/// How the program is called: its words, with the ranges and defaults of the options.
+pub const USAGE: &str = "\
+dsnroute route IN OUT [--grid UM] [--workers N] [--passes N] [--via-cost UM] [--omit-fixed]
+dsnroute gen N
+  --grid UM      1 to 100000 um; without it, the grid that the design asks for
+  --workers N    1 to 16; 4 without it
+  --passes N     1 to 99; 10 without it
+  --via-cost UM  0 to 1000000 um; 2000 without it
+  --omit-fixed   leave the fixed wiring out of the session
+  gen N          the generated board number N, 1 to 400
+  --             each word after it is a name
+";
+
+fn is_on(value: Option<&str>) -> bool
+    ensures { result ≡ is_on (option_map (λ w. w.now) value.entry) }
+{
+    match value {
+        Some(text) => text == "true",
+        None => false,
+    }
+}
+
+fn knobs_found(found: &ArgMatches) -> Option<Knobs>
+    ensures { result ≡ knobs_found (found_of found.now) }
+{
+    read_knobs(
+        found.get_str("grid"),
+        found.get_str("workers"),
+        found.get_str("passes"),
+        found.get_str("via-cost"),
+        is_on(found.get_str("omit-fixed")),
+    )
+}
+
+fn route_with(alloc: Global, input: &str, output: &str, knobs: Knobs) -> Result<Command, WordFault>
+    ensures { Says (route_with (input.now ∷ output.now ∷ []) (Some knobs)) result }
+{
+    if input.is_empty() || output.is_empty() {
+        return Err(WordFault::Usage);
+    }
+    let input = Text::from_str(alloc, input)?;
+    let output = Text::from_str(alloc, output)?;
+    Ok(Command::Route {
+        input,
+        output,
+        knobs,
+    })
+}
+
+fn read_route(alloc: Global, words: &[String]) -> Result<Command, WordFault>
+    ensures { Says (route_of (texts words.now)) result }
+{
+    let found = find_route(alloc, words)?;
+    let Some(input) = found.get_str("input") else {
+        return Err(WordFault::Usage);
+    };
+    let Some(output) = found.get_str("output") else {
+        return Err(WordFault::Usage);
+    };
+    let Some(knobs) = knobs_found(&found) else {
+        return Err(WordFault::Usage);
+    };
+    route_with(alloc, input, output, knobs)
+}
+
+fn read_gen(alloc: Global, words: &[String]) -> Result<Command, WordFault>
+    ensures { Says (gen_of (texts words.now)) result }
+{
+    let found = find_gen(alloc, words)?;
+    let Some(word) = found.get_str("number") else {
+        return Err(WordFault::Usage);
+    };
+    match read_number(1, 400, word) {
+        Some(n) => Ok(Command::Gen { n }),
+        None => Err(WordFault::Usage),
+    }
+}
+
+fn read_command(alloc: Global, words: &[String]) -> Result<Command, WordFault>
+    ensures { Says (command_of (texts words.now)) result }
+{
+    let [first, rest @ ..] = words else {
+        return Err(WordFault::NoCommand);
+    };
+    match first.as_str() {
+        "route" => read_route(alloc, rest),
+        "gen" => read_gen(alloc, rest),
+        _ => Err(WordFault::UnknownCommand),
+    }
+}
+
+/// What the words ask for; the program's own name isn't among them. The answer is that of the definition `command_of`:
+/// a command, or `NoCommand` exactly where there is no word, `UnknownCommand` exactly where the first is no command,
+/// and `Usage` exactly where the others don't fit it. Want of memory may take the place of any answer.
+pub fn read_words(alloc: Global, words: &[String]) -> Result<Command, WordFault>
+    ensures says { Says (command_of (texts words.now)) result }
+    ensures within { IfOk result IsWithin }
+{
+    read_command(alloc, words)
+}

@@ -1,0 +1,8 @@
+//! The tests of the words of the command line and of generated boards.
+//! They stand over public calls in a crate of their own, so that the crates below are proved without them.
+#![tactic(auto)]
+
+#[cfg(test)]
+mod of_board_gen;
+#[cfg(test)]
+mod of_route_words;

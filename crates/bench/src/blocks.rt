@@ -17,11 +17,17 @@ use std::sync::ledger::{Blank, Ledger};
 use std::time::Instant;
 
 /// How many of so many searches find the step blocked.
-fn count<L: Ledger>(copper: &PlainCopper, d: &Design, step: &Probe, calls: u64, blank: Blank) -> u64
+fn count<C: Copper, L: Ledger>(
+    copper: &C,
+    d: &Design,
+    step: &Probe,
+    calls: u64,
+    blank: Blank,
+) -> u64
     requires name { blank.name ≡ L.name }
     requires parts { blank.parts ≡ L.parts }
     requires whole { 0 < blank.parts }
-    requires serves { Serves copper.now d.now }
+    requires serves { C.serves copper.now d.now }
     requires step_fits { IsProbeFit d.now step.now }
 {
     let mut steps: Steps<L> = Steps::new(blank);
@@ -50,10 +56,10 @@ fn step() -> Probe
 }
 
 /// How many of so many searches find that step blocked.
-fn count_blocked(copper: &PlainCopper, d: &Design, calls: u64) -> u64
-    requires { Serves copper.now d.now }
+pub fn count_blocked<C: Copper>(copper: &C, d: &Design, calls: u64) -> u64
+    requires { C.serves copper.now d.now }
 {
-    count::<Brand>(copper, d, &step(), calls, Blank::new(1))
+    count::<C, Brand>(copper, d, &step(), calls, Blank::new(1))
 }
 
 /// How many of so many searches find that step blocked, and in how many nanoseconds.

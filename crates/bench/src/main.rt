@@ -1,10 +1,13 @@
-//! Measures what takes the time of routing: pair tests, searches among copper, reading of trees, and searches over nodes.
+//! Measures what takes the time of routing: pair tests, searches among copper, what a board is asked, reading of trees,
+//! and searches over nodes.
 //! With a word it times what the word names; with none it makes a small round of each, and tells no time.
 #![tactic(auto)]
 
 mod blocks;
+mod boards;
 mod cells;
 mod figures;
+mod nets;
 mod numbers;
 mod pairs;
 mod texts;
@@ -19,20 +22,22 @@ use std::{env, io};
 fn run_small<R: Runtime>(rt: &R, alloc: Global) -> io::Result<()> {
     pairs::run_small(rt, alloc)?;
     blocks::run_small(rt, alloc)?;
+    boards::run_small(rt, alloc)?;
     texts::run_small(rt, alloc)?;
     walks::tell_turns(rt, alloc, 40)
 }
 
-/// What a word names, with a number of tests, of searches or of KB.
+/// What a word names, with a number of tests, of searches, of offers or of KB.
 fn run<R: Runtime>(rt: &R, alloc: Global, word: &str, number: u64) -> io::Result<()> {
     match word {
         "pairs" => pairs::run_timed(rt, alloc, number),
         "blocks" => blocks::run_timed(rt, alloc, number),
+        "board" => boards::run_timed(rt, alloc, number),
         "texts" => texts::run_timed(rt, alloc, number),
         "speed" => walks::tell_speeds(rt, alloc),
         "turns" => walks::tell_turns(rt, alloc, 200),
         _ => println!(rt;
-            "usage: bench [pairs TESTS | blocks SEARCHES | texts KB | speed | turns]"
+            "usage: bench [pairs TESTS | blocks SEARCHES | board OFFERS | texts KB | speed | turns]"
         ),
     }
 }

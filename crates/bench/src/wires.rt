@@ -1,12 +1,12 @@
 //! A board of one layer and two nets with 1,000 wires of 1 mm, at 45 degrees.
 //! Five lie within a millimetre of a step of net 0 from (0, 0) to (1 mm, 1 mm) and don't block it; the others are far.
 
-ghost use Rattle.std.specs.Prelude.{◌≡◌, ◌++◌, ◌∷◌, [], ◌<◌, ◌≤◌, ◌^◌, All, IfOk, IfSome, OnOk, length};
+ghost use Rattle.std.specs.Prelude.{◌≡◌, ◌++◌, ◌∷◌, [], ◌<◌, All, IfOk, IfSome, OnOk};
 ghost use Rattle.pcb_model.specs.Bounds.{IsItemFit};
+ghost use Rattle.pcb_model.specs.Plain.{IsPlainCopper};
 ghost use Rattle.pcb_model.specs.Sound.{IsSound, Serves};
 
 use dsn_design::read_design;
-use dsn_shapes::DesignFault;
 use pcb_model::{Design, Item, PlainCopper, copy_item};
 use std::alloc::{AllocError, Global};
 
@@ -51,21 +51,16 @@ fn board_text(alloc: Global) -> Result<String, AllocError> {
     Ok(text)
 }
 
-fn read(alloc: Global, text: &[u8]) -> Result<Design, DesignFault>
-    requires { length text.now ≤ 2 ^ 26 }
-    ensures { IfOk result IsSound }
-{
-    read_design(alloc, text)
-}
-
-fn read_short(alloc: Global, text: &str) -> Option<Design>
-    ensures { IfSome result IsSound }
+/// The design of a text of a million bytes at most; None where it is refused.
+pub fn read_short(alloc: Global, text: &str) -> Option<Design>
+    ensures sound { IfSome result IsSound }
+    ensures plain { IfSome result IsPlainCopper }
 {
     let bytes = text.as_bytes();
     if bytes.len() > 1_000_000 {
         return None;
     }
-    match read(alloc, bytes) {
+    match read_design(alloc, bytes) {
         Ok(d) => Some(d),
         Err(_) => None,
     }

@@ -42,4 +42,4 @@ pub routed : (command : Command) (desk later : DeskState) (sink after : SinkStat
 routed command desk later sink after status text d input reads (inl left) =
     inl (record { files = left.files; said = subst (λ s. Said (Ok command) desk later sink after s) (sym left.memory) left.bytes })
 routed command desk later sink after status text d input reads (inr out) =
-    inr (record { text = text; design = d; items = out.items; ends = out.ends; input = input; reads = reads; few = out.few; run = out.run }, out.leaves)
+    inr (record { text = text; design = d; board = out.board; ends = out.ends; input = input; reads = reads; few = out.few; run = out.run }, out.leaves)

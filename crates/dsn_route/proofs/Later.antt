@@ -36,7 +36,7 @@ module _ (command : Command) (desk later : DeskState) (sink after : SinkState) (
   said Limit s = put Limit s
   said Memory s = s
 
-  leaves : (r : Routed command (at desk.files faults calm)) (status : Status) → Leaves command r.design r.items r.ends (at desk.files faults calm) later sink after status → Leaves command r.design r.items r.ends desk later sink after status
+  leaves : (r : Routed command (at desk.files faults calm)) (status : Status) → Leaves command r.design r.board.items r.ends (at desk.files faults calm) later sink after status → Leaves command r.design r.board.items r.ends desk later sink after status
   leaves r Complete l = (record { files = l.0.files; bytes = l.0.bytes }, l.1)
   leaves r SomeOpen l = (record { files = l.0.files; bytes = l.0.bytes }, l.1)
   leaves r WriteFault (inl s) = inl (record { fault = faulted s.fault; kept = s.kept; files = s.files; bytes = s.bytes })
@@ -48,7 +48,7 @@ module _ (command : Command) (desk later : DeskState) (sink after : SinkState) (
   earlier status (inl s) = inl (record { files = s.files; said = said status s.said })
   earlier status (inr w) =
       let r = w.0 in
-      inr (record { text = r.text; design = r.design; items = r.items; ends = r.ends; input = record { file = r.input.file; fits = r.input.fits }; reads = r.reads; few = r.few; run = r.run }, leaves r status w.1)
+      inr (record { text = r.text; design = r.design; board = r.board; ends = r.ends; input = record { file = r.input.file; fits = r.input.fits }; reads = r.reads; few = r.few; run = r.run }, leaves r status w.1)
 
 pub from_before : (command : Command) (desk middle later : DeskState) (sink after : SinkState) (status : Status)
     → middle.files ≡ desk.files → desk.faults ≤ middle.faults → (IsTrue desk.calm → IsTrue middle.calm)

@@ -1,13 +1,6 @@
 mod Ended
 mod Later
 mod Elements
-mod Adding
-mod Boards
-mod Walking
-mod Linking
-mod Places
-mod Closing
-mod Running
 mod OneText
 mod Unread
 mod Dues

@@ -18,7 +18,8 @@ use Rattle.dsn_route.specs.declared.status.Status.TheVariants.{Complete, SomeOpe
 use Rattle.dsn_route.specs.declared.words.WordFault.{WordFault}
 use Rattle.dsn_route.specs.Words.{Command, number_of}
 use Rattle.dsn_route.specs.Texts.{IsRefused, IsOverLimit, what_word}
-use Rattle.dsn_route.specs.Joins.{IsRun}
+use Rattle.pcb_board.specs.Boards.{BoardOf}
+use Rattle.route_run.specs.Runs.{IsRun}
 use Rattle.dsn_route.specs.Report.{is_complete, is_open, report_of}
 
 -- the most bytes of an input
@@ -127,12 +128,12 @@ pub record Stopped (command : Result Command WordFault) (desk later : DeskState)
 pub record Routed (command : Command) (desk : DeskState) : Type 0 where
   pub text : List ℕ
   pub design : Design
-  pub items : List Item
+  pub board : BoardOf
   pub ends : List (List Cut)
   pub input : IsInput command desk text
   pub reads : HasDesign text design
   pub few : node_count (mesh_of command design) ≤ 2 ^ 24
-  pub run : IsRun design (mesh_of command design) via_price items ends
+  pub run : IsRun design (mesh_of command design) via_price board ends
 
 -- the output is the session, whole
 abbrev pub HasSession : Command → Design → List Item → DeskState → DeskState → Type 0
@@ -167,7 +168,7 @@ Leaves command d items ends desk later sink after status = ⊥
 
 -- accepted words were routed: there is a design of the input, and a run of it, of which this holds
 abbrev pub WasRouted : Result Command WordFault → DeskState → DeskState → SinkState → SinkState → Status → Type 0
-WasRouted (Ok command) desk later sink after status = (r : Routed command desk) × Leaves command r.design r.items r.ends desk later sink after status
+WasRouted (Ok command) desk later sink after status = (r : Routed command desk) × Leaves command r.design r.board.items r.ends desk later sink after status
 WasRouted (Err fault) desk later sink after status = ⊥
 
 -- Each answer has its cause, and leaves what is said of it: the call stopped before it routed, or it routed.

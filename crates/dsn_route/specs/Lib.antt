@@ -1,8 +1,6 @@
 pub mod Words
 pub mod Status
 pub mod Texts
-pub mod Joins
-pub mod Boards
 pub mod Report
 pub mod Answers
 pub mod Due

@@ -14,7 +14,8 @@ use Rattle.dsn_route.specs.declared.words.Asked.{Asked}
 use Rattle.dsn_route.specs.declared.words.WordFault.{WordFault}
 use Rattle.dsn_route.specs.Words.{Command}
 use Rattle.dsn_route.specs.Report.{is_complete, is_open}
-use Rattle.dsn_route.specs.Joins.{IsRun}
+use Rattle.pcb_board.specs.Boards.{BoardOf}
+use Rattle.route_run.specs.Runs.{IsRun}
 use Rattle.dsn_route.specs.Status.{ended_of}
 use Rattle.dsn_route.specs.Texts.{limit_number}
 use Rattle.dsn_route.specs.Answers.{via_price, mesh_of, refused_line, over_line, Leaves}
@@ -55,11 +56,11 @@ pub record IsLeft (desk later : DeskState) (sink after : SinkState) (status : St
 
 -- there is a run of the design, and this is what it left
 pub record IsOut (command : Command) (d : Design) (desk later : DeskState) (sink after : SinkState) (status : Status) : Type 0 where
-  pub items : List Item
+  pub board : BoardOf
   pub ends : List (List Cut)
   pub few : node_count (mesh_of command d) ≤ 2 ^ 24
-  pub run : IsRun d (mesh_of command d) via_price items ends
-  pub leaves : Leaves command d items ends desk later sink after status
+  pub run : IsRun d (mesh_of command d) via_price board ends
+  pub leaves : Leaves command d board.items ends desk later sink after status
 
 abbrev pub RoutesDesign : Command → Design → DeskState → DeskState → SinkState → SinkState → Status → Type 0
 RoutesDesign command d desk later sink after status = IsLeft desk later sink after status ⊎ IsOut command d desk later sink after status

@@ -2,15 +2,10 @@
 //! Its contract says of every answer why it came and what it left.
 #![tactic(auto)]
 
-mod board;
-mod ends;
-mod join;
 mod lines;
 mod refusals;
 mod report;
 mod route;
-mod run;
-mod settle;
 mod status;
 mod words;
 

@@ -8,7 +8,7 @@ ghost use Rattle.dsn_route.specs.Words.{texts, command_of};
 ghost use Rattle.dsn_route.specs.Said.{command_from, IsVerdict, RoutesDesign};
 ghost use Rattle.dsn_design.specs.Reading.{HasDesign};
 ghost use Rattle.pcb_model.specs.Plain.{IsPlainCopper};
-ghost use Rattle.dsn_route.specs.Boards.{IsTask};
+ghost use Rattle.route_run.specs.Passing.{IsTask};
 ghost use Rattle.dsn_route.specs.Answers.{Answers, Leaves, IsInput, mesh_of, via_price};
 ghost use Rattle.dsn_route.specs.Due.{IsMissing, IsRead, IsLong, IsUnfit, IsOver, IsTooFine, IsRoutable, IsDue, IsDueAfterRead, HasNoFault, IsDone};
 
@@ -16,7 +16,6 @@ use crate::Status;
 use crate::lines::{say_limit, say_nodes, say_read_fault, say_usage};
 use crate::refusals::{end_refused, refusal_of};
 use crate::report::report_text;
-use crate::run::{Laid, lay_nets};
 use crate::status::ended;
 use crate::words::{Asked, read_words};
 use cut_certificate::Cut;
@@ -25,6 +24,7 @@ use dsn_design::{one_outcome, read_design};
 use geo_kernel::List;
 use pcb_model::Design;
 use route_lattice::{Lattice, LatticeFault};
+use route_run::{Laid, lay_nets};
 use ses_writer::session_text;
 use std::alloc::Global;
 
@@ -49,15 +49,16 @@ fn verdict(ends: &[List<Cut>]) -> Status
 // Writes the session and puts the report.
 fn write_out<D: Desk, R: Sink>(
     alloc: Global,
-    design: &Design,
     laid: &Laid,
     asked: Asked<'_>,
     desk: &mut D,
     report: &mut R,
 ) -> Status
-    ensures { Leaves (command_from asked.entry) design.now laid.now.copper laid.now.ends (D.state desk.old) (D.state desk.new) (R.state report.old) (R.state report.new) result }
+    requires { laid.now.items ≡ laid.now.board.items }
+    ensures { Leaves (command_from asked.entry) laid.now.board.design laid.now.board.items laid.now.ends (D.state desk.old) (D.state desk.new) (R.state report.old) (R.state report.new) result }
 {
-    let Ok(session) = session_text(alloc, design, laid.copper.items(), false) else {
+    let design = laid.board.design();
+    let Ok(session) = session_text(alloc, design, laid.items.as_slice(), false) else {
         return Status::Memory;
     };
     let Ok(page) = report_text(alloc, design, &laid.ends) else {
@@ -74,18 +75,20 @@ fn write_out<D: Desk, R: Sink>(
 fn route_on<D: Desk, R: Sink>(
     alloc: Global,
     lat: &Lattice,
-    design: &Design,
+    design: Design,
     asked: Asked<'_>,
     desk: &mut D,
     report: &mut R,
 ) -> Status
-    requires task { IsTask design.now lat.now via_price }
-    requires lattice { lat.now ≡ mesh_of (command_from asked) design.now }
+    requires sound { IsSound design }
+    requires plain { IsPlainCopper design }
+    requires task { IsTask design lat.now via_price }
+    requires lattice { lat.now ≡ mesh_of (command_from asked) design }
     requires few { node_count lat.now ≤ 2 ^ 24 }
-    ensures { RoutesDesign (command_from asked.entry) design.now (D.state desk.old) (D.state desk.new) (R.state report.old) (R.state report.new) result }
+    ensures { RoutesDesign (command_from asked.entry) design (D.state desk.old) (D.state desk.new) (R.state report.old) (R.state report.new) result }
 {
     match lay_nets(alloc, lat, design, VIA_PRICE) {
-        Ok(laid) => write_out(alloc, design, &laid, asked, desk, report),
+        Ok(laid) => write_out(alloc, &laid, asked, desk, report),
         Err(_) => Status::Memory,
     }
 }
@@ -94,19 +97,19 @@ fn route_on<D: Desk, R: Sink>(
 fn route_design<D: Desk, R: Sink>(
     alloc: Global,
     text: &[u8],
-    design: &Design,
+    design: Design,
     asked: Asked<'_>,
     desk: &mut D,
     report: &mut R,
 ) -> Status
-    requires sound { IsSound design.now }
-    requires plain { IsPlainCopper design.now }
+    requires sound { IsSound design }
+    requires plain { IsPlainCopper design }
     requires grid { IfSome asked.grid (λ g. (1 ≤ g) × (g ≤ 2 ^ 30)) }
     requires input { IsInput (command_from asked) (D.state desk.old) text.now }
-    requires reads { HasDesign text.now design.now }
+    requires reads { HasDesign text.now design }
     ensures { Answers (Ok (command_from asked.entry)) (D.state desk.old) (D.state desk.new) (R.state report.old) (R.state report.new) result }
 {
-    match Lattice::of(alloc, design, asked.grid) {
+    match Lattice::of(alloc, &design, asked.grid) {
         Ok(lat) => route_on(alloc, &lat, design, asked, desk, report),
         Err(LatticeFault::TooManyNodes { count }) => {
             ended(say_nodes(alloc, count, report), Status::Limit)
@@ -128,7 +131,7 @@ fn route_text<D: Desk, R: Sink>(
     ensures { Answers (Ok (command_from asked.entry)) (D.state desk.old) (D.state desk.new) (R.state report.old) (R.state report.new) result }
 {
     match read_design(alloc, text) {
-        Ok(design) => route_design(alloc, text, &design, asked, desk, report),
+        Ok(design) => route_design(alloc, text, design, asked, desk, report),
         Err(fault) => match refusal_of(&fault) {
             Some(refusal) => end_refused(alloc, refusal, report),
             None => Status::Memory,

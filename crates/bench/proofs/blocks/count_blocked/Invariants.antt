@@ -1,4 +1,4 @@
 use Rattle.bench.proofs.blocks.count_blocked.Given as goal
 
 abbrev pub ghosts-count : goal.ghosts-count
-ghosts-count a = record { name = a.blank.name; parts = a.blank.parts }
+ghosts-count g a = record { name = a.blank.name; parts = a.blank.parts }

@@ -7,7 +7,7 @@ use Rattle.dsn_route.proofs.route.route_design.Goals as goal
 
 pub returns-in-Ok : goal.returns-in-Ok
 returns-in-Ok g c =
-    routed (command_from c.args.asked) _ _ _ _ _ c.args.text.now c.args.design.now c.requires.input c.requires.reads c.route_on.ensures
+    routed (command_from c.args.asked) _ _ _ _ _ c.args.text.now c.args.design c.requires.input c.requires.reads c.route_on.ensures
 
 pub returns-in-Err-TooManyNodes : goal.returns-in-Err-TooManyNodes
 returns-in-Err-TooManyNodes g c =
@@ -15,7 +15,7 @@ returns-in-Err-TooManyNodes g c =
     rw c.ended.ensures (stopped (Ok (command_from c.args.asked)) _ _ _ _ _ Limit (nodes_line c.in-Err-TooManyNodes.count)
     (inr (inr (record {
       text = c.args.text.now;
-      design = c.args.design.now;
+      design = c.args.design;
       input = c.requires.input;
       reads = c.requires.reads;
       many = gives.1;

@@ -1,0 +1,5 @@
+pub mod Places
+pub mod Joining
+pub mod Staying
+pub mod Closings
+pub mod Ending

@@ -1,0 +1,8 @@
+use Rattle.closing_pass.proofs.Ending.{ends_more}
+use Rattle.closing_pass.proofs.ends.Shut.all_ends.Goals as goal
+
+pub loop-net-preserved : goal.loop-net-preserved
+loop-net-preserved c =
+    ends_more c.args.self.now.d.now c.args.self.now.lat.now c.args.self.now.via_cost c.args.self.now.snap.now.items
+    c.loop-net.net c.loop-net.ends c.push.new.self c.in_ok-cuts.cuts
+    c.loop-net.invariant c.in_ok-cuts.ensures c.in_ok-push.ensures.ok

@@ -1,0 +1,30 @@
+use Rattle.std.proofs.Common.{◌≡◌, ◌∙◌, sym, subst, List, Some}
+use Rattle.std.specs.List.{slice_get, remove}
+use Rattle.pcb_islands.specs.declared.net.Island.{Island}
+use Rattle.cut_certificate.specs.Cuts.{Cuts}
+use Rattle.closing_pass.specs.Steps.{IsShutAt}
+use Rattle.closing_pass.proofs.Ending.{cuts_more}
+use Rattle.closing_pass.proofs.ends.Shut.cuts_of.Goals as goal
+
+pub loop-place-preserved : goal.loop-place-preserved
+loop-place-preserved c =
+    let d = c.args.self.now.d.now in
+    let m = c.args.self.now.lat.now in
+    let cost = c.args.self.now.via_cost in
+    let items = c.args.self.now.snap.now.items in
+    let place = c.loop-place.place in
+    record {
+      found = c.in_ok-same.ensures.found ∙ c.loop-place.invariant.found;
+      cuts = cuts_more d m cost items c.args.found place c.loop-place.cuts c.push.new.self c.in_ok-same.cut
+          c.loop-place.invariant.cuts
+          (subst (λ (fs : List Island). (island : Island) → slice_get fs place ≡ Some island
+          → Cuts d m items cost island (remove fs place) (Some c.in_ok-same.cut))
+          c.loop-place.invariant.found c.in_ok-same.ensures.cut)
+          c.in_ok-push.ensures.ok;
+    }
+
+pub cut_at-requires-clause-shut : goal.cut_at-requires-clause-shut
+cut_at-requires-clause-shut c =
+    subst (λ (fs : List Island). IsShutAt c.args.self.now.d.now c.args.self.now.lat.now c.args.self.now.via_cost
+    c.args.self.now.snap.now.items fs c.loop-place.place)
+    (sym c.loop-place.invariant.found) (c.requires.shut c.loop-place.place)

@@ -1,0 +1,67 @@
+-- What the private functions of a closing pass keep and answer.
+use Rattle.std.specs.Prelude.{◌≡◌, ◌⊎◌, ℕ, ◌<◌, ◌≤◌, ◌^◌, Bool, true, false, List, ◌++◌, length, remove, All, Some}
+use Rattle.std.specs.Prelude.{slice_get}
+use Rattle.pcb_model.specs.declared.item.Item.{Item}
+use Rattle.pcb_model.specs.declared.design.Design.{Design}
+use Rattle.pcb_model.specs.Sound.{IsSound, Serves}
+use Rattle.pcb_islands.specs.declared.net.Island.{Island}
+use Rattle.pcb_islands.specs.Islands.{AreIslands}
+use Rattle.route_lattice.specs.Mesh.{Mesh}
+use Rattle.route_lattice.specs.Fits.{FitsDesign}
+use Rattle.cut_certificate.specs.Cuts.{LeadsOn}
+use Rattle.pcb_board.specs.Boards.{BoardOf, SnapOf}
+use Rattle.closing_pass.specs.Closing.{Closes}
+
+-- the lattice fits the design of the board, and the price of a via is small
+pub record CanClose (m : Mesh) (via_cost : ℕ) (d : Design) : Type 0 where
+  pub fits : FitsDesign d m
+  pub small_cost : via_cost ≤ 2 ^ 30
+
+-- a snapshot's items and design, as islands and cuts ask for them
+pub record CanCut (d : Design) (m : Mesh) (via_cost : ℕ) (s : SnapOf) : Type 0 where
+  pub sound : IsSound d
+  pub fits : FitsDesign d m
+  pub small_cost : via_cost ≤ 2 ^ 30
+  pub own : s.design ≡ d
+  pub serves : Serves s.items d
+
+-- no legal walk leads from the island at a place to another
+abbrev pub IsShutAt : Design → Mesh → ℕ → List Item → List Island → ℕ → Type 0
+IsShutAt d m via_cost items found place =
+    (island : Island) → slice_get found place ≡ Some island → ¬ (LeadsOn d m items via_cost island (remove found place))
+
+-- the island at the place was joined; or no legal walk leads on from it, and the board stays
+abbrev pub Tries : Mesh → ℕ → ℕ → List Island → BoardOf → BoardOf → Bool → Type 0
+Tries m via_cost place found old new true = Unit {0}
+Tries m via_cost place found old new false = IsShutAt old.design m via_cost old.items found place × (new ≡ old)
+
+-- some island was joined, or none leads on and the board stays
+abbrev pub TriesSome : Mesh → ℕ → List Island → BoardOf → BoardOf → Bool → Type 0
+TriesSome m via_cost found old new true = Unit {0}
+TriesSome m via_cost found old new false = ((place : ℕ) → IsShutAt old.design m via_cost old.items found place) ×
+    (new ≡ old)
+
+-- the islands of the net are fewer
+pub record HasFewer (net : ℕ) (b : BoardOf) (found : List Island) : Type 0 where
+  pub fewer : (later : List Island) → AreIslands b.design b.items net later → length later < length found
+
+-- the board has further items of the net, and the same design
+pub record GrowsBy (net : ℕ) (old new : BoardOf) : Type 0 where
+  pub design_stays : new.design ≡ old.design
+  pub added : List Item
+  pub items_are : new.items ≡ old.items ++ added
+  pub own : All (λ (b : Item). b.net ≡ Some net) added
+
+-- the board has further joins of the closing pass, all of the net
+pub record JoinsNet (m : Mesh) (via_cost net : ℕ) (old new : BoardOf) : Type 0 where
+  pub closes : Closes m via_cost old new
+  pub grows : GrowsBy net old new
+
+-- the net has at most one island, or no legal walk leads from any of them to another
+pub record IsClosedOn (d : Design) (m : Mesh) (via_cost : ℕ) (items : List Item) (net : ℕ) : Type 0 where
+  pub found : List Island
+  pub islands : AreIslands d items net found
+  pub shut : (length found ≤ 1) ⊎ ((place : ℕ) → IsShutAt d m via_cost items found place)
+
+abbrev pub IsClosed : Mesh → ℕ → BoardOf → ℕ → Type 0
+IsClosed m via_cost b net = IsClosedOn b.design m via_cost b.items net

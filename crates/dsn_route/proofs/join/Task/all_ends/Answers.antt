@@ -1,6 +1,0 @@
-use Rattle.dsn_route.proofs.Running.{ends_more}
-use Rattle.dsn_route.proofs.join.Task.all_ends.Goals as goal
-
-pub loop-net-preserved : goal.loop-net-preserved
-loop-net-preserved c =
-    ends_more c.args.self.now.d.now c.args.self.now.lat.now c.args.self.now.via_cost c.args.copper.now c.loop-net.net c.loop-net.ends c.push.new.self c.in_ok-cuts.cuts c.loop-net.invariant c.in_ok-cuts.ensures c.in_ok-push.ensures.ok

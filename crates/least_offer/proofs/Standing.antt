@@ -1,0 +1,697 @@
+-- A least offer is well formed, and there is no trouble at any id.
+use Rattle.std.proofs.Common.{◌≡◌, ◌≢◌, ℕ, zero, suc, ◌+◌, ◌<◌, ◌≤◌, ◌==◌, eq-eqb, Bool, true, false, true≢false, List, [], ◌∷◌, ◌++◌, map, length, get_or, Option, Some, None, refl, sym, ap, ◌∙◌, subst, arith, inl, inr, ◌⊎◌, All}
+use Rattle.std.specs.Prelude.{◌||◌, AllPairs, Any, Contains, slice_get, remove}
+use Rattle.std.specs.Option.{IsSomeAnd}
+use Rattle.std.proofs.lemmas.List.{append-nil}
+use Rattle.std.proofs.lemmas.List.Kept.{AllPairs-from_increasing}
+use Rattle.std.proofs.lemmas.List.Elements.{All-nil, All-cons, All-contains, Contains-get_or}
+use Rattle.pcb_model.specs.declared.item.Item.{Item}
+use Rattle.pcb_model.specs.declared.item.Metal.{Metal}
+use Rattle.pcb_model.specs.declared.design.Design.{Design}
+use Rattle.pcb_model.specs.Pairs.{Agrees, AreTouching}
+use Rattle.pcb_model.specs.Rules.{width_for}
+use Rattle.pcb_model.specs.Pieces.{pieces_of}
+use Rattle.pcb_model.specs.Plain.{ArePlain, IsPlainItem, IsPlainCopper}
+use Rattle.pcb_model.specs.Board.{IsLegal, AreJoined, AreInside}
+use Rattle.pcb_model.specs.Sound.{IsSound, Serves}
+use Rattle.pcb_model.specs.Copper.{Ascends}
+use Rattle.pcb_model.proofs.Symmetry.{touching_swapped}
+use Rattle.pcb_islands.specs.declared.net.Island.{Island}
+use Rattle.pcb_islands.specs.Islands.{AreIslands, HasItemAt}
+use Rattle.pcb_islands.proofs.Elements.{in_none, in_cons, look_at}
+use Rattle.pcb_islands.proofs.Others.{item_net}
+use Rattle.route_lattice.specs.declared.moves.Move.{Move}
+use Rattle.route_lattice.specs.declared.moves.Walk.{Walk}
+use Rattle.route_lattice.specs.Mesh.{Mesh, node_count}
+use Rattle.route_lattice.specs.Fits.{FitsDesign}
+use Rattle.route_lattice.specs.Walks.{IsWalk}
+use Rattle.route_lattice.specs.Legal.{IsLegalProbe, disc_at, legal_graph}
+use Rattle.path_wire.specs.Wires.{IsNetWalk, copper_of}
+use Rattle.path_wire.specs.Lays.{move_probes, walk_probes, laid_item, IsMetalInside, IsWellLaid}
+use Rattle.path_wire.specs.Joins.{Connect, last_node}
+use Rattle.path_wire.proofs.Hopping.{walk_of_net, walk_legal}
+use Rattle.path_wire.proofs.Agreeing.{walk_agrees, walk_inside}
+use Rattle.path_wire.proofs.Fitted.{walk_laid}
+use Rattle.path_wire.proofs.Joining.{walk_connects}
+use Rattle.path_wire.proofs.Touching.{metal_plain, anchored_touches, neighbours_touch}
+use Rattle.ripup.specs.Rips.{IsInWayOf, HasIdInWay, AreIdsInWay}
+use Rattle.ripup.proofs.Fixed.{fixed_held, fixed_known}
+use Rattle.board_offers.specs.declared.offer.Offer.{Offer}
+use Rattle.board_offers.specs.declared.offer.Shoved.{Shoved}
+use Rattle.board_offers.specs.Items.{is_on, without, added, replaced, replaced_from, new_items, shoved_ids, gone}
+use Rattle.pcb_board.specs.Boards.{BoardOf, given}
+use Rattle.board_offers.specs.Offers.{IsInTheWay, IsShovable, IsWellFormed, HasEnds, HasMetals, LeadsAcross, RipsInTheWay}
+use Rattle.board_offers.specs.Troubles.{wanted}
+use Rattle.pcb_board.specs.Answers.{known, IsClearOn}
+use Rattle.pcb_board.specs.Keeping.{IsBoard}
+use Rattle.board_offers.specs.Given.{IsGiven}
+use Rattle.pcb_model.specs.Board.{IsMade}
+use Rattle.board_offers.proofs.Lists.{named_in, in_named, HasItem}
+use Rattle.least_offer.specs.Least.{MayBeMade, cleared, walks_of, judged_on, JoinsLeast, TakesNothing, MakesWay, Chooses, IsLaidLeast, IsLeastOffer}
+use Rattle.least_offer.proofs.Resting.{unpriced_walk, on_fixed}
+use Rattle.least_offer.proofs.Metals.{IsRoute, routes}
+use Rattle.least_offer.specs.Least.{IsShoveOf, FitsFirst, AreShovesOf}
+use Rattle.least_offer.specs.Together.{StandsWith, StandTogether}
+use Rattle.shove.specs.Shoves as shove
+use Rattle.shove.specs.Shoves.{chain_of}
+use Rattle.shove.proofs.Shoving.{enough_points, chain_within}
+use Rattle.ripup.proofs.Passing.{same_key}
+use Rattle.board_offers.specs.Items.{reshaped, item_at}
+use Rattle.board_offers.specs.Items.{after_shoves}
+use Rattle.board_offers.proofs.Lists.{all_from, pairs_append}
+use Rattle.std.proofs.lemmas.Option.{get_or_from_slice_get}
+use Rattle.std.proofs.lemmas.List.Elements.{All-append}
+use Rattle.least_offer.proofs.Replacing.{zip_ids, zip_right, wire_same, chain_same, to_board, wire_within, left_id, right_id, all_replaced, pairs_replaced, shoved_or_not, either_way, same_some}
+use Rattle.least_offer.proofs.Adding.{all_added, added_agree, own_agree, added_inside, all_addable, leads_across, some_metal}
+
+-- ---- lists
+-- the place of an element that is left
+pub record HasOtherPlace {X : Type 0} (xs : List X) (i : ℕ) (y : X) : Type 0 where
+  pub place : ℕ
+  pub other : i ≢ place
+  pub there : slice_get xs place ≡ Some y
+
+pub other_place : {X : Type 0} (xs : List X) (i : ℕ) (y : X) → Contains (remove xs i) y → HasOtherPlace xs i y
+other_place [] zero y there = absurd (in_none y there)
+other_place [] (suc i) y there = absurd (in_none y there)
+other_place (x ∷ xs) zero y there = record {
+  place = suc there.0;
+  other = λ e. absurd
+      (omega (arith, e));
+  there = look_at xs y there;
+}
+other_place (x ∷ xs) (suc i) y there = elim (in_cons x y (remove xs i) there) [
+  | inl here ↦ record { place = zero; other = λ e. absurd (omega (arith, e)); there = ap (λ (z : _). Some z) here }
+  | inr later ↦ (let found = other_place xs i y later in record {
+    place = suc found.place;
+    other = λ e. found.other
+        (omega (arith, e));
+    there = found.there;
+  })
+]
+
+none_named : (items : List Item) → without [] items ≡ items
+none_named [] = refl
+none_named (a ∷ items) = ap (λ (xs : List Item). a ∷ xs) (none_named items)
+
+true_or_false : (b : Bool) → (b ≡ true) ⊎ (b ≡ false)
+true_or_false true = inl refl
+true_or_false false = inr refl
+
+some_and : {X : Type 0} (o : Option X) (x : X) (P : X → Type 0) → o ≡ Some x → P x → IsSomeAnd o P
+some_and o x P e p = subst (λ (q : Option _). IsSomeAnd q P) (sym e) p
+
+or_later : (a b : Bool) → b ≡ true → (a || b) ≡ true
+or_later true b e = refl
+or_later false b e = e
+
+on_board : (items : List Item) (a : Item) → Contains items a → is_on a.id items ≡ true
+on_board [] a (k, within, is) = absurd (omega (arith, within))
+on_board (x ∷ items) a (zero, within, is) = ap (λ (t : Bool). t || is_on a.id items)
+    (eq-eqb x.id a.id (ap (λ (y : Item). y.id) is))
+on_board (x ∷ items) a (suc k, within, is) = or_later (x.id == a.id) (is_on a.id items)
+    (on_board items a (k, omega (arith, within), is))
+
+-- the board without what an offer takes out, which is nothing
+pub uncleared : (b : BoardOf) (o : Offer) → TakesNothing o → cleared b o ≡ b.items
+uncleared b o takes =
+    (λ i. without (takes.no_rip i ++ map (λ (s : Shoved). s.id) (takes.no_shove i)) b.items ++ replaced_from b.design
+    (given b) (length (given b) + length o.add) (takes.no_shove i))
+    ∙ append-nil (without [] b.items) ∙ none_named b.items
+
+-- ---- the copper of a walk, against items of which each move's probe and the first disc agree with all
+pub record Stands (d : Design) (m : Mesh) (net : ℕ) (base : List Item) (nodes : List ℕ)
+    (moves : List Move) : Type 0 where
+  pub net_walk : IsNetWalk d m net nodes moves
+  pub agree : (id : ℕ) (x : Item) → Contains base x
+      → All (λ (a : Metal). Agrees d (laid_item d net id a) x) (copper_of d m net nodes moves)
+  pub inside : All (IsMetalInside d) (copper_of d m net nodes moves)
+
+pub stands : (d : Design) (m : Mesh) (net via_cost : ℕ) (base : List Item) (starts goals : List ℕ) (w : Walk) (v : ℕ)
+    (vs : List ℕ) → FitsDesign d m → All (λ x. x < node_count m) starts
+    → IsWalk (legal_graph d m base net via_cost) starts goals w → w.nodes ≡ v ∷ vs
+    → IsLegalProbe d base net (disc_at d m net v) → Stands d m net base w.nodes w.moves
+stands d m net via_cost base starts goals w v vs fits there walk nodes_are first =
+    let net_walk = walk_of_net d m base net via_cost starts goals w there walk in
+    let moves = walk_legal d m base net via_cost starts goals w walk in
+    let probes : All (IsLegalProbe d base net) (walk_probes d m net w.nodes w.moves) =
+    subst (λ (ns : List ℕ). All (IsLegalProbe d base net) (walk_probes d m net ns w.moves)) (sym nodes_are)
+    (All-cons (IsLegalProbe d base net) (disc_at d m net v) (move_probes d m net (v ∷ vs) w.moves) first
+    (subst (λ (ns : List ℕ). All (IsLegalProbe d base net) (move_probes d m net ns w.moves)) nodes_are moves)) in
+    record {
+      net_walk = net_walk;
+      agree = λ id x x_in. walk_agrees d m net id x fits w.nodes w.moves net_walk
+          (λ k p within. (probes k p within).agrees x x_in);
+      inside = walk_inside d m net w.nodes w.moves net_walk (λ k p within. (probes k p within).inside);
+    }
+
+pub joined_by : (m : Mesh) (via_cost : ℕ) (b : BoardOf) (o : Offer) → IsLeastOffer m via_cost b o
+    → IsLaidLeast m via_cost b o
+joined_by m via_cost b o l = record { found = l.found; islands = l.islands; place = l.place; island = l.island; island_is = l.island_is; joins = l.joins }
+
+module _ (m : Mesh) (via_cost : ℕ) (b : BoardOf) (o : Offer)
+    (own : (d : Design) (net i j : ℕ) (a c : Metal) → Agrees d (laid_item d net i a) (laid_item d net j c))
+    (fewer : (d : Design) (items later : List Item) (net : ℕ) (old found : List Island) → IsSound d → Serves items d
+    → Ascends items → ((x : Item) → Contains items x → Contains later x) → AreIslands d items net old
+    → AreIslands d later net found
+    → (i j : ℕ) (a c : Item) → Contains items a → Contains items c → HasItemAt old i a.id → HasItemAt old j c.id
+    → i ≢ j → ¬ (¬ (AreJoined later a c)) → length found < length old)
+    (board : IsBoard b) (up : Ascends b.items) (plain : IsPlainCopper b.design) (fits : FitsDesign b.design m)
+    (base : o.base ≤ length b.history) (worker : o.worker ≤ 16) (net_there : o.net < length b.design.nets) where
+  abbrev d : Design
+  d = b.design
+
+  -- ---- the board
+  legal : IsLegal d b.items
+  legal = subst (IsLegal d) board.replays (board.legal (length b.history) (omega arith))
+
+  given_at : (a : Item) → Contains b.items a → slice_get (given b) a.id ≡ Some a
+  given_at a there =
+      All-contains (λ (x : Item). slice_get (given b) x.id ≡ Some x) b.items a
+      (subst (λ (xs : List Item). All (λ (x : Item). slice_get (given b) x.id
+      ≡ Some x) xs) board.replays (board.from_given (length b.history) (omega arith))) there
+
+  is_given : (a : Item) → Contains b.items a → IsGiven d a.id a
+  is_given a there = board.given_are a.id a (given_at a there)
+
+  serves : Serves b.items d
+  serves = record {
+    design_fits = board.sound.fits;
+    fixed_there = legal.fixed_stay;
+    items_fit = λ k x within.
+        (is_given (get_or b.items k x) (Contains-get_or b.items k x within)).fits;
+  }
+
+  made_plain : (a : Item) → IsMade d a → IsPlainItem a
+  made_plain a h = record {
+    plain = λ n e. subst ArePlain (sym (ap (λ (x : Item). x.pieces) h.made))
+        (metal_plain d a.metal plain);
+  }
+
+  item_plain : (a : Item) → Contains b.items a → IsPlainItem a
+  item_plain a there = elim (true_or_false a.fixed) [
+    | inl fixed ↦ All-contains IsPlainItem d.fixed a plain.fixed
+        (fixed_known d b.items board.sound serves a there fixed)
+    | inr routed ↦ made_plain a ((is_given a there).made routed)
+  ]
+
+  -- a routed item that is made agrees with all items of its net that are laid
+  module _ (l : IsLaidLeast m via_cost b o) where
+    abbrev j : JoinsLeast m via_cost b o l.island (remove l.found l.place)
+    j = l.joins
+
+    abbrev others : List Island
+    others = remove l.found l.place
+
+    -- ---- the ends
+    from_at : HasItemAt l.found l.place o.from
+    from_at = record { island = l.island; there = l.island_is; has = j.from_anchored.asked }
+
+    to_place : HasOtherPlace l.found l.place j.other
+    to_place = other_place l.found l.place j.other j.other_there
+
+    to_at : HasItemAt l.found to_place.place o.to
+    to_at = record { island = j.other; there = to_place.there; has = j.to_anchored.asked }
+
+    at_id : (place : ℕ) (x y : ℕ) → x ≡ y → HasItemAt l.found place y → HasItemAt l.found place x
+    at_id place x y e h = subst (HasItemAt l.found place) (sym e) h
+
+    from_net : j.from_anchored.item.net ≡ Some o.net
+    from_net = item_net d b.items o.net l.place l.found j.from_anchored.item board.sound up l.islands j.from_anchored.there (at_id l.place j.from_anchored.item.id o.from j.from_anchored.id_is from_at)
+
+    to_net : j.to_anchored.item.net ≡ Some o.net
+    to_net = item_net d b.items o.net to_place.place l.found j.to_anchored.item board.sound up l.islands j.to_anchored.there (at_id to_place.place j.to_anchored.item.id o.to j.to_anchored.id_is to_at)
+
+    apart : o.from ≢ o.to
+    apart e =
+        let a = j.from_anchored.item in
+        let less = fewer d b.items b.items o.net l.found l.found board.sound serves up
+        (λ x h. h) l.islands l.islands l.place to_place.place a a j.from_anchored.there j.from_anchored.there
+        (at_id l.place a.id o.from j.from_anchored.id_is from_at)
+        (at_id to_place.place a.id o.to (j.from_anchored.id_is ∙ e) to_at) to_place.other
+        (λ none. none (record { chain = []; there = All-nil (Contains b.items); leads = refl })) in
+        absurd (omega arith)
+
+    given_from : slice_get (given b) o.from ≡ Some j.from_anchored.item
+    given_from = subst (λ (x : ℕ). slice_get (given b) x
+        ≡ Some j.from_anchored.item) j.from_anchored.id_is (given_at j.from_anchored.item j.from_anchored.there)
+
+    given_to : slice_get (given b) o.to ≡ Some j.to_anchored.item
+    given_to = subst (λ (x : ℕ). slice_get (given b) x
+        ≡ Some j.to_anchored.item) j.to_anchored.id_is (given_at j.to_anchored.item j.to_anchored.there)
+
+    ends_are : HasEnds (known b) o
+    ends_are = record {
+      net = net_there;
+      apart = apart;
+      from = some_and (slice_get (given b) o.from) j.from_anchored.item (λ (a : Item). a.net
+          ≡ Some o.net) given_from from_net;
+      to = some_and (slice_get (given b) o.to) j.to_anchored.item (λ (a : Item). a.net ≡ Some o.net) given_to to_net;
+    }
+
+    -- ---- what the walk lays
+    module _ (bases : List Item) (s : Stands d m o.net bases j.walk.nodes j.walk.moves) where
+      abbrev copper : List Metal
+      copper = copper_of d m o.net j.walk.nodes j.walk.moves
+
+      connects : Connect d m j.start o.add (last_node j.start j.rest)
+      connects =
+          subst (λ (ms : List Metal). Connect d m j.start ms (last_node j.start j.rest)) (sym (j.add_is
+          ∙ ap (λ (ns : List ℕ). copper_of d m o.net ns j.walk.moves) j.nodes_are))
+          (walk_connects d m o.net fits j.start j.rest j.walk.moves
+          (subst (λ (ns : List ℕ). IsNetWalk d m o.net ns j.walk.moves) j.nodes_are s.net_walk))
+
+      on_add : (P : Metal → Type 0) → All P copper → All P o.add
+      on_add P h = subst (λ (ms : List Metal). All P ms) (sym j.add_is) h
+
+      well : All (IsWellLaid d o.net 0) o.add
+      well = on_add (IsWellLaid d o.net 0)
+          (walk_laid d m o.net 0 board.sound fits net_there j.walk.nodes j.walk.moves s.net_walk)
+
+      across : LeadsAcross (known b) o
+      across = record {
+        from = j.from_anchored.item;
+        from_is = given_from;
+        to = j.to_anchored.item;
+        to_is = given_to;
+        leads = leads_across d m o.net
+            (λ id v a c. anchored_touches d m o.net id v a c board.sound plain)
+            (λ i k v a c. neighbours_touch d m o.net i k v a c board.sound plain)
+            touching_swapped (length (given b)) j.start
+            (last_node j.start j.rest) o.add j.from_anchored.item j.to_anchored.item connects
+            (λ k a within. (well k a within).laid) from_net
+            (item_plain j.from_anchored.item j.from_anchored.there) j.from_anchored.anchors
+            to_net (item_plain j.to_anchored.item j.to_anchored.there) j.to_anchored.anchors;
+      }
+
+      metals_are : HasMetals (known b) o
+      metals_are = record {
+        some = some_metal d m o.net
+            (λ id v a c. anchored_touches d m o.net id v a c board.sound plain)
+            (λ i k v a c. neighbours_touch d m o.net i k v a c board.sound plain) touching_swapped j.start
+            (last_node j.start j.rest) o.add connects;
+        each = all_addable d o.net o.add
+            (on_add (IsRoute (width_for d o.net)) (routes d m o.net j.walk.nodes j.walk.moves s.net_walk)) well;
+      }
+
+      -- ---- it shoves nothing
+      module _ (no_shove : o.shoves ≡ []) where
+        new_are : new_items d (given b) o ≡ added d (given b) o
+        new_are = ap (λ (ss : List Shoved). added d (given b) o ++ replaced_from d (given b)
+            (length (given b) + length o.add) ss) no_shove ∙ append-nil (added d (given b) o)
+
+        gone_are : gone o ≡ o.rip
+        gone_are = ap (λ (ss : List Shoved). o.rip ++ map (λ (s : Shoved). s.id) ss) no_shove ∙ append-nil o.rip
+
+        none_shoved : (P : Shoved → Type 0) → All P o.shoves
+        none_shoved P = subst (λ (ss : List Shoved). All P ss) (sym no_shove) (All-nil P)
+
+        formed : AllPairs (λ (x y : ℕ). x ≢ y) o.rip → RipsInTheWay (known b) o → IsWellFormed (known b) o
+        formed once rips = record {
+          timely = record { base = base; worker = worker };
+          ends = ends_are;
+          metals = metals_are;
+          across = across;
+          inside = record { each = added_inside d o.net (length (given b)) o.add (on_add (IsMetalInside d) s.inside) };
+          once = record {
+            one_kind = inr no_shove;
+            rip_once = once;
+            shove_once = subst
+                (λ (ss : List Shoved). AllPairs (λ (x y : ℕ). x ≢ y) (map (λ (s : Shoved). s.id) ss)) (sym no_shove)
+                (λ i k x before within. absurd (omega arith));
+          };
+          rips = rips;
+          shoves = record {
+            each = none_shoved (λ (t : Shoved). IsSomeAnd (slice_get (given b) t.id)
+                (IsShovable (known b) o t));
+          };
+          agree = record {
+            each = subst (AllPairs (Agrees d)) (sym new_are)
+                (added_agree d o.net (λ i k a c. own d o.net i k a c) (length (given b)) o.add);
+          };
+        }
+
+        clear : ((x : ℕ) → Contains o.rip x → HasItem b.items x)
+            → ((a : Item) → Contains b.items a → (Contains o.rip a.id → ⊥)
+            → All (λ (n : Item). Agrees d n a) (added d (given b) o)) → (x : ℕ) → IsClearOn b o x
+        clear on agree x = record {
+          there = λ named. elim (in_cons o.from x (o.to ∷ gone o) (named_in (wanted o) x named)) [
+            | inl is_from ↦ subst (λ (y : ℕ). is_on y b.items ≡ true) (j.from_anchored.id_is
+                ∙ is_from) (on_board b.items j.from_anchored.item j.from_anchored.there)
+            | inr later ↦ elim (in_cons o.to x (gone o) later) [
+              | inl is_to ↦ subst (λ (y : ℕ). is_on y b.items ≡ true) (j.to_anchored.id_is
+                  ∙ is_to) (on_board b.items j.to_anchored.item j.to_anchored.there)
+              | inr ripped ↦
+                  let h = on x (subst (λ (ids : List ℕ). Contains ids x) gone_are ripped) in
+                  subst (λ (y : ℕ). is_on y b.items ≡ true) h.id_is (on_board b.items h.item h.there)
+            ]
+          ];
+          agrees = λ a there is stays. subst (λ (ns : List Item). All (λ (n : Item). Agrees d n a) ns) (sym new_are)
+              (agree a there (λ ripped. true≢false (sym (in_named (gone o) x
+              (subst (λ (ids : List ℕ). Contains ids x) (sym gone_are) (subst (Contains o.rip) is ripped)))
+              ∙ stays)));
+          joined = λ a there is s s_in. absurd (in_none s (subst (λ (ss : List Shoved). Contains ss s) no_shove s_in));
+        }
+
+    -- ---- the walk itself
+    starts_there : All (λ x. x < node_count m) j.starts
+    starts_there = λ k x within. ((j.starts_are (get_or j.starts k x)).0 (Contains-get_or j.starts k x within)).there
+
+    same_head : (x y : ℕ) (xs ys : List ℕ) → (x ∷ xs) ≡ (y ∷ ys) → x ≡ y
+    same_head x y xs ys e = cc
+
+    module _ (penalty : Option ℕ) (penalty_is : o.penalty ≡ penalty) where
+      walk_by : IsWalk (walks_of m via_cost b o penalty) j.starts j.goals j.walk
+      walk_by = subst (λ (q : Option ℕ). IsWalk
+          (walks_of m via_cost b o q) j.starts j.goals j.walk) penalty_is j.least.walk
+
+    -- the disc at the first node
+    first_legal : (penalty : Option ℕ) → o.penalty ≡ penalty
+        → IsLegalProbe d (judged_on b o penalty) o.net (disc_at d m o.net j.start)
+    first_legal penalty penalty_is = by penalty penalty_is (walk_by penalty penalty_is)
+      where
+        by : (penalty : Option ℕ) → o.penalty ≡ penalty
+            → IsWalk (walks_of m via_cost b o penalty) j.starts j.goals j.walk
+            → IsLegalProbe d (judged_on b o penalty) o.net (disc_at d m o.net j.start)
+        by penalty e w =
+            let first : w.from ≡ j.start = same_head w.from j.start _ j.rest (sym w.nodes ∙ j.nodes_are) in
+            subst (λ (v : ℕ). IsLegalProbe d (judged_on b o penalty) o.net (disc_at d m o.net v)) first
+            (subst (λ (q : Option ℕ). IsLegalProbe d (judged_on b o q) o.net (disc_at d m o.net w.from)) e
+            ((j.starts_are w.from).0 w.starts_in).legal)
+
+    -- ---- nothing is taken out
+    module _ (none : o.penalty ≡ None) (takes : TakesNothing o) where
+      stands_whole : Stands d m o.net b.items j.walk.nodes j.walk.moves
+      stands_whole =
+          stands d m o.net via_cost b.items j.starts j.goals j.walk j.start j.rest fits starts_there
+          (subst (λ (xs : List Item). IsWalk (legal_graph d m xs o.net via_cost) j.starts j.goals j.walk)
+          (uncleared b o takes) (walk_by None none)) j.nodes_are
+          (subst (λ (xs : List Item). IsLegalProbe d xs o.net (disc_at d m o.net j.start)) (uncleared b o takes)
+          (first_legal None none))
+
+      pub may_take_nothing : MayBeMade b o
+      may_take_nothing =
+          let s = stands_whole in
+          let no_pair : AllPairs (λ (x y : ℕ). x ≢ y) o.rip = subst
+          (λ (ids : List ℕ). AllPairs (λ (x y : ℕ). x ≢ y) ids) (sym takes.no_rip)
+          (λ i k x before within. absurd (omega arith)) in
+          let none_ripped : (x : ℕ) → Contains o.rip x
+          → ⊥ = λ x there. in_none x (subst (λ (ids : List ℕ). Contains ids x) takes.no_rip there) in
+          record {
+            formed = formed b.items s takes.no_shove no_pair
+                (record {
+                  each = λ k x within. absurd (none_ripped (get_or o.rip k x)
+                      (Contains-get_or o.rip k x within));
+                });
+            clear = clear b.items s takes.no_shove (λ x there. absurd (none_ripped x there))
+                (λ a there stays. all_added d o.net (λ (n : Item). Agrees d n a) (length (given b)) o.add
+                (λ i. on_add b.items s (λ (x : Metal). Agrees d (laid_item d o.net i x) a) (s.agree i a there)));
+          }
+
+    -- ---- what is in the way is ripped
+    module _ (penalty : ℕ) (some : o.penalty ≡ Some penalty) where
+      on_fixed_items : Stands d m o.net d.fixed j.walk.nodes j.walk.moves
+      on_fixed_items =
+          let walk = walk_by (Some penalty) some in
+          let first = first_legal (Some penalty) some in
+          stands d m o.net via_cost d.fixed j.starts j.goals
+          (unpriced_walk d m b.items o.net via_cost penalty j.starts j.goals j.walk walk) j.start j.rest fits starts_there
+          (on_fixed d m b.items o.net via_cost penalty j.starts j.goals j.walk walk) j.nodes_are
+          (record {
+            agrees = λ x there. first.agrees x
+                (fixed_held d b.items board.sound serves x there);
+            inside = first.inside;
+          })
+
+      any_fails : {X : Type 0} (P : X → Type 0) (xs : List X) → All P xs → Any (λ (x : X). ¬ (P x)) xs → ⊥
+      any_fails P xs all (k, x, within, is, fails) = fails (subst P is (all k x within))
+
+      same_net : (x y : ℕ) → Some x ≡ Some y → x ≡ y
+      same_net x y e = cc
+
+      other_net : (a : Item) → Contains b.items a → IsInWayOf d (added d (given b) o) a → a.net ≢ Some o.net
+      other_net a there way e =
+          let made = (is_given a there).made way.routed in
+          let net_is : made.net ≡ o.net = same_net made.net o.net (sym (ap (λ (x : Item). x.net) made.made) ∙ e) in
+          let is : a ≡ laid_item d o.net a.id a.metal = made.made ∙ ap (λ (n : ℕ). laid_item d n a.id a.metal) net_is in
+          any_fails (λ (n : Item). Agrees d n a) (added d (given b) o)
+          (subst (λ (x : Item). All (λ (n : Item). Agrees d n x) (added d (given b) o)) (sym is)
+          (own_agree d o.net (λ i k a c. own d o.net i k a c) (length (given b)) a.id o.add a.metal))
+          way.clashes
+
+      module _ (ids : List ℕ) (in_way : AreIdsInWay d b.items (added d (given b) o) ids) (rips_are : o.rip
+          ≡ ids) (no_shove : o.shoves ≡ []) where
+        ripped : (x : ℕ) → Contains o.rip x → HasIdInWay d b.items (added d (given b) o) x
+        ripped x there = in_way.each x (subst (λ (xs : List ℕ). Contains xs x) rips_are there)
+
+        once : AllPairs (λ (x y : ℕ). x ≢ y) o.rip
+        once = subst (λ (xs : List ℕ). AllPairs (λ (x y : ℕ). x ≢ y) xs) (sym rips_are)
+            (λ i k x before within e. let lt = AllPairs-from_increasing ids in_way.ascend i k x before within in absurd (omega (arith, e, lt)))
+
+        rips_in_way : RipsInTheWay (known b) o
+        rips_in_way = record {
+          each = λ k x within.
+              let id = get_or o.rip k x in
+              let h = ripped id (Contains-get_or o.rip k x within) in
+              some_and (slice_get (given b) id) h.item (IsInTheWay (known b) o)
+              (subst (λ (y : ℕ). slice_get (given b) y ≡ Some h.item) h.id_is (given_at h.item h.there))
+              (record { routed = h.in_way.routed; other_net = other_net h.item h.there h.in_way; disagrees = h.in_way.clashes });
+        }
+
+        pub may_rip : MayBeMade b o
+        may_rip =
+            let s = on_fixed_items in
+            record {
+              formed = formed d.fixed s no_shove once rips_in_way;
+              clear = clear d.fixed s no_shove
+                  (λ x there. let h = ripped x there in record { item = h.item; there = h.there; id_is = h.id_is })
+                  (λ a there stays. elim (true_or_false a.fixed) [
+                    | inl fixed ↦ all_added d o.net (λ (n : Item). Agrees d n a) (length (given b)) o.add
+                        (λ i. on_add d.fixed s (λ (x : Metal). Agrees d (laid_item d o.net i x) a)
+                        (s.agree i a (fixed_known d b.items board.sound serves a there fixed)))
+                    | inr routed ↦ elim (in_way.whole a there routed) [
+                      | inl named ↦ absurd (stays (subst (λ (xs : List ℕ). Contains xs a.id) (sym rips_are) named))
+                      | inr agrees ↦ agrees
+                    ]
+                  ]);
+            }
+
+      -- ---- what is in the way is shoved
+      module _ (ids : List ℕ) (in_way : AreIdsInWay d b.items (added d (given b) o) ids)
+          (shoves_are : AreShovesOf d m b.items (added d (given b) o) ids o.shoves) (no_rip : o.rip
+          ≡ []) (together : StandTogether d b.items o.shoves) where
+        abbrev new : List Item
+        new = added d (given b) o
+
+        ids_are : shoved_ids o ≡ ids
+        ids_are = zip_ids d m b.items new ids o.shoves shoves_are
+
+        gone_shoved : gone o ≡ ids
+        gone_shoved = ap (λ (xs : List ℕ). xs ++ shoved_ids o) no_rip ∙ ids_are
+
+        -- a shove, its item, and what they are
+        record Shoves (s : Shoved) : Type 0 where
+          item : Item
+          there : Contains b.items item
+          id_is : item.id ≡ s.id
+          named : Contains ids s.id
+          way : IsInWayOf d new item
+          given_is : slice_get (given b) s.id ≡ Some item
+          first : FitsFirst d m b.items new item s.chain
+
+        shoves_at : (s : Shoved) → Contains o.shoves s → Shoves s
+        shoves_at s s_in =
+            let z = zip_right (IsShoveOf d m b.items new) ids o.shoves s shoves_are s_in in
+            let h = in_way.each z.left z.left_in in
+            let id_is : z.holds.item.id ≡ s.id = z.holds.item_is ∙ sym z.holds.id_is in
+            let same : h.item ≡ z.holds.item = same_key (λ
+            (x : Item). x.id) b.items h.item z.holds.item up h.there z.holds.there (h.id_is
+            ∙ sym z.holds.item_is) in
+            record {
+              item = z.holds.item;
+              there = z.holds.there;
+              id_is = id_is;
+              named = subst (Contains ids) (sym z.holds.id_is) z.left_in;
+              way = subst (IsInWayOf d new) same h.in_way;
+              given_is = subst (λ (x : ℕ). slice_get (given b) x
+                  ≡ Some z.holds.item) id_is (given_at z.holds.item z.holds.there);
+              first = z.holds.first;
+            }
+
+        item_is : (s : Shoved) → (h : Shoves s) → item_at (given b) s.id ≡ h.item
+        item_is s h = get_or_from_slice_get (given b) s.id h.item _ h.given_is
+
+        -- the replacement of a shoved item, under any id
+        new_of : (i : ℕ) (s : Shoved) → (h : Shoves s) → reshaped d i s.chain (item_at (given b) s.id)
+            ≡ shove.reshaped d i s.chain h.item
+        new_of i s h = ap (λ (a : Item). reshaped d i s.chain a) (item_is s h) ∙ sym (to_board d i s.chain h.item)
+
+        each_replaced : (P : Item → Type 0) → ((i : ℕ) (s : Shoved) → Contains o.shoves s → (h : Shoves s)
+            → P (shove.reshaped d i s.chain h.item)) → All P (replaced d (given b) o)
+        each_replaced P f = all_replaced d (given b) P (length (given b) + length o.add) o.shoves
+            (λ i s s_in. let h = shoves_at s s_in in subst P (sym (new_of i s h)) (f i s s_in h))
+
+        shovable : (s : Shoved) → Contains o.shoves s → (h : Shoves s) → IsShovable (known b) o s h.item
+        shovable s s_in h =
+            let fit = h.first.fits in
+            let chain = fit.shove.shoved in
+            record {
+              in_the_way = record { routed = h.way.routed; other_net = other_net h.item h.there h.way; disagrees = h.way.clashes };
+              wire = wire_same h.item.metal fit.wire;
+              points = enough_points m (chain_of h.item.metal) h.first.r h.first.up s.chain chain;
+              within = chain_within d m (chain_of h.item.metal) h.first.r h.first.up s.chain fits
+                  (wire_within h.item.metal (is_given h.item h.there).fits.metal_fits) chain;
+              inside = subst (λ (mt : Metal). AreInside d.bounds (pieces_of d mt))
+                  (chain_same s.chain h.item.metal) fit.shove.fits.inside;
+            }
+
+        replaced_pairs : AllPairs (Agrees d) (replaced d (given b) o)
+        replaced_pairs = pairs_replaced d (given b) (length (given b) + length o.add) o.shoves
+            (λ p q x before within i k.
+            let s = get_or o.shoves p x in
+            let t = get_or o.shoves q x in
+            let s_in : Contains o.shoves s = Contains-get_or o.shoves p x (omega arith) in
+            let t_in : Contains o.shoves t = Contains-get_or o.shoves q x within in
+            let f = shoves_at s s_in in
+            let g = shoves_at t t_in in
+            subst (λ (y : Item × Item). Agrees d y.0 y.1) (λ j. (sym (new_of i s f) j, sym (new_of k t g) j))
+            (right_id d (shove.reshaped d i s.chain f.item) g.item.id k g.item.net
+            (shove.with_chain t.chain g.item.metal)
+            (left_id d f.item.id i f.item.net (shove.with_chain s.chain f.item.metal)
+            (shove.reshaped d g.item.id t.chain g.item)
+            ((together p q x before within).agree f.item g.item f.there g.there f.id_is g.id_is))))
+
+        formed_shoves : IsWellFormed (known b) o
+        formed_shoves =
+            let st = on_fixed_items in
+            record {
+              timely = record { base = base; worker = worker };
+              ends = ends_are;
+              metals = metals_are d.fixed st;
+              across = across d.fixed st;
+              inside = record {
+                each = added_inside d o.net (length (given b)) o.add
+                    (on_add d.fixed st (IsMetalInside d) st.inside);
+              };
+              once = record {
+                one_kind = inl no_rip;
+                rip_once = subst (λ (xs : List ℕ). AllPairs (λ (x y : ℕ). x ≢ y) xs) (sym no_rip)
+                    (λ i k x before within. absurd (omega arith));
+                shove_once = subst (λ (xs : List ℕ). AllPairs (λ (x y : ℕ). x ≢ y) xs) (sym ids_are)
+                    (λ i k x before within e. let lt = AllPairs-from_increasing ids in_way.ascend i k x before within in absurd (omega (arith, e, lt)));
+              };
+              rips = record {
+                each = subst (λ (xs : List ℕ). All
+                    (λ x. IsSomeAnd (slice_get (given b) x) (IsInTheWay (known b) o)) xs) (sym no_rip) (All-nil _);
+              };
+              shoves = record {
+                each = all_from (λ (s : Shoved). IsSomeAnd (slice_get (given b) s.id)
+                    (IsShovable (known b) o s)) o.shoves (λ s s_in. let h = shoves_at s s_in in some_and
+                    (slice_get (given b) s.id) h.item (IsShovable (known b) o s) h.given_is (shovable s s_in h));
+              };
+              agree = record {
+                each = pairs_append (Agrees d) (added d (given b) o) (replaced d (given b) o)
+                    (added_agree d o.net (λ i k a c. own d o.net i k a c) (length (given b)) o.add) replaced_pairs
+                    (λ n n_in. each_replaced (Agrees d n) (λ i s s_in h. right_id d n h.item.id i h.item.net
+                    (shove.with_chain s.chain h.item.metal)
+                    (All-contains (λ (x : Item). Agrees d x (shove.reshaped d h.item.id s.chain h.item))
+                    (added d (given b) o) n h.first.fits.agrees n_in)));
+              };
+            }
+
+        -- an item that isn't shoved agrees with all new ones
+        agrees_new : (a : Item) → Contains b.items a → (Contains ids a.id → ⊥)
+            → All (λ (n : Item). Agrees d n a) (new_items d (given b) o)
+        agrees_new a there stays =
+            let st = on_fixed_items in
+            All-append (λ (n : Item). Agrees d n a) (added d (given b) o) (replaced d (given b) o)
+            (elim (true_or_false a.fixed) [
+              | inl fixed ↦ all_added d o.net (λ (n : Item). Agrees d n a) (length (given b)) o.add
+                  (λ i. on_add d.fixed st (λ (x : Metal). Agrees d (laid_item d o.net i x) a)
+                  (st.agree i a (fixed_known d b.items board.sound serves a there fixed)))
+              | inr routed ↦ elim (in_way.whole a there routed) [
+                | inl named ↦ absurd
+                    (stays named)
+                | inr agrees ↦ agrees
+              ]
+            ])
+            (each_replaced (λ (n : Item). Agrees d n a) (λ i s s_in h. left_id d h.item.id i h.item.net
+            (shove.with_chain s.chain h.item.metal) a
+            (h.first.fits.shove.fits.agrees a there (λ e. stays (subst (Contains ids) (sym h.id_is ∙ sym e) h.named)))))
+
+        touches_after : (a : Item) → Contains b.items a → (s : Shoved) → Contains o.shoves s → s.id ≢ a.id
+            → (old : Item) → slice_get (given b) s.id ≡ Some old → AreTouching old a
+            → AreTouching (after_shoves d o.shoves old) (after_shoves d o.shoves a)
+        touches_after a there s s_in apart_ids old old_is touch =
+            let h = shoves_at s s_in in
+            let same : h.item ≡ old = same_some h.item old (sym h.given_is ∙ old_is) in
+            let old_id : old.id ≡ s.id = ap (λ (x : Item). x.id) (sym same) ∙ h.id_is in
+            let old_in : Contains b.items old = subst (Contains b.items) same h.there in
+            elim (shoved_or_not d o.shoves old) [
+              | inr none ↦ absurd (none.others s s_in (sym old_id))
+              | inl t ↦
+                  let g = shoves_at t.by t.by_in in
+                  let g_is : g.item ≡ old = same_key (λ (x : Item). x.id) b.items g.item old up g.there old_in
+                  (g.id_is ∙ t.id_is) in
+                  elim (shoved_or_not d o.shoves a) [
+                    | inr stays ↦
+                        subst (λ (y : Item × Item). AreTouching y.0 y.1) (λ k. (
+                          (to_board d old.id t.by.chain old
+                              ∙ sym t.after) k,
+                          sym stays.after k,
+                        ))
+                        (subst (λ (x : Item). AreTouching (shove.reshaped d x.id t.by.chain x) a) g_is
+                        (g.first.fits.shove.fits.touches a there (λ e. apart_ids (sym old_id
+                        ∙ sym (e ∙ ap (λ (x : Item). x.id) g_is)))
+                        (subst (λ (x : Item). AreTouching x a) (sym g_is) touch)))
+                    | inl u ↦
+                        subst (λ (y : Item × Item). AreTouching y.0 y.1) (λ k. (
+                          (to_board d old.id t.by.chain old
+                              ∙ sym t.after) k,
+                          (to_board d a.id u.by.chain a ∙ sym u.after) k,
+                        ))
+                        (elim (either_way (StandsWith d b.items) o.shoves t.by u.by together t.by_in u.by_in
+                        (λ e. apart_ids (sym old_id ∙ sym t.id_is ∙ ap (λ (x : Shoved). x.id) e ∙ u.id_is))) [
+                          | inl tu ↦ tu.touch old a old_in there (sym t.id_is) (sym u.id_is) touch
+                          | inr ut ↦ touching_swapped _ _ (ut.touch a old there old_in (sym u.id_is) (sym t.id_is)
+                              (touching_swapped old a touch))
+                        ])
+                  ]
+            ]
+
+        pub may_shove : MayBeMade b o
+        may_shove = record {
+          formed = formed_shoves;
+          clear = λ x. record {
+            there = λ named. elim (in_cons o.from x (o.to ∷ gone o) (named_in (wanted o) x named)) [
+              | inl is_from ↦ subst (λ (y : ℕ). is_on y b.items ≡ true) (j.from_anchored.id_is
+                  ∙ is_from) (on_board b.items j.from_anchored.item j.from_anchored.there)
+              | inr later ↦ elim (in_cons o.to x (gone o) later) [
+                | inl is_to ↦ subst (λ (y : ℕ). is_on y b.items ≡ true) (j.to_anchored.id_is
+                    ∙ is_to) (on_board b.items j.to_anchored.item j.to_anchored.there)
+                | inr shoved ↦
+                    let h = in_way.each x (subst (λ (xs : List ℕ). Contains xs x) gone_shoved shoved) in
+                    subst (λ (y : ℕ). is_on y b.items ≡ true) h.id_is (on_board b.items h.item h.there)
+              ]
+            ];
+            agrees = λ a there is stays. agrees_new a there (λ named. true≢false
+                (sym (in_named (gone o) x (subst (λ (xs : List ℕ). Contains xs x) (sym gone_shoved)
+                (subst (Contains ids) is named))) ∙ stays));
+            joined = λ a there is s s_in apart_id old old_is touch. touches_after a there s s_in (λ e. apart_id (e
+                ∙ is)) old old_is touch;
+          };
+        }
+
+  -- ---- any least offer
+  pub may_be_made : (l : IsLeastOffer m via_cost b o) → (o.penalty ≡ None → TakesNothing o) → MayBeMade b o
+  may_be_made l takes = by o.penalty refl
+    where
+      by : (q : Option ℕ) → o.penalty ≡ q → MayBeMade b o
+      by None e = may_take_nothing (joined_by m via_cost b o l) e (takes e)
+      by (Some penalty) e =
+          let way : MakesWay m b o = subst (Chooses m b o) e l.chooses in
+          elim way.chosen [
+            | inl shoves ↦ shoves.may
+            | inr rips ↦ may_rip
+                (joined_by m via_cost b o l) penalty e way.ids way.in_way rips.rips_are rips.no_shove
+          ]

@@ -1,0 +1,6 @@
+pub mod Resting
+pub mod Offering
+pub mod Anchoring
+pub mod Routing
+pub mod Planning
+pub mod Clearing

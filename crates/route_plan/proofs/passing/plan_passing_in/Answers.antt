@@ -1,0 +1,33 @@
+use Rattle.std.proofs.Common.{◌<◌, length, Some, subst, arith}
+use Rattle.route_plan.specs.Plans.{FindsPassing}
+use Rattle.route_plan.proofs.Clearing.{passing_first, shut_first}
+use Rattle.route_plan.proofs.passing.plan_passing_in.Goals as goal
+
+pub returns-in-Shut-clause-plan : goal.returns-in-Shut-clause-plan
+returns-in-Shut-clause-plan c = λ b of.
+    let d = c.args.d.now in
+    let m = c.args.lat.now in
+    let s = c.args.snap.now in
+    let island = c.remove-island.result in
+    let others = c.remove-island.new.self in
+    let many : 1 < length c.in_ok-others.others = omega (arith, c.if-len-le1.false, c.len.ensures) in
+    shut_first d m s c.args.net c.args.via_cost b (Some c.args.penalty) c.in_ok-others.others others island
+    c.in-Shut.reach.nodes c.requires.can_plan of c.in_ok-others.ensures
+    c.remove-island.ensures.value c.remove-island.ensures.rest many
+    (subst (FindsPassing d m s c.args.via_cost c.args.worker c.args.penalty island others) c.in-Shut.is
+    c.in_ok-reach.ensures.finds)
+
+pub returns-clause-plan : goal.returns-clause-plan
+returns-clause-plan c = λ b of.
+    let d = c.args.d.now in
+    let m = c.args.lat.now in
+    let s = c.args.snap.now in
+    let island = c.remove-island.result in
+    let others = c.remove-island.new.self in
+    passing_first d m s c.args.net c.args.via_cost b c.args.worker c.args.penalty c.in_ok-others.others others island
+    c.in-Offer.offer c.requires.can_plan of c.in_order.ensures.ascends
+    c.requires.worker c.in_ok-others.ensures c.remove-island.ensures.value c.remove-island.ensures.rest
+    (subst (FindsPassing d m s c.args.via_cost c.args.worker c.args.penalty island others) c.in-Offer.is
+    c.in_ok-reach.ensures.finds)
+    c.least_offers_may_be_made.ensures c.shoves_may_be_made.ensures c.made_shoves_stand_together.ensures
+    c.shoves_are_one.ensures.in_way c.shoves_are_one.ensures.alike

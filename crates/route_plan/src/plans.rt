@@ -1,0 +1,131 @@
+//! A plan of a net on a snapshot: a least walk from its first island to another, and what makes way for it.
+//! A plan takes no turn: what it reads stays as it is while the board goes on.
+
+ghost use Rattle.std.specs.Prelude.{◌≡◌, ◌≤◌, ◌<◌, ℕ, None, Some, IfOk};
+ghost use Rattle.route_lattice.specs.Mesh.{node_count};
+ghost use Rattle.pcb_board.specs.Boards.{BoardOf};
+ghost use Rattle.route_plan.specs.Plans.{IsSnapOf, CanPlan, IsBareOffer, Plans, StandsAt, LeadsFrom};
+
+use crate::route::{Route, Routed, Task};
+use geo_kernel::List;
+use least_offer::least_offers_may_be_made;
+use pcb_board::{Offer, Snap};
+use pcb_islands::{Island, islands};
+use pcb_model::{Copper, Design};
+use route_lattice::{Lattice, Reach};
+use std::alloc::{AllocError, Global};
+use wave_search::Search;
+
+/// What a plan answers: an offer; all that moves reach from the first island, where no walk leads from it to another;
+/// or that the net has at most one island.
+#[derive(Debug, Drop)]
+pub enum Planned {
+    Offer(Offer),
+    Shut(Reach),
+    Whole,
+}
+
+/// The offer of a route, which takes nothing out.
+fn bare_offer(
+    alloc: Global,
+    base: u64,
+    worker: u32,
+    net: u32,
+    penalty: Option<u64>,
+    route: Route,
+) -> Offer
+    ensures { IsBareOffer base worker net penalty route result }
+{
+    Offer {
+        base,
+        worker,
+        net,
+        from: route.from,
+        to: route.to,
+        penalty,
+        add: route.metals,
+        rip: List::new(alloc),
+        shoves: List::new(alloc),
+    }
+}
+
+/// A least offer, or all that legal moves reach where no walk leads on.
+#[derive(Debug, Drop)]
+pub enum Led {
+    Offer(Offer),
+    Shut(Reach),
+}
+
+/// What a worker offers to join an island of a net to one of the others by legal moves alone, on a snapshot of a
+/// board of the
+/// design, with memory for searches; or all that legal moves reach from the island, where no walk leads on.
+pub fn offer_from(
+    alloc: Global,
+    search: &mut Search,
+    lat: &Lattice,
+    d: &Design,
+    snap: &Snap,
+    via_cost: u64,
+    worker: u32,
+    island: &Island,
+    others: &List<Island>,
+) -> Result<Led, AllocError>
+    requires can_plan { CanPlan d.now lat.now snap.now island.now.net via_cost None }
+    requires worker { worker ≤ 16 }
+    requires size { search.old ≡ node_count lat.now }
+    ensures leads { IfOk result (λ r. (b : BoardOf) (place : ℕ) → IsSnapOf snap.now b
+        → StandsAt b.design b.items island.now.net place island.now others.now → (worker < 16 → place ≡ 0)
+        → LeadsFrom lat.now via_cost b worker island.now others.now r) }
+    ensures size { search.new ≡ search.old }
+{
+    snap.in_order();
+    least_offers_may_be_made();
+    let net = island.net;
+    let task = Task {
+        lat,
+        d,
+        snap,
+        net,
+        via_cost,
+        penalty: None,
+    };
+    match task.route(alloc, search, island, others)? {
+        Routed::Shut(reach) => Ok(Led::Shut(reach)),
+        Routed::Route(route) => {
+            let offer = bare_offer(alloc, snap.number(), worker, net, None, route);
+            Ok(Led::Offer(offer))
+        }
+    }
+}
+
+/// What a worker offers for a net on a snapshot of a board of the design by legal moves alone, with memory for
+/// searches.
+pub fn plan_legal_in(
+    alloc: Global,
+    search: &mut Search,
+    lat: &Lattice,
+    d: &Design,
+    snap: &Snap,
+    via_cost: u64,
+    worker: u32,
+    net: u32,
+) -> Result<Planned, AllocError>
+    requires can_plan { CanPlan d.now lat.now snap.now net via_cost None }
+    requires worker { worker ≤ 16 }
+    requires size { search.old ≡ node_count lat.now }
+    ensures plan { IfOk result (λ p. (b : BoardOf) → IsSnapOf snap.now b → Plans lat.now via_cost b worker net None p) }
+    ensures size { search.new ≡ search.old }
+{
+    snap.in_order();
+    let mut others = islands(alloc, d, snap, net)?;
+    if others.len() <= 1 {
+        return Ok(Planned::Whole);
+    }
+    let island = others.remove(0);
+    match offer_from(
+        alloc, search, lat, d, snap, via_cost, worker, &island, &others,
+    )? {
+        Led::Shut(reach) => Ok(Planned::Shut(reach)),
+        Led::Offer(offer) => Ok(Planned::Offer(offer)),
+    }
+}

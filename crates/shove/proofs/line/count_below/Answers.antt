@@ -1,0 +1,19 @@
+use Rattle.std.proofs.Common.{ℤ, int_lt, pos, arith, rules}
+use Rattle.std.proofs.lemmas.List.Sorted.{IsPartitionPoint-from_clause}
+use Rattle.route_lattice.proofs.Between.{parted_below, passes_lt}
+use Rattle.shove.proofs.Lining.{fails_lt}
+use Rattle.shove.proofs.line.count_below.Goals as goal
+
+pub returns-clause-below : goal.returns-clause-below
+returns-clause-below c =
+    let point = IsPartitionPoint-from_clause (λ
+    (z : ℤ). int_lt z c.args.at) c.args.lines.now c.partition_point.result c.partition_point.ensures.partitioned
+    (parted_below c.args.lines.now c.args.at c.requires) (λ a r q k. search rules) in
+    λ k h. passes_lt _ c.args.at (point.0 k (pos 0) (omega arith) h)
+
+pub returns-clause-from : goal.returns-clause-from
+returns-clause-from c =
+    let point = IsPartitionPoint-from_clause (λ
+    (z : ℤ). int_lt z c.args.at) c.args.lines.now c.partition_point.result c.partition_point.ensures.partitioned
+    (parted_below c.args.lines.now c.args.at c.requires) (λ a r q k. search rules) in
+    λ k h l. fails_lt _ c.args.at (point.1 k (pos 0) h l)

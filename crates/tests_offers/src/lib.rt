@@ -1,0 +1,10 @@
+//! The tests of boards and of the offers to them: what is answered, and what stands afterwards.
+//! They stand over public calls in a crate of their own, so that the crates below are proved without them.
+#![tactic(auto)]
+
+#[cfg(test)]
+mod answers;
+#[cfg(test)]
+mod board;
+#[cfg(test)]
+mod refusals;

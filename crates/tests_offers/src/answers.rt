@@ -84,6 +84,20 @@ fn is_copied(alloc: Global, board: &Board) -> bool {
     }
 }
 
+/// It takes what can be sent to another thread, and nothing else.
+fn needs_send<T: Send>(_value: &T) {}
+
+/// Whether a board gives a snapshot of so many entries, which can be sent.
+fn has_snap(board: &Board, number: u64) -> bool {
+    match board.snap() {
+        Ok(snap) => {
+            needs_send(&snap);
+            snap.number() == number
+        }
+        Err(_) => false,
+    }
+}
+
 /// A board with the second net's wire, laid over that of the first net: two entries.
 fn crossed(alloc: Global) -> Option<Board> {
     let (mut board, _) = start(alloc, CROSS, CAP)?;
@@ -103,6 +117,7 @@ fn a_board_goes_back_and_is_copied(rt: HostRuntime) {
     assert!(rt; goes_back(alloc, &mut board, 0, &[0, 1, 2, 3, 4]));
     assert!(rt; has_no_ninth(alloc, &mut board));
     assert!(rt; is_copied(alloc, &board));
+    assert!(rt; has_snap(&board, 3));
     assert!(rt; goes_back(alloc, &mut board, 1, &[0, 1, 2, 3, 4, 5]));
     assert!(rt; is_stale(&mut board, across(alloc, 1), 5, 4));
 }

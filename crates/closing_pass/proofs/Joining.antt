@@ -189,7 +189,7 @@ joins_one worker m via_cost b o net kept of takes = record {
           let at : board_at (joined b o) p.base ≡ b =
           ap (λ (k : ℕ). board_at (joined b o) k) base ∙ (joined_before b o (length b.history) (omega arith) ∙
           board_whole b kept) in (
-            omega (arith, base, le),
+            base ∙ sym here.0,
             subst (λ (x : BoardOf). IsLeastOffer m via_cost x p) (sym at)
                 (subst (IsLeastOffer m via_cost b) same of.least),
           )

@@ -20,10 +20,10 @@ abbrev pub IsBareJoin : ℕ → Entry → Type 0
 IsBareJoin worker (Join o first after) = (o.worker ≡ worker) × (o.penalty ≡ None) × TakesNothing o
 IsBareJoin worker (Back to) = ⊥
 
--- entry n + 1, if it is a join, was a least offer on the board after its base, which is an earlier one
+-- entry n + 1, if it is a join, is a least offer on the board after the n entries before it, which are its base
 pub record IsLeastAt (m : Mesh) (via_cost : ℕ) (b : BoardOf) (n : ℕ) : Type 0 where
   pub each : (o : Offer) (first after : ℕ) → slice_get b.history n ≡ Some (Join o first after)
-      → (o.base ≤ n) × IsLeastOffer m via_cost (board_at b o.base) o
+      → (o.base ≡ n) × IsLeastOffer m via_cost (board_at b o.base) o
 
 -- the new board is the old one with such joins of the worker behind its history, each of them a least offer
 pub record JoinsBy (worker : ℕ) (m : Mesh) (via_cost : ℕ) (old new : BoardOf) : Type 0 where

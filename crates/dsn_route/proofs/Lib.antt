@@ -1,6 +1,7 @@
 mod Ended
 mod Later
-mod Elements
 mod OneText
 mod Unread
 mod Dues
+mod Written
+mod Wording

@@ -13,7 +13,9 @@ module _ (one : OneOutcome) (text : List ℕ) where
   one_design d e a b = one.designs text d e a b
 
   pub one_lack : (r s : Refusal) → LacksDesign text r → LacksDesign text s → r ≡ s
-  one_lack r s (inl a) (inl b) = one_refusal r s (tree_refusal a.fault) a.refusal (ap tree_refusal (one.faults text a.fault b.fault a.has b.has) ∙ b.refusal)
+  one_lack r s (inl a) (inl b) =
+      one_refusal r s (tree_refusal a.fault) a.refusal (ap tree_refusal
+      (one.faults text a.fault b.fault a.has b.has) ∙ b.refusal)
   one_lack r s (inl a) (inr b) = absurd (one.apart text a.fault s a.has b)
   one_lack r s (inr a) (inl b) = absurd (one.apart text b.fault r b.has a)
   one_lack r s (inr a) (inr b) = one.refusals text r s a b

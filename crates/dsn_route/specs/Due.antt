@@ -8,22 +8,35 @@ use Rattle.dsn_shapes.specs.declared.refusal.What.{What}
 use Rattle.route_lattice.specs.Mesh.{node_count}
 use Rattle.dsn_route.specs.declared.status.Status.{Status}
 use Rattle.dsn_route.specs.declared.status.Status.TheVariants.{Complete, SomeOpen, ReadFault, WriteFault, Memory}
-use Rattle.dsn_route.specs.declared.words.WordFault.{WordFault}
-use Rattle.dsn_route.specs.Words.{Command}
+use Rattle.route_words.specs.declared.command.Command.{Command}
+use Rattle.route_words.specs.declared.command.Command.TheVariants.{Route}
+use Rattle.route_words.specs.declared.command.Knobs.{Knobs}
+use Rattle.route_words.specs.declared.command.WordFault.{WordFault}
 use Rattle.dsn_route.specs.Texts.{IsRefused, IsOverLimit}
-use Rattle.dsn_route.specs.Answers.{max_bytes, mesh_of}
+use Rattle.dsn_route.specs.Lines.{max_bytes}
+use Rattle.dsn_route.specs.Commands.{mesh_of, IsToldText}
 
--- accepted words name an input that the desk tells to be absent
-pub record IsMissing (command : Result Command WordFault) (desk : DeskState) : Type 0 where
-  pub asked : Command
-  pub accepted : command ≡ Ok asked
-  pub absent : IsAbsent desk.files asked.input
+-- accepted words name an input, of which P holds
+pub record Names (P : List ℕ → Type 0) (command : Result Command WordFault) : Type 0 where
+  pub input : List ℕ
+  pub output : List ℕ
+  pub knobs : Knobs
+  pub accepted : command ≡ Ok (Route input output knobs)
+  pub holds : P input
 
--- accepted words name an input of which the desk tells this text
+-- the desk tells that it is absent
+abbrev pub IsMissing : Result Command WordFault → DeskState → Type 0
+IsMissing command desk = Names (λ input. IsAbsent desk.files input) command
+
+-- the desk tells this text of it
+abbrev pub IsHeldInput : Result Command WordFault → DeskState → List ℕ → Type 0
+IsHeldInput command desk text = Names (λ input. IsHeld desk.files input text) command
+
+-- accepted words ask for a design whose text is this, as is told at entry
 pub record IsRead (command : Result Command WordFault) (desk : DeskState) (text : List ℕ) : Type 0 where
   pub asked : Command
   pub accepted : command ≡ Ok asked
-  pub held : IsHeld desk.files asked.input text
+  pub told : IsToldText asked desk text
 
 -- the text is longer than the limit
 abbrev pub IsLong : List ℕ → Type 0
@@ -43,7 +56,8 @@ pub record IsOver (text : List ℕ) : Type 0 where
   pub limit : ℕ
   pub over : IsOverLimit text what limit
 
--- the text is within the limit, and has a design on whose lattice, at the grid that is asked for, P holds of the number of nodes
+-- the text is within the limit, and has a design on whose lattice, at the grid that is asked for, P holds of the
+-- number of nodes
 pub record IsFit (P : ℕ → Type 0) (command : Result Command WordFault) (text : List ℕ) : Type 0 where
   pub asked : Command
   pub accepted : command ≡ Ok asked
@@ -73,7 +87,8 @@ IsDueAfterRead due status = IsDue due status
 
 -- no call of the desk or the sink failed: both are calm, or neither count rose
 abbrev pub HasNoFault : DeskState → DeskState → SinkState → SinkState → Type 0
-HasNoFault desk later sink after = (IsTrue desk.calm × IsTrue sink.calm) ⊎ ((Rose desk.faults later.faults → ⊥) × (Rose sink.faults after.faults → ⊥))
+HasNoFault desk later sink after = (IsTrue desk.calm × IsTrue sink.calm) ⊎ ((Rose desk.faults later.faults
+    → ⊥) × (Rose sink.faults after.faults → ⊥))
 
 -- the answers of a call that routed, and want of memory
 abbrev pub IsDone : Status → Type 0

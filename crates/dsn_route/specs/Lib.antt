@@ -1,7 +1,7 @@
-pub mod Words
+pub mod Lines
 pub mod Status
 pub mod Texts
-pub mod Report
+pub mod Commands
 pub mod Answers
 pub mod Due
 pub mod Said

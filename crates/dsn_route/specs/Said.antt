@@ -1,38 +1,35 @@
 -- What the parts of the top call answer.
-use Rattle.std.specs.Prelude.{◌≡◌, ◌≤◌, ◌^◌, ◌⊎◌, List, All, Any, IsTrue, Result, Ok, Err, ℕ, ◌==◌, if◌then◌else◌}
+use Rattle.std.specs.Prelude.{◌≡◌, ◌≢◌, ◌≤◌, ◌^◌, List, [], Result, MatchOption, ℕ, ◌==◌, if◌then◌else◌}
 use Rattle.desk_io.specs.States.{DeskState, SinkState}
 use Rattle.desk_io.specs.Answers.{PutGives}
 use Rattle.desk_io.specs.declared.desk.SinkFail.{SinkFail}
-use Rattle.pcb_model.specs.declared.item.Item.{Item}
 use Rattle.pcb_model.specs.declared.design.Design.{Design}
 use Rattle.dsn_shapes.specs.declared.refusal.Refusal.{Refusal}
 use Rattle.route_lattice.specs.Mesh.{node_count}
 use Rattle.cut_certificate.specs.declared.cut.Cut.{Cut}
+use Rattle.route_words.specs.declared.command.Command.{Command}
+use Rattle.route_words.specs.declared.command.Command.TheVariants.{Route, Gen}
+use Rattle.route_run.specs.declared.run.Routed.{Routed}
+use Rattle.route_run.specs.Runs.{IsRun}
 use Rattle.dsn_route.specs.declared.status.Status.{Status}
 use Rattle.dsn_route.specs.declared.status.Status.TheVariants.{Complete, SomeOpen, Refused, Memory, Limit}
-use Rattle.dsn_route.specs.declared.words.Asked.{Asked}
-use Rattle.dsn_route.specs.declared.words.WordFault.{WordFault}
-use Rattle.dsn_route.specs.Words.{Command}
-use Rattle.dsn_route.specs.Report.{is_complete, is_open}
-use Rattle.pcb_board.specs.Boards.{BoardOf}
-use Rattle.route_run.specs.Runs.{IsRun}
+use Rattle.dsn_route.specs.declared.outcome.Outcome.{Outcome}
+use Rattle.dsn_route.specs.Lines.{refused_line, over_line}
 use Rattle.dsn_route.specs.Status.{ended_of}
 use Rattle.dsn_route.specs.Texts.{limit_number}
-use Rattle.dsn_route.specs.Answers.{via_price, mesh_of, refused_line, over_line, Leaves}
+use Rattle.dsn_route.specs.Commands.{mesh_of, run_of}
+use Rattle.dsn_route.specs.Answers.{Leaves}
 
--- what is asked, without where it lies in memory
-abbrev pub command_from : Asked → Command
-command_from asked = record { input = asked.input.now; output = asked.output.now; grid = asked.grid }
+-- the command reads the file of this name
+abbrev pub IsInputOf : Command → List ℕ → Type 0
+IsInputOf (Route input output knobs) name = name ≡ input
+IsInputOf (Gen n) name = ⊥
 
-abbrev pub WordsGive : Result Command WordFault → Result Asked WordFault → Type 0
-WordsGive command (Ok asked) = command ≡ Ok (command_from asked)
-WordsGive command (Err fault) = command ≡ Err fault
-
--- every net is complete, or some isn't
-abbrev pub IsVerdict : List (List Cut) → Status → Type 0
-IsVerdict ends Complete = All (λ cuts. IsTrue (is_complete cuts)) ends
-IsVerdict ends SomeOpen = Any (λ cuts. IsTrue (is_open cuts)) ends
-IsVerdict ends status = ⊥
+-- there is no cut, or there is one
+abbrev pub IsVerdict : List Cut → Status → Type 0
+IsVerdict cuts Complete = cuts ≡ []
+IsVerdict cuts SomeOpen = cuts ≢ []
+IsVerdict cuts status = ⊥
 
 -- a call ended with the put of this line, with this status where nothing failed
 pub record EndsBy (line : List ℕ) (due : Status) (sink after : SinkState) (status : Status) : Type 0 where
@@ -55,12 +52,12 @@ pub record IsLeft (desk later : DeskState) (sink after : SinkState) (status : St
   pub bytes : after.bytes ≡ sink.bytes
 
 -- there is a run of the design, and this is what it left
-pub record IsOut (command : Command) (d : Design) (desk later : DeskState) (sink after : SinkState) (status : Status) : Type 0 where
-  pub board : BoardOf
-  pub ends : List (List Cut)
+pub record IsOut (command : Command) (d : Design) (desk later : DeskState) (sink after : SinkState) (status : Status)
+    (routed : Routed) : Type 0 where
   pub few : node_count (mesh_of command d) ≤ 2 ^ 24
-  pub run : IsRun d (mesh_of command d) via_price board ends
-  pub leaves : Leaves command d board.items ends desk later sink after status
+  pub run : IsRun d (mesh_of command d) (run_of command) routed.board routed.facts
+  pub leaves : Leaves command routed.board routed.facts desk later sink after status
 
-abbrev pub RoutesDesign : Command → Design → DeskState → DeskState → SinkState → SinkState → Status → Type 0
-RoutesDesign command d desk later sink after status = IsLeft desk later sink after status ⊎ IsOut command d desk later sink after status
+abbrev pub RoutesDesign : Command → Design → DeskState → DeskState → SinkState → SinkState → Outcome → Type 0
+RoutesDesign command d desk later sink after o = MatchOption o.routed (IsLeft desk later sink after o.status)
+    (IsOut command d desk later sink after o.status)

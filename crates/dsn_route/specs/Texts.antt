@@ -1,11 +1,11 @@
 -- What a text without a design is: a text that is refused, or one that passes a limit.
-use Rattle.std.specs.Prelude.{◌≡◌, ◌≢◌, ◌⊎◌, ℕ, List, Option, None, Some, codes}
+use Rattle.std.specs.Prelude.{◌≡◌, ◌≢◌, ◌⊎◌, ℕ, List, Option, None, Some}
 use Rattle.dsn_tree.specs.declared.fault.TreeFault.{TreeFault}
-use Rattle.dsn_tree.specs.declared.fault.TreeFault.TheVariants.{Memory, QuoteOpen, BadQuoteByte, Unclosed, Surplus, TooDeep, Empty}
+use Rattle.dsn_tree.specs.declared.fault.TreeFault.TheVariants.{Memory, QuoteOpen, BadQuoteByte, Unclosed, Surplus}
+use Rattle.dsn_tree.specs.declared.fault.TreeFault.TheVariants.{TooDeep, Empty}
 use Rattle.dsn_tree.specs.Trees.{HasFault}
 use Rattle.dsn_shapes.specs.declared.refusal.Refusal.{Refusal}
 use Rattle.dsn_shapes.specs.declared.refusal.What.{What}
-use Rattle.dsn_shapes.specs.declared.refusal.What.TheVariants.{Nothing, Layers, Nets, Pins, Items, Vertices}
 use Rattle.dsn_shapes.specs.declared.refusal.DesignFault.{DesignFault}
 use Rattle.dsn_shapes.specs.declared.refusal.DesignFault.TheVariants as design
 use Rattle.dsn_shapes.specs.Refusals.{refused}
@@ -55,12 +55,3 @@ pub record IsOverLimit (text : List ℕ) (what : What) (limit : ℕ) : Type 0 wh
   pub passed : refusal.number ≡ limit_number
   pub what_is : what ≡ refusal.what
   pub limit_is : limit ≡ refusal.limit
-
--- the word for what a limit counts; a refusal that is of no limit counts nothing
-abbrev pub what_word : What → List ℕ
-what_word Nothing = codes "nothing"
-what_word Layers = codes "layers"
-what_word Nets = codes "nets"
-what_word Pins = codes "pins"
-what_word Items = codes "items"
-what_word Vertices = codes "vertices"

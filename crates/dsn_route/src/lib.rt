@@ -3,11 +3,13 @@
 #![tactic(auto)]
 
 mod lines;
+mod outcome;
 mod refusals;
-mod report;
 mod route;
 mod status;
-mod words;
+mod write;
 
+pub use outcome::Outcome;
 pub use route::{MAX_BYTES, dsn_route};
+pub use route_run::Routed;
 pub use status::Status;

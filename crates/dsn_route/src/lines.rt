@@ -3,12 +3,10 @@
 
 ghost use Rattle.std.specs.Prelude.{◌≡◌, ◌<◌, ◌^◌, IfOk};
 ghost use Rattle.desk_io.specs.Answers.{PutGives};
-ghost use Rattle.dsn_route.specs.Words.{number_of};
-ghost use Rattle.dsn_route.specs.Answers.{usage_line, refused_line, read_fault_line, limit_line, over_line, nodes_line};
-ghost use Rattle.dsn_route.specs.Texts.{what_word};
+ghost use Rattle.dsn_route.specs.Lines.{usage_line, refused_line, read_fault_line};
+ghost use Rattle.dsn_route.specs.Lines.{limit_line, over_line, nodes_line, what_word};
 
 use crate::route::MAX_BYTES;
-use crate::words::WordFault;
 use desk_io::{Sink, SinkFail};
 use dsn_shapes::What;
 use itoa::Buffer;
@@ -83,10 +81,10 @@ fn nodes_text(alloc: Global, count: u128) -> Result<Vec<u8>, AllocError>
 }
 
 /// Puts `usage N`.
-pub fn say_usage<R: Sink>(alloc: Global, fault: WordFault, report: &mut R) -> Result<(), SinkFail>
-    ensures { PutGives (R.state report.old) (R.state report.new) (usage_line (number_of fault)) result }
+pub fn say_usage<R: Sink>(alloc: Global, number: u8, report: &mut R) -> Result<(), SinkFail>
+    ensures { PutGives (R.state report.old) (R.state report.new) (usage_line number) result }
 {
-    match usage_text(alloc, fault.number()) {
+    match usage_text(alloc, number) {
         Ok(line) => report.put(&line),
         Err(e) => Err(SinkFail::Memory(e)),
     }

@@ -1,182 +1,251 @@
-//! The order of the top call: words, read of the input, its length, the design, its lattice, routing, write of the output, report.
+//! The order of the top call: words, read of the input, its length, the design, its lattice, routing, write of the
+//! output, report.
 //! Each step that fails ends the call with the line of its cause.
 
-ghost use Rattle.std.specs.Prelude.{◌≡◌, ◌≤◌, ◌^◌, ℕ, List as Seq, Ok, Err, IsErr, IfSome, length};
+ghost use Rattle.std.specs.Prelude.{◌≡◌, ◌≤◌, ◌^◌, ℕ, List as Seq, Ok, IsErr, length};
 ghost use Rattle.pcb_model.specs.Sound.{IsSound};
-ghost use Rattle.route_lattice.specs.Mesh.{node_count};
-ghost use Rattle.dsn_route.specs.Words.{texts, command_of};
-ghost use Rattle.dsn_route.specs.Said.{command_from, IsVerdict, RoutesDesign};
-ghost use Rattle.dsn_design.specs.Reading.{HasDesign};
 ghost use Rattle.pcb_model.specs.Plain.{IsPlainCopper};
+ghost use Rattle.route_lattice.specs.Mesh.{node_count};
+ghost use Rattle.route_words.specs.Words.{texts, command_of, IsWithin};
 ghost use Rattle.route_run.specs.Passing.{IsTask};
-ghost use Rattle.dsn_route.specs.Answers.{Answers, Leaves, IsInput, mesh_of, via_price};
-ghost use Rattle.dsn_route.specs.Due.{IsMissing, IsRead, IsLong, IsUnfit, IsOver, IsTooFine, IsRoutable, IsDue, IsDueAfterRead, HasNoFault, IsDone};
+ghost use Rattle.dsn_design.specs.Reading.{HasDesign};
+ghost use Rattle.dsn_route.specs.Lines.{number_of as number_told};
+ghost use Rattle.dsn_route.specs.Commands.{knobs_of as knobs_told, mesh_of, IsText};
+ghost use Rattle.dsn_route.specs.Answers.{Answers};
+ghost use Rattle.dsn_route.specs.Said.{RoutesDesign, IsInputOf};
+ghost use Rattle.dsn_route.specs.Due.{IsMissing, IsHeldInput, IsRead, IsLong, IsUnfit, IsOver, IsTooFine, IsRoutable};
+ghost use Rattle.dsn_route.specs.Due.{IsDue, IsDueAfterRead, HasNoFault, IsDone};
 
 use crate::Status;
 use crate::lines::{say_limit, say_nodes, say_read_fault, say_usage};
+use crate::outcome::{Outcome, unrouted};
 use crate::refusals::{end_refused, refusal_of};
-use crate::report::report_text;
 use crate::status::ended;
-use crate::words::{Asked, read_words};
-use cut_certificate::Cut;
+use crate::write::write_out;
+use board_gen::design_text;
 use desk_io::{Desk, DeskFail, Gate, Sink};
 use dsn_design::{one_outcome, read_design};
-use geo_kernel::List;
 use pcb_model::Design;
 use route_lattice::{Lattice, LatticeFault};
-use route_run::{Laid, lay_nets};
-use ses_writer::session_text;
+use route_run::run_nets;
+use route_words::{Command, Knobs, Text, WordFault, read_words};
 use std::alloc::Global;
+use std::sync::Wait;
 
 /// The most bytes of an input.
 pub const MAX_BYTES: u64 = 33_554_432;
 
-/// The price of a via, in nm.
-const VIA_PRICE: u64 = 2_000_000;
+/// How a generated board is routed.
+const DEFAULT_KNOBS: Knobs = Knobs {
+    grid: None,
+    workers: 1,
+    passes: 10,
+    via_cost: 2_000_000,
+    omit_fixed: false,
+};
 
-// Complete where each net is.
-fn verdict(ends: &[List<Cut>]) -> Status
-    ensures { IsVerdict ends.now result }
+// The number of a fault of the words; want of memory has none.
+fn number_of(fault: WordFault) -> Option<u8>
+    ensures { result ≡ number_told fault }
 {
-    for cuts in ends {
-        if !cuts.is_empty() {
-            return Status::SomeOpen;
-        }
+    match fault {
+        WordFault::NoCommand => Some(1),
+        WordFault::UnknownCommand => Some(2),
+        WordFault::Usage => Some(3),
+        WordFault::Memory(_) => None,
     }
-    Status::Complete
 }
 
-// Writes the session and puts the report.
-fn write_out<D: Desk, R: Sink>(
-    alloc: Global,
-    laid: &Laid,
-    asked: Asked<'_>,
-    desk: &mut D,
-    report: &mut R,
-) -> Status
-    requires { laid.now.items ≡ laid.now.board.items }
-    ensures { Leaves (command_from asked.entry) laid.now.board.design laid.now.board.items laid.now.ends (D.state desk.old) (D.state desk.new) (R.state report.old) (R.state report.new) result }
+// The knobs of a command.
+fn knobs_of(command: &Command) -> Knobs
+    ensures { result ≡ knobs_told command.now }
 {
-    let design = laid.board.design();
-    let Ok(session) = session_text(alloc, design, laid.items.as_slice(), false) else {
-        return Status::Memory;
-    };
-    let Ok(page) = report_text(alloc, design, &laid.ends) else {
-        return Status::Memory;
-    };
-    match desk.write(asked.output, &session) {
-        Ok(()) => ended(report.put(&page), verdict(laid.ends.as_slice())),
-        Err(DeskFail::Memory(_)) => Status::Memory,
-        Err(_) => Status::WriteFault,
+    match command {
+        Command::Route {
+            input: _,
+            output: _,
+            knobs,
+        } => *knobs,
+        Command::Gen { n: _ } => DEFAULT_KNOBS,
     }
 }
 
 // Routes a design on its lattice.
-fn route_on<D: Desk, R: Sink>(
+fn route_on<T: Wait, D: Desk, R: Sink, G: Gate>(
+    rt: &T,
     alloc: Global,
     lat: &Lattice,
     design: Design,
-    asked: Asked<'_>,
+    command: &Command,
     desk: &mut D,
     report: &mut R,
-) -> Status
+    gate: &G,
+) -> Outcome
     requires sound { IsSound design }
     requires plain { IsPlainCopper design }
-    requires task { IsTask design lat.now via_price }
-    requires lattice { lat.now ≡ mesh_of (command_from asked) design }
+    requires within { IsWithin command.now }
+    requires task { IsTask design lat.now (knobs_told command.now).via_cost }
+    requires lattice { lat.now ≡ mesh_of command.now design }
     requires few { node_count lat.now ≤ 2 ^ 24 }
-    ensures { RoutesDesign (command_from asked.entry) design (D.state desk.old) (D.state desk.new) (R.state report.old) (R.state report.new) result }
+    ensures { RoutesDesign command.now design (D.state desk.old)
+        (D.state desk.new) (R.state report.old) (R.state report.new) result }
 {
-    match lay_nets(alloc, lat, design, VIA_PRICE) {
-        Ok(laid) => write_out(alloc, &laid, asked, desk, report),
-        Err(_) => Status::Memory,
+    let knobs = knobs_of(command);
+    match run_nets(rt, alloc, lat, design, knobs.via_cost, knobs.passes, gate) {
+        Ok(routed) => {
+            let status = write_out(alloc, lat, &routed, command, desk, report);
+            Outcome {
+                status,
+                routed: Some(routed),
+            }
+        }
+        Err(_) => unrouted(Status::Memory),
     }
 }
 
 // Routes the design of a text.
-fn route_design<D: Desk, R: Sink>(
+fn route_design<T: Wait, D: Desk, R: Sink, G: Gate>(
+    rt: &T,
     alloc: Global,
     text: &[u8],
     design: Design,
-    asked: Asked<'_>,
+    command: &Command,
     desk: &mut D,
     report: &mut R,
-) -> Status
+    gate: &G,
+) -> Outcome
     requires sound { IsSound design }
     requires plain { IsPlainCopper design }
-    requires grid { IfSome asked.grid (λ g. (1 ≤ g) × (g ≤ 2 ^ 30)) }
-    requires input { IsInput (command_from asked) (D.state desk.old) text.now }
+    requires within { IsWithin command.now }
+    requires is_text { IsText command.now (D.state desk.old) text.now }
     requires reads { HasDesign text.now design }
-    ensures { Answers (Ok (command_from asked.entry)) (D.state desk.old) (D.state desk.new) (R.state report.old) (R.state report.new) result }
+    ensures { Answers (Ok command.now) (D.state desk.old)
+        (D.state desk.new) (R.state report.old) (R.state report.new) result }
 {
-    match Lattice::of(alloc, &design, asked.grid) {
-        Ok(lat) => route_on(alloc, &lat, design, asked, desk, report),
+    match Lattice::of(alloc, &design, knobs_of(command).grid) {
+        Ok(lat) => route_on(rt, alloc, &lat, design, command, desk, report, gate),
         Err(LatticeFault::TooManyNodes { count }) => {
-            ended(say_nodes(alloc, count, report), Status::Limit)
+            unrouted(ended(say_nodes(alloc, count, report), Status::Limit))
         }
-        Err(LatticeFault::Memory(_)) => Status::Memory,
+        Err(LatticeFault::Memory(_)) => unrouted(Status::Memory),
     }
 }
 
 // Reads the design of a text, and routes it.
-fn route_text<D: Desk, R: Sink>(
+fn route_text<T: Wait, D: Desk, R: Sink, G: Gate>(
+    rt: &T,
     alloc: Global,
     text: &[u8],
-    asked: Asked<'_>,
+    command: &Command,
     desk: &mut D,
     report: &mut R,
-) -> Status
-    requires grid { IfSome asked.grid (λ g. (1 ≤ g) × (g ≤ 2 ^ 30)) }
-    requires input { IsInput (command_from asked) (D.state desk.old) text.now }
-    ensures { Answers (Ok (command_from asked.entry)) (D.state desk.old) (D.state desk.new) (R.state report.old) (R.state report.new) result }
+    gate: &G,
+) -> Outcome
+    requires within { IsWithin command.now }
+    requires is_text { IsText command.now (D.state desk.old) text.now }
+    requires fits { length text.now ≤ 2 ^ 26 }
+    ensures { Answers (Ok command.now) (D.state desk.old)
+        (D.state desk.new) (R.state report.old) (R.state report.new) result }
 {
     match read_design(alloc, text) {
-        Ok(design) => route_design(alloc, text, design, asked, desk, report),
+        Ok(design) => route_design(rt, alloc, text, design, command, desk, report, gate),
         Err(fault) => match refusal_of(&fault) {
-            Some(refusal) => end_refused(alloc, refusal, report),
-            None => Status::Memory,
+            Some(refusal) => unrouted(end_refused(alloc, refusal, report)),
+            None => unrouted(Status::Memory),
         },
     }
 }
 
 // Reads the input, and routes it.
-fn route<D: Desk, R: Sink>(alloc: Global, asked: Asked<'_>, desk: &mut D, report: &mut R) -> Status
-    requires { IfSome asked.grid (λ g. (1 ≤ g) × (g ≤ 2 ^ 30)) }
-    ensures { Answers (Ok (command_from asked.entry)) (D.state desk.old) (D.state desk.new) (R.state report.old) (R.state report.new) result }
+fn route_file<T: Wait, D: Desk, R: Sink, G: Gate>(
+    rt: &T,
+    alloc: Global,
+    input: &Text,
+    command: &Command,
+    desk: &mut D,
+    report: &mut R,
+    gate: &G,
+) -> Outcome
+    requires within { IsWithin command.now }
+    requires names { IsInputOf command.now input.now }
+    ensures { Answers (Ok command.now) (D.state desk.old)
+        (D.state desk.new) (R.state report.old) (R.state report.new) result }
 {
-    match desk.read(asked.input, MAX_BYTES) {
-        Ok(text) => route_text(alloc, &text, asked, desk, report),
-        Err(DeskFail::Failed) => ended(say_read_fault(report), Status::ReadFault),
-        Err(DeskFail::TooLong { seen: _ }) => ended(say_limit(alloc, report), Status::Limit),
-        Err(DeskFail::Memory(_)) => Status::Memory,
+    match desk.read(input.as_str(), MAX_BYTES) {
+        Ok(text) => route_text(rt, alloc, &text, command, desk, report, gate),
+        Err(DeskFail::Failed) => unrouted(ended(say_read_fault(report), Status::ReadFault)),
+        Err(DeskFail::TooLong { seen: _ }) => unrouted(ended(
+            say_limit(alloc, report),
+            Status::Limit,
+        )),
+        Err(DeskFail::Memory(_)) => unrouted(Status::Memory),
     }
 }
 
-/// Reads the design in the file that the words name first, routes it on the lattice at the grid that they give (or at the
-/// design's default grid), writes its session into the file that they name second, and puts the report; a call that stops
-/// before it routes puts the line of the cause instead.
-/// Over every desk and sink each answer has its cause (`answers`), and the cause that stands at entry has its answer (the other clauses).
-pub fn dsn_route<T, D: Desk, R: Sink, G: Gate + Sync>(
-    _rt: &T,
+// Does what a command asks for.
+fn route<T: Wait, D: Desk, R: Sink, G: Gate>(
+    rt: &T,
+    alloc: Global,
+    command: &Command,
+    desk: &mut D,
+    report: &mut R,
+    gate: &G,
+) -> Outcome
+    requires within { IsWithin command.now }
+    ensures { Answers (Ok command.now) (D.state desk.old)
+        (D.state desk.new) (R.state report.old) (R.state report.new) result }
+{
+    match command {
+        Command::Route {
+            input,
+            output: _,
+            knobs: _,
+        } => route_file(rt, alloc, input, command, desk, report, gate),
+        Command::Gen { n } => match design_text(alloc, *n) {
+            Ok(text) => route_text(rt, alloc, &text, command, desk, report, gate),
+            Err(_) => unrouted(Status::Memory),
+        },
+    }
+}
+
+/// With `route`, reads the design in the file that the words name first, routes it on the lattice at the grid that they
+/// give (or at the design's default grid), writes its session into the file that they name second, and puts the report;
+/// with `gen` routes the generated board of a number and puts its short report. A call that stops before it routes puts
+/// the line of the cause instead. `rt` lets a worker wait for its turn.
+/// Over every desk and sink each answer has its cause (`answers`), and the cause that stands at entry has its answer
+/// (the other clauses).
+pub fn dsn_route<T: Wait, D: Desk, R: Sink, G: Gate + Sync>(
+    rt: &T,
     alloc: Global,
     words: &[String],
     desk: &mut D,
     report: &mut R,
-    _gate: &G,
-) -> Status
-    ensures answers { Answers (command_of (texts words.now)) (D.state desk.old) (D.state desk.new) (R.state report.old) (R.state report.new) result }
-    ensures usage { IsErr (command_of (texts words.now)) → IsDue Status.Usage result }
-    ensures absent { IsMissing (command_of (texts words.now)) (D.state desk.old) → IsDue Status.ReadFault result }
-    ensures limit { (text : Seq ℕ) → IsRead (command_of (texts words.now)) (D.state desk.old) text → IsLong text → IsDueAfterRead Status.Limit result }
-    ensures refused { (text : Seq ℕ) → IsRead (command_of (texts words.now)) (D.state desk.old) text → IsUnfit text → IsDueAfterRead Status.Refused result }
-    ensures counted { (text : Seq ℕ) → IsRead (command_of (texts words.now)) (D.state desk.old) text → IsOver text → IsDueAfterRead Status.Limit result }
-    ensures nodes { (text : Seq ℕ) → IsRead (command_of (texts words.now)) (D.state desk.old) text → IsTooFine (command_of (texts words.now)) text → IsDueAfterRead Status.Limit result }
-    ensures complete { (text : Seq ℕ) → IsRead (command_of (texts words.now)) (D.state desk.old) text → IsRoutable (command_of (texts words.now)) text
-        → HasNoFault (D.state desk.old) (D.state desk.new) (R.state report.old) (R.state report.new) → IsDone result }
+    gate: &G,
+) -> Outcome
+    ensures answers { Answers (command_of (texts words.now)) (D.state desk.old)
+        (D.state desk.new) (R.state report.old) (R.state report.new) result }
+    ensures usage { IsErr (command_of (texts words.now)) → IsDue Status.Usage result.status }
+    ensures absent { IsMissing (command_of (texts words.now)) (D.state desk.old)
+        → IsDue Status.ReadFault result.status }
+    ensures limit { (text : Seq ℕ) → IsHeldInput (command_of (texts words.now)) (D.state desk.old) text
+        → IsLong text → IsDueAfterRead Status.Limit result.status }
+    ensures refused { (text : Seq ℕ) → IsRead (command_of (texts words.now)) (D.state desk.old) text → IsUnfit text
+        → IsDueAfterRead Status.Refused result.status }
+    ensures counted { (text : Seq ℕ) → IsRead (command_of (texts words.now)) (D.state desk.old) text → IsOver text
+        → IsDueAfterRead Status.Limit result.status }
+    ensures nodes { (text : Seq ℕ) → IsRead (command_of (texts words.now)) (D.state desk.old) text
+        → IsTooFine (command_of (texts words.now)) text → IsDueAfterRead Status.Limit result.status }
+    ensures complete { (text : Seq ℕ) → IsRead (command_of (texts words.now)) (D.state desk.old) text
+        → IsRoutable (command_of (texts words.now)) text
+        → HasNoFault (D.state desk.old) (D.state desk.new) (R.state report.old) (R.state report.new)
+        → IsDone result.status }
 {
     one_outcome();
-    match read_words(words) {
-        Ok(asked) => route(alloc, asked, desk, report),
-        Err(fault) => ended(say_usage(alloc, fault, report), Status::Usage),
+    match read_words(alloc, words) {
+        Ok(command) => route(rt, alloc, &command, desk, report, gate),
+        Err(fault) => match number_of(fault) {
+            Some(number) => unrouted(ended(say_usage(alloc, number, report), Status::Usage)),
+            None => unrouted(Status::Memory),
+        },
     }
 }

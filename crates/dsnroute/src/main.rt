@@ -1,12 +1,15 @@
-//! The command `dsnroute route IN OUT`: it reads a design, routes it, writes its session and puts a report.
-//! Its exit code is that of the top call's status.
+//! The command `dsnroute`: it reads a design, routes it, writes its session and puts a report.
+//! Its exit code is that of the top call's status; where there is no report, standard error says why to a person.
 #![tactic(auto)]
 
-use desk_io::{HostDesk, HostSink, NoGate};
-use dsn_route::{Status, dsn_route};
+use desk_io::{Desk, HostDesk, HostSink, NoGate};
+use dsn_route::{MAX_BYTES, Status, dsn_route};
+use fault_notes::{Fault, KeptLine, Said, note_text, read_line};
+use route_words::{Command, read_words};
 use std::alloc::{AllocError, Global};
 use std::process::ExitCode;
 use std::rt::{Env, Files};
+use std::sync::Wait;
 use std::{env, io};
 
 // The words without the program's own name. Words that are no text are wrong words.
@@ -25,20 +28,89 @@ fn wrong_words(alloc: Global) -> Result<Vec<String>, AllocError> {
     Ok(words)
 }
 
-fn run<R: Files + Print + AllocGlobal>(rt: &R, words: &[String]) -> Status {
+// Why a call with this status, which put this line first, ended without a report; None where it ended with one.
+fn fault_of(status: Status, line: &[u8]) -> Option<Fault> {
+    match status {
+        Status::Complete | Status::SomeOpen => None,
+        Status::Usage | Status::Refused | Status::ReadFault | Status::Limit => {
+            Some(Fault::Told(read_line(line)))
+        }
+        Status::WriteFault => {
+            if line.is_empty() {
+                Some(Fault::Session)
+            } else {
+                Some(Fault::Report)
+            }
+        }
+        Status::Memory => Some(Fault::Memory),
+    }
+}
+
+// The design's text once more, where a place in it is to be told.
+fn text_again<R: Files + AllocGlobal>(rt: &R, fault: Fault, input: &str) -> Option<Vec<u8>> {
+    match fault {
+        Fault::Told(Said::Refused { .. }) => HostDesk::new(rt).read(input, MAX_BYTES).ok(),
+        _ => None,
+    }
+}
+
+// The note of a fault, with the names of the files that the words give.
+fn note_of<R: Files + AllocGlobal>(
+    rt: &R,
+    words: &[String],
+    fault: Fault,
+) -> Result<String, AllocError> {
+    match read_words(rt.alloc(), words) {
+        Ok(
+            Command::Route {
+                input,
+                output,
+                knobs: _,
+            },
+        ) => {
+            let text = text_again(rt, fault, input.as_str());
+            note_text(
+                rt.alloc(),
+                fault,
+                input.as_str(),
+                output.as_str(),
+                text.as_deref(),
+            )
+        }
+        _ => note_text(rt.alloc(), fault, "the generated board", "", None),
+    }
+}
+
+// Says on standard error why there is no report. Where that fails too, the status alone tells.
+fn tell<R: Files + Eprint + AllocGlobal>(rt: &R, words: &[String], fault: Fault) {
+    let _ = match note_of(rt, words, fault) {
+        Ok(note) => eprint!(rt; "{note}"),
+        Err(_) => eprint!(rt; "dsnroute: memory was wanting\n"),
+    };
+}
+
+fn run<R: Files + Print + Eprint + Wait + AllocGlobal>(rt: &R, words: &[String]) -> Status {
     let mut desk = HostDesk::new(rt);
-    let mut sink = HostSink::new(rt);
-    dsn_route(rt, rt.alloc(), words, &mut desk, &mut sink, &NoGate)
+    let mut sink = KeptLine::new(HostSink::new(rt));
+    let status = dsn_route(rt, rt.alloc(), words, &mut desk, &mut sink, &NoGate).status;
+    if let Some(fault) = fault_of(status, sink.line()) {
+        tell(rt, words, fault);
+    }
+    status
 }
 
 // What the program ends with where its words can't be had: for want of memory, or since one is no text.
-fn unread<R: Files + Print + AllocGlobal>(rt: &R, fault: &io::Error) -> Status {
+fn unread<R: Files + Print + Eprint + Wait + AllocGlobal>(rt: &R, fault: &io::Error) -> Status {
     if fault.kind() == io::ErrorKind::OutOfMemory {
+        tell(rt, &[], Fault::Memory);
         return Status::Memory;
     }
     match wrong_words(rt.alloc()) {
         Ok(words) => run(rt, &words),
-        Err(_) => Status::Memory,
+        Err(_) => {
+            tell(rt, &[], Fault::Memory);
+            Status::Memory
+        }
     }
 }
 

@@ -1,3 +1,5 @@
-pub mod Listing
-pub mod Working
-pub mod Running
+mod Best
+mod Counting
+mod Worked
+mod Passing
+mod Running

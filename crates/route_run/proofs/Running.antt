@@ -1,35 +1,251 @@
 -- A run, from its parts.
-use Rattle.std.proofs.Common.{◌≡◌, ℕ, ◌<◌, ◌^◌, sym, ◌∙◌, ap, subst, List, length}
+use Rattle.std.proofs.Common.{◌≡◌, ◌∙◌, inl, inr, ℕ, ◌+◌, ◌-◌, ◌<◌, ◌≤◌, ◌^◌, refl, sym, ap, subst, arith}
+use Rattle.std.proofs.Common.{List, [], ◌∷◌, ◌++◌, length, get_or, Some, length-append}
+use Rattle.std.specs.Prelude.{Bool, IsTrue, flat_map, slice_get}
+use Rattle.std.proofs.lemmas.List.{append-nil}
+use Rattle.std.proofs.lemmas.Option.{slice_get_within, slice_get-get_or}
 use Rattle.pcb_model.specs.declared.item.Item.{Item}
 use Rattle.pcb_model.specs.declared.design.Design.{Design}
-use Rattle.route_lattice.specs.Mesh.{Mesh}
-use Rattle.pcb_board.specs.Boards.{BoardOf}
-use Rattle.pcb_board.specs.Keeping.{IsBoard, IsStarted, started}
+use Rattle.pcb_islands.proofs.Elements.{look_cases as look_last, look_last as last_there}
+use Rattle.board_offers.specs.declared.offer.Offer.{Offer}
+use Rattle.board_offers.proofs.Lists.{look_left}
+use Rattle.pcb_board.specs.declared.answer.Entry.{Entry}
+use Rattle.pcb_board.specs.declared.answer.Entry.TheVariants.{Join, Back}
+use Rattle.pcb_board.specs.Boards.{BoardOf, Starts, board_at}
+use Rattle.pcb_board.specs.Answers.{taken_back}
+use Rattle.pcb_board.specs.Keeping.{IsBoard, IsStarted, Grows}
+use Rattle.pcb_board.proofs.Prefix.{board_before, board_whole}
+use Rattle.route_lattice.specs.Mesh.{Mesh, node_count}
+use Rattle.cut_certificate.specs.declared.cut.Cut.{Cut}
 use Rattle.closing_pass.specs.declared.closed.Closed.{Closed}
-use Rattle.closing_pass.specs.Closing.{JoinsBy, IsClosedOut, AreEnds}
-use Rattle.route_run.specs.Runs.{WasWorkedOff, IsRun}
+use Rattle.closing_pass.specs.Closing.{Closes, IsClosedOut}
+use Rattle.searcher_pool.specs.Passes.{PassOf, IsSpent}
+use Rattle.searcher_pool.specs.Passes.{Grows as GrowsBy}
+use Rattle.route_report.specs.declared.facts.PassLine.{PassLine}
+use Rattle.route_report.specs.declared.facts.Facts.{Facts}
+use Rattle.route_run.specs.Runs.{AreFacts, AreLeast, ClosesFrom, HaveEnded, IsBest, IsRun, RunOf, complete_from}
+use Rattle.route_run.specs.Runs.{entries_after}
+use Rattle.route_run.specs.Passing.{EndsBy, GoesBack, HasPassed, MayFollow, Stays}
+use Rattle.route_run.proofs.Best.{no_line}
+use Rattle.route_run.proofs.Passing.{least_on, passes_on}
 
--- the design that a started board has keeps its nets
-pub nets_of : (d : Design) (first : BoardOf) (dropped : List ℕ) → IsStarted d (2 ^ 19) first dropped → first.design ≡ d
-nets_of d first dropped begun = ap (λ (b : BoardOf). b.design) begun.board_is
+-- ---- whether a pass follows
+pub follow_more : (lines : List PassLine) (line : PassLine) → (0 < line.parted)
+    → (1 < length lines + 1 → 0 < line.commits) → MayFollow (lines ++ line ∷ [])
+follow_more lines line more moved k l at last = elim (look_last lines line k l at) [
+  | inl there ↦ absurd
+      (let w = slice_get_within lines k l there in
+      let count = length-append lines (line ∷ []) in
+      omega (arith, w, last, count))
+  | inr here ↦ subst (λ (x : PassLine). (0 < x.parted) × (0 < k → 0 < x.commits)) here.1
+      (more, λ some. moved (omega (arith, some, here.0)))
+]
 
-pub is_run : (d : Design) (m : Mesh) (via_cost : ℕ) (first passed : BoardOf) (dropped : List ℕ) (closed : Closed)
-    → IsStarted d (2 ^ 19) first dropped → JoinsBy 0 m via_cost first passed
-    → ((net : ℕ) → net < length first.design.nets → WasWorkedOff m via_cost passed net)
-    → IsClosedOut m via_cost passed closed → IsBoard closed.board → IsRun d m via_cost closed.board closed.ends
-is_run d m via_cost first passed dropped closed begun pass worked out kept =
-    let at_start : first.design ≡ d = nets_of d first dropped begun in
-    let own : closed.board.design ≡ d = out.closes.design_stays ∙ (pass.design_stays ∙ at_start) in
-    let start : closed.board.start ≡ begun.start =
-    out.closes.start_stays ∙ (pass.start_stays ∙ ap (λ (b : BoardOf). b.start) begun.board_is) in
+pub follow_none : MayFollow []
+follow_none k line at = absurd (let w = slice_get_within {A = PassLine} [] k line at in omega (arith, w))
+
+-- where none may follow the last one they have ended
+pub ended_by : (m : Mesh) (r : RunOf) (b : BoardOf) (lines : List PassLine) (line : PassLine) (full : Bool)
+    → HasPassed m r b (lines ++ line ∷ []) → EndsBy (length lines + 1) line full → (IsTrue full → IsSpent b)
+    → HaveEnded r b (lines ++ line ∷ [])
+ended_by m r b lines line full has by spent =
+    let all = lines ++ line ∷ [] in
+    let count : length all ≡ length lines + 1 = length-append lines (line ∷ []) in
+    let place : length lines ≡ length all - 1 = omega (arith, count) in
     record {
-      board = kept;
-      design_is = own;
-      passed = passed;
-      pass = subst (λ (xs : List Item). JoinsBy 0 m via_cost (started d xs (2 ^ 19)) passed) (sym start)
-          (subst (λ (b : BoardOf). JoinsBy 0 m via_cost b passed) begun.board_is pass);
-      worked = λ net less. worked net (subst (λ (x : Design). net < length x.nets) (sym at_start) less);
-      closing = out.closes;
-      ends_are = subst (λ (x : Design). AreEnds x m via_cost closed.board.items (length x.nets) closed.ends) own
-          out.ends;
+      last = line;
+      last_is = subst (λ (k : ℕ). slice_get all k ≡ Some line) place (last_there lines line);
+      ends = elim by [
+        | inl whole ↦ inl whole
+        | inr other ↦ elim other [
+          | inl still ↦ inr (inl (omega (arith, still.0, count), still.1))
+          | inr full ↦ inr (inr (inr (subst (λ (k : ℕ). IsSpent (board_at b k)) has.no_more
+              (subst IsSpent (sym (board_whole b has.board)) (spent full)))))
+        ]
+      ];
     }
+
+-- so they have with the last number
+pub ended_last : (r : RunOf) (b : BoardOf) (lines : List PassLine) → 1 ≤ r.passes → length lines ≡ r.passes
+    → HaveEnded r b lines
+ended_last r b lines some count = record {
+  last = get_or lines (length lines - 1) no_line;
+  last_is = slice_get-get_or lines (length lines - 1) no_line (omega (arith, some, count));
+  ends = inr (inr (inl count));
+}
+
+-- ---- what stays
+pub stays_same : (b : BoardOf) → Stays b b
+stays_same b = record { design_stays = refl; start_stays = refl; cap_stays = refl }
+
+pub stays_on : (p : PassOf) (a b c : BoardOf) → Stays a b → GrowsBy p b c → Stays a c
+stays_on p a b c same grows = record {
+  design_stays = grows.design ∙ same.design_stays;
+  start_stays = grows.start ∙ same.start_stays;
+  cap_stays = grows.cap ∙ same.cap_stays;
+}
+
+-- ---- the way back
+abbrev is_join : Entry → Type 0
+is_join (Join o first after) = Unit {0}
+is_join (Back to) = ⊥
+
+no_join : (to : ℕ) (o : Offer) (first after : ℕ) → Back to ≡ Join o first after → ⊥
+no_join to o first after e = subst is_join (sym e) tt
+
+grows_same : (b c : BoardOf) → c ≡ b → Grows b c
+grows_same b c same = subst (Grows b) (sym same) (record {
+  design_stays = refl;
+  start_stays = refl;
+  cap_stays = refl;
+  entries = [];
+  history_is = sym (append-nil b.history);
+})
+
+grows_back : (b c : BoardOf) (to : ℕ) → c ≡ taken_back b to → Grows b c
+grows_back b c to is = subst (Grows b) (sym is) (record {
+  design_stays = refl;
+  start_stays = refl;
+  cap_stays = refl;
+  entries = Back to ∷ [];
+  history_is = refl;
+})
+
+grows_gone : (lines : List PassLine) (kept : ℕ) (b c : BoardOf) → GoesBack lines kept b c → Grows b c
+grows_gone lines kept b c (inl stays) = grows_same b c stays.1
+grows_gone lines kept b c (inr back) = grows_back b c (entries_after lines kept) back.2
+
+-- no join comes with it
+least_gone : (m : Mesh) (via_cost : ℕ) (lines : List PassLine) (kept : ℕ) (b c : BoardOf) → GoesBack lines kept b c
+    → AreLeast m via_cost b → AreLeast m via_cost c
+least_gone m via_cost lines kept b c (inl stays) least = subst (AreLeast m via_cost) (sym stays.1) least
+least_gone m via_cost lines kept b c (inr back) least =
+    let to = entries_after lines kept in
+    let history : c.history ≡ b.history ++ Back to ∷ [] = ap (λ (x : BoardOf). x.history) back.2 in
+    least_on b c (grows_back b c to back.2) m via_cost least
+    (λ n o first after late at. elim (look_last b.history (Back to) n (Join o first after)
+    (ap (λ (h : List Entry). slice_get h n) (sym history) ∙ at)) [
+      | inl there ↦ absurd
+          (let w = slice_get_within b.history n (Join o first after) there in omega (arith, w, late))
+      | inr last ↦ absurd (no_join to o first after last.1)
+    ])
+
+-- ---- all together
+module _ (d : Design) (m : Mesh) (r : RunOf) (first passed after : BoardOf) (closed : Closed) (facts : Facts)
+    (begun : IsStarted d (2 ^ 19) first facts.dropped) (same : Stays first passed)
+    (has : HasPassed m r passed facts.passes) (ended : HaveEnded r passed facts.passes)
+    (best : IsBest facts.passes facts.kept) (gone : GoesBack facts.passes facts.kept passed after)
+    (kept : IsBoard after) (out : IsClosedOut m r.via_cost after closed) (board : IsBoard closed.board)
+    (grid : facts.grid ≡ m.grid) (nodes : facts.nodes ≡ node_count m) (joins : facts.joins ≡ closed.joins)
+    (complete : facts.complete ≡ complete_from 0 closed.ends)
+    (cuts : facts.cuts ≡ flat_map (λ (cuts : List Cut). cuts) closed.ends) where
+  abbrev last_entry : ℕ
+  last_entry = entries_after facts.passes (length facts.passes)
+
+  back : Grows passed after
+  back = grows_gone facts.passes facts.kept passed after gone
+
+  close : Grows after closed.board
+  close = record {
+    design_stays = out.closes.design_stays;
+    start_stays = out.closes.start_stays;
+    cap_stays = out.closes.cap_stays;
+    entries = out.closes.entries;
+    history_is = out.closes.history_is;
+  }
+
+  design_is : closed.board.design ≡ d
+  design_is = close.design_stays ∙ (back.design_stays ∙ (same.design_stays
+      ∙ ap (λ (b : BoardOf). b.design) begun.board_is))
+
+  start_is : closed.board.start ≡ begun.start
+  start_is = close.start_stays ∙ (back.start_stays ∙ (same.start_stays
+      ∙ ap (λ (b : BoardOf). b.start) begun.board_is))
+
+  cap_is : closed.board.cap ≡ 2 ^ 19
+  cap_is = close.cap_stays ∙ (back.cap_stays ∙ (same.cap_stays ∙ ap (λ (b : BoardOf). b.cap) begun.board_is))
+
+  -- the board after the passes, seen from the last one
+  at_passed : board_at closed.board last_entry ≡ board_at passed last_entry
+  at_passed =
+      let le : last_entry ≤ length passed.history = omega (arith, has.no_more) in
+      let longer : length after.history ≡ length passed.history + length back.entries =
+      ap length back.history_is ∙ length-append passed.history back.entries in
+      board_before after closed.board last_entry close (omega (arith, le, longer))
+      ∙ board_before passed after last_entry back le
+
+  still_ended : HaveEnded r closed.board facts.passes
+  still_ended = record {
+    last = ended.last;
+    last_is = ended.last_is;
+    ends = elim ended.ends [
+      | inl whole ↦ inl whole
+      | inr other ↦ elim other [
+        | inl still ↦ inr (inl still)
+        | inr more ↦ elim more [
+          | inl number ↦ inr (inr (inl number))
+          | inr spent ↦ inr (inr (inr (subst IsSpent (sym at_passed) spent)))
+        ]
+      ]
+    ];
+  }
+
+  closes_from : (g : GoesBack facts.passes facts.kept passed after)
+      → ClosesFrom closed.board facts.passes facts.kept (length after.history)
+  closes_from (inl stays) = inl (stays.0, ap (λ (b : BoardOf). length b.history) stays.1 ∙ has.no_more)
+  closes_from (inr gone) =
+      let to = entries_after facts.passes facts.kept in
+      let history : after.history ≡ passed.history ++ Back to ∷ [] = ap (λ (b : BoardOf). b.history) gone.2 in
+      let there : slice_get after.history (length passed.history) ≡ Some (Back to) =
+      ap (λ (h : List Entry). slice_get h (length passed.history)) history
+      ∙ last_there passed.history (Back to) in
+      let on_closed : slice_get closed.board.history (length passed.history) ≡ Some (Back to) =
+      ap (λ (h : List Entry). slice_get h (length passed.history)) close.history_is
+      ∙ look_left after.history close.entries (length passed.history) (Back to) there in
+      let count : length after.history ≡ length passed.history + 1 =
+      ap length history ∙ length-append passed.history (Back to ∷ []) in
+      inr (
+        gone.0,
+        subst (λ (k : ℕ). slice_get closed.board.history k ≡ Some (Back to)) has.no_more on_closed,
+        omega (arith, count, has.no_more),
+      )
+
+  closing : Closes m r.via_cost (board_at closed.board (length after.history)) closed.board
+  closing = subst (λ (b : BoardOf). Closes m r.via_cost b closed.board)
+      (sym (board_before after closed.board (length after.history) close (omega arith) ∙ board_whole after kept))
+      out.closes
+
+  least : AreLeast m r.via_cost closed.board
+  least = least_on after closed.board close m r.via_cost
+      (least_gone m r.via_cost facts.passes facts.kept passed after gone has.least)
+      (λ n o first after late at.
+      let l = (out.closes.least n late).each o first after at in (omega (arith, l.0), l.1))
+
+  facts_are : AreFacts m r.via_cost closed.board (length after.history) facts
+  facts_are = record {
+    grid_is = grid;
+    nodes_are = nodes;
+    dropped_are = subst (λ (x : Design). Starts x facts.dropped closed.board.start) (sym design_is)
+        (subst (λ (xs : List Item). Starts d facts.dropped xs) (sym start_is) begun.starts);
+    joins_are = omega (arith, joins, out.count);
+    ends = closed.ends;
+    ends_are = out.ends;
+    complete_is = complete;
+    cuts_are = cuts;
+  }
+
+  pub is_run : IsRun d m r closed.board facts
+  is_run = record {
+    board = board;
+    design_is = design_is;
+    cap_is = cap_is;
+    passes = passes_on after closed.board close m r facts.passes
+        (passes_on passed after back m r facts.passes has.passes);
+    ended = still_ended;
+    best = best;
+    from = length after.history;
+    closes_from = closes_from gone;
+    closing = closing;
+    least = least;
+    facts_are = facts_are;
+  }

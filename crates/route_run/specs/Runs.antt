@@ -1,41 +1,190 @@
--- Runs: what is laid on a board, and how each net ends.
-use Rattle.std.specs.Prelude.{◌≡◌, ◌⊎◌, ℕ, ◌<◌, ◌≤◌, ◌^◌, List, None, length}
+-- Runs: passes over the nets, the pass that is kept, and the closing pass.
+use Rattle.std.specs.Prelude.{◌≡◌, ◌⊎◌, ℕ, ◌+◌, ◌-◌, ◌*◌, ◌<◌, ◌≤◌, ◌^◌, nat_le, if◌then◌else◌}
+use Rattle.std.specs.Prelude.{List, [], ◌∷◌, length, take, sum_by, flat_map, slice_get, Option, Some, None}
+use Rattle.pcb_model.specs.declared.item.Item.{Item}
 use Rattle.pcb_model.specs.declared.design.Design.{Design}
-use Rattle.route_lattice.specs.Mesh.{Mesh}
-use Rattle.pcb_board.specs.Boards.{BoardOf, worker_entries, board_at}
-use Rattle.pcb_board.specs.Keeping.{IsBoard, started}
-use Rattle.route_plan.specs.Plans.{IsWhole, IsShutIn}
+use Rattle.pcb_islands.specs.declared.net.Island.{Island}
+use Rattle.pcb_islands.specs.Islands.{AreIslands}
+use Rattle.route_lattice.specs.Mesh.{Mesh, node_count}
+use Rattle.board_offers.specs.declared.offer.Offer.{Offer}
+use Rattle.pcb_board.specs.declared.answer.Entry.{Entry}
+use Rattle.pcb_board.specs.declared.answer.Entry.TheVariants.{Join, Back}
+use Rattle.pcb_board.specs.declared.answer.Answer.TheVariants.{Stale}
+use Rattle.pcb_board.specs.Boards.{BoardOf, Starts, board_at}
+use Rattle.pcb_board.specs.Answers.{Step}
+use Rattle.pcb_board.specs.Keeping.{IsBoard}
+use Rattle.least_offer.specs.Least.{IsLeastOffer}
+use Rattle.route_plan.specs.Plans.{IsWhole}
 use Rattle.cut_certificate.specs.declared.cut.Cut.{Cut}
-use Rattle.closing_pass.specs.Closing.{JoinsBy, Closes, AreEnds}
+use Rattle.closing_pass.specs.Closing.{Closes, AreEnds}
+use Rattle.searcher_pool.specs.Passes.{PassOf, Between, IsJoinOf, IsShutOn, IsSpent}
+use Rattle.route_report.specs.declared.facts.PassLine.{PassLine}
+use Rattle.route_report.specs.declared.facts.Facts.{Facts}
 
--- as many entries of workers stand as may
-abbrev pub IsSpent : BoardOf → Type 0
-IsSpent b = b.cap ≤ worker_entries b.history
+-- what a run goes by: the price of a via in nm, how many workers there are, and how many passes there may be
+pub record RunOf : Type 0 where
+  pub via_cost : ℕ
+  pub workers : ℕ
+  pub passes : ℕ
 
--- no legal walk leads from the net's first island to another
-pub record IsShutOn (m : Mesh) (via_cost : ℕ) (b : BoardOf) (net : ℕ) : Type 0 where
-  pub nodes : List ℕ
-  pub shut : IsShutIn b.design m b.items net via_cost None nodes
+-- the run of one worker
+abbrev pub run_from : ℕ → ℕ → RunOf
+run_from via_cost passes = record { via_cost = via_cost; workers = 1; passes = passes }
 
--- the net has at most one island; or no legal walk leads on from its first; or the board takes no more
-abbrev pub IsWorkedOff : Mesh → ℕ → ℕ → BoardOf → Type 0
-IsWorkedOff m via_cost net b = IsWhole b.design b.items net ⊎ (IsShutOn m via_cost b net ⊎ IsSpent b)
+-- ---- open connections
+-- the net has several islands
+pub record HasSeveral (d : Design) (items : List Item) (net : ℕ) : Type 0 where
+  pub found : List Island
+  pub islands : AreIslands d items net found
+  pub several : 2 ≤ length found
 
--- so it was on the board after some number of its entries
-pub record WasWorkedOff (m : Mesh) (via_cost : ℕ) (b : BoardOf) (net : ℕ) : Type 0 where
+-- so many connections are open: over all nets, the islands less one; a net without an island has none
+pub record IsOpenCount (d : Design) (items : List Item) (count : ℕ) : Type 0 where
+  pub found : List (List Island)
+  pub all : length found ≡ length d.nets
+  pub islands : (net : ℕ) (own : List Island) → slice_get found net ≡ Some own → AreIslands d items net own
+  pub sum_is : count ≡ sum_by (λ (own : List Island). length own - 1) found
+
+-- ---- how a net is worked off, between two numbers of entries
+-- A least offer for the net came too late for the entry with this number: it rests on a board from `floor` on and
+-- before that entry, and a board up to the pass's end answers so.
+pub record IsTooLate (m : Mesh) (via_cost : ℕ) (penalty : Option ℕ) (b : BoardOf) (to net floor entry : ℕ) : Type
+    0 where
+  pub offer : Offer
+  pub net_is : offer.net ≡ net
+  pub penalty_is : offer.penalty ≡ penalty
+  pub least : IsLeastOffer m via_cost (board_at b offer.base) offer
+  pub after_last : floor ≤ offer.base
+  pub before_entry : offer.base < entry
   pub at : ℕ
-  pub early : at ≤ length b.history
-  pub ended : IsWorkedOff m via_cost net (board_at b at)
+  pub late : offer.base ≤ at
+  pub early : at ≤ to
+  pub item : ℕ
+  pub next : BoardOf
+  pub answered : Step (board_at b at) offer (Stale item entry) next
 
--- A run of a design on a lattice. On a board that starts with the design's fixed items and its legal free wiring, and
--- takes at most 2^19 entries of workers, worker 0 made joins, each by a least legal walk on the board as it was, until
--- every net was worked off; then the closing pass joined what could be joined; and how each net ends on the last board.
--- The board is legal after each number of its entries.
-pub record IsRun (d : Design) (m : Mesh) (via_cost : ℕ) (b : BoardOf) (ends : List (List Cut)) : Type 0 where
+-- offers one after another, each too late for its entry
+abbrev pub AreTooLate : Mesh → ℕ → Option ℕ → BoardOf → ℕ → ℕ → ℕ → List ℕ → Type 0
+AreTooLate m via_cost penalty b to net floor [] = Unit {0}
+AreTooLate m via_cost penalty b to net floor (entry ∷ entries) =
+    IsTooLate m via_cost penalty b to net floor entry × AreTooLate m via_cost penalty b to net entry entries
+
+-- with several workers, eight of them
+pub record WasTooLate (m : Mesh) (via_cost workers : ℕ) (penalty : Option ℕ) (b : BoardOf) (from to net : ℕ) : Type
+    0 where
+  pub several_workers : 1 < workers
+  pub entries : List ℕ
+  pub eight : length entries ≡ 8
+  pub each : AreTooLate m via_cost penalty b to net from entries
+
+-- on some board the net has at most one island; or no walk leads on from its first one; or at the end the board takes
+-- no more entries of workers; or eight offers came too late
+abbrev pub IsWorkedOff : PassOf → BoardOf → ℕ → ℕ → ℕ → Type 0
+IsWorkedOff p b from to net =
+    Between (λ x. IsWhole x.design x.items net) b from to
+    ⊎ (Between (λ x. IsShutOn p.lattice p.via_cost x net p.penalty) b from to
+    ⊎ (IsSpent (board_at b to)
+    ⊎ WasTooLate p.lattice p.via_cost p.workers p.penalty b from to net))
+
+-- ---- passes
+-- the penalty of pass k in nm: none of the first, and else 5 mm times its number
+abbrev pub penalty_of : ℕ → Option ℕ
+penalty_of k = if nat_le k 1 then None else Some (5000000 * k)
+
+-- what pass k goes by, but for its tasks, which are the nets that have several islands when it starts
+abbrev pub pass_at : Mesh → ℕ → ℕ → ℕ → PassOf
+pass_at m via_cost workers k =
+    record { lattice = m; via_cost = via_cost; workers = workers; tasks = []; penalty = penalty_of k }
+
+-- how many entries stand after the first k passes
+abbrev pub entries_after : List PassLine → ℕ → ℕ
+entries_after lines k = sum_by (λ (line : PassLine). line.commits) (take k lines)
+
+-- A pass, from one number of entries on: its entries are joins of its workers with its penalty; each net that had
+-- several islands was worked off; and its line tells how many entries it made, and what is open after them.
+pub record IsPass (p : PassOf) (b : BoardOf) (from : ℕ) (line : PassLine) : Type 0 where
+  pub there : from + line.commits ≤ length b.history
+  pub joins : (n : ℕ) (e : Entry) → from ≤ n → n < from + line.commits → slice_get b.history n ≡ Some e
+      → IsJoinOf p e
+  pub worked : (net : ℕ) → net < length b.design.nets → HasSeveral b.design (board_at b from).items net
+      → IsWorkedOff p b from (from + line.commits) net
+  pub leaves : IsOpenCount b.design (board_at b (from + line.commits)).items line.parted
+
+-- Passes one after another, each with its line. A pass follows only where connections are open, and behind a later
+-- pass than the first only where that made an entry.
+pub record ArePasses (m : Mesh) (r : RunOf) (b : BoardOf) (lines : List PassLine) : Type 0 where
+  pub few : length lines ≤ r.passes
+  pub each : (k : ℕ) (line : PassLine) → slice_get lines k ≡ Some line
+      → IsPass (pass_at m r.via_cost r.workers (k + 1)) b (entries_after lines k) line
+  pub goes_on : (k : ℕ) (line : PassLine) → slice_get lines k ≡ Some line → k + 1 < length lines → 0 < line.parted
+  pub moves : (k : ℕ) (line : PassLine) → slice_get lines k ≡ Some line → 0 < k → k + 1 < length lines
+      → 0 < line.commits
+
+-- no pass follows the last: nothing is open; or it is above the first and made no entry; or it has the last number;
+-- or the board takes no more entries of workers
+pub record HaveEnded (r : RunOf) (b : BoardOf) (lines : List PassLine) : Type 0 where
+  pub last : PassLine
+  pub last_is : slice_get lines (length lines - 1) ≡ Some last
+  pub ends : (last.parted ≡ 0)
+      ⊎ (((1 < length lines) × (last.commits ≡ 0))
+      ⊎ ((length lines ≡ r.passes)
+      ⊎ IsSpent (board_at b (entries_after lines (length lines)))))
+
+-- ---- the pass that is kept
+-- counted from 1, the first pass after which the least is open
+pub record IsBest (lines : List PassLine) (kept : ℕ) : Type 0 where
+  pub counted : 1 ≤ kept
+  pub line : PassLine
+  pub line_is : slice_get lines (kept - 1) ≡ Some line
+  pub least : (k : ℕ) (other : PassLine) → slice_get lines k ≡ Some other → line.parted ≤ other.parted
+  pub first : (k : ℕ) (other : PassLine) → slice_get lines k ≡ Some other → k + 1 < kept
+      → line.parted < other.parted
+
+-- the number of entries behind the passes where the last is kept, and else behind the entry that takes the board back
+-- to the end of the kept one
+abbrev pub ClosesFrom : BoardOf → List PassLine → ℕ → ℕ → Type 0
+ClosesFrom b lines kept from =
+    let end = entries_after lines (length lines) in
+    ((kept ≡ length lines) × (from ≡ end))
+    ⊎ ((kept < length lines) × (slice_get b.history end ≡ Some (Back (entries_after lines kept))) × (from ≡ end + 1))
+
+-- ---- facts
+-- the nets that have no cut, in order
+abbrev pub complete_from : ℕ → List (List Cut) → List ℕ
+complete_from net [] = []
+complete_from net ([] ∷ ends) = net ∷ complete_from (net + 1) ends
+complete_from net ((cut ∷ cuts) ∷ ends) = complete_from (net + 1) ends
+
+-- The lattice's grid and nodes, the places of wiring that wasn't legal, how many joins the closing pass made, and how
+-- the nets end: each is complete, or has a cut for each of its islands.
+pub record AreFacts (m : Mesh) (via_cost : ℕ) (b : BoardOf) (from : ℕ) (facts : Facts) : Type 0 where
+  pub grid_is : facts.grid ≡ m.grid
+  pub nodes_are : facts.nodes ≡ node_count m
+  pub dropped_are : Starts b.design facts.dropped b.start
+  pub joins_are : from + facts.joins ≡ length b.history
+  pub ends : List (List Cut)
+  pub ends_are : AreEnds b.design m via_cost b.items (length b.design.nets) ends
+  pub complete_is : facts.complete ≡ complete_from 0 ends
+  pub cuts_are : facts.cuts ≡ flat_map (λ (cuts : List Cut). cuts) ends
+
+-- ---- runs
+-- each join was a least offer on the board after its base, which is an earlier one
+pub record AreLeast (m : Mesh) (via_cost : ℕ) (b : BoardOf) : Type 0 where
+  pub each : (n : ℕ) (o : Offer) (first after : ℕ) → slice_get b.history n ≡ Some (Join o first after)
+      → (o.base ≤ n) × IsLeastOffer m via_cost (board_at b o.base) o
+
+-- A run of a design on a lattice: on the board of the design's fixed items and its legal wiring, which takes at most
+-- 2^19 entries of workers, passes were made until they ended; the best of them is kept; and from its end the closing
+-- pass joined what could be joined. The board is legal after each number of its entries.
+pub record IsRun (d : Design) (m : Mesh) (r : RunOf) (b : BoardOf) (facts : Facts) : Type 0 where
   pub board : IsBoard b
   pub design_is : b.design ≡ d
-  pub passed : BoardOf
-  pub pass : JoinsBy 0 m via_cost (started d b.start (2 ^ 19)) passed
-  pub worked : (net : ℕ) → net < length d.nets → WasWorkedOff m via_cost passed net
-  pub closing : Closes m via_cost passed b
-  pub ends_are : AreEnds d m via_cost b.items (length d.nets) ends
+  pub cap_is : b.cap ≡ 2 ^ 19
+  pub passes : ArePasses m r b facts.passes
+  pub ended : HaveEnded r b facts.passes
+  pub best : IsBest facts.passes facts.kept
+  pub from : ℕ
+  pub closes_from : ClosesFrom b facts.passes facts.kept from
+  pub closing : Closes m r.via_cost (board_at b from) b
+  pub least : AreLeast m r.via_cost b
+  pub facts_are : AreFacts m r.via_cost b from facts

@@ -1,8 +1,11 @@
-//! A run: a design's board starts, its nets are worked off one after another, and the closing pass tells their ends.
-//! The board is legal after each of its entries.
+//! A run: a design's board starts, passes over its nets are made, the best of them is kept, and the closing pass tells
+//! how the nets end. The board is legal after each of its entries.
 #![tactic(auto)]
 
-mod pass;
+mod connections;
+mod facts;
+mod keep;
+mod passes;
 mod run;
 
-pub use run::{Laid, MOST_ENTRIES, lay_nets};
+pub use run::{MOST_ENTRIES, Routed, run_nets};

@@ -1,77 +1,74 @@
-//! Routing of a design on a lattice, in order: start, pass, closing pass.
-//! What is left are the board, its items in order of id, and how each net ends.
+//! Routing of a design on a lattice, in order: start, passes, the way back to the best one, closing pass.
+//! What is left are the board and the facts that are told of the run.
 
-ghost use Rattle.std.specs.Prelude.{◌≡◌, ◌≤◌, ◌^◌, ℕ, IfOk};
+ghost use Rattle.std.specs.Prelude.{◌≡◌, ◌≤◌, IfOk};
 ghost use Rattle.pcb_model.specs.Sound.{IsSound};
 ghost use Rattle.pcb_model.specs.Plain.{IsPlainCopper};
-ghost use Rattle.route_run.specs.Runs.{IsRun};
+ghost use Rattle.route_run.specs.Runs.{IsRun, run_from};
 ghost use Rattle.route_run.specs.Passing.{IsTask};
 
-use crate::pass::Pass;
-use closing_pass::close_out;
-use cut_certificate::Cut;
+use crate::facts::{all_cuts, complete_nets};
+use crate::keep::{best_of, go_back};
+use crate::passes::make_passes;
+use closing_pass::{Closed, close_out};
+use desk_io::Gate;
 use geo_kernel::List;
 use pcb_board::Board;
-use pcb_model::{Copper, Design, Item, copy_item};
+use pcb_model::Design;
 use route_lattice::Lattice;
+use route_report::{Facts, PassLine};
 use std::alloc::{AllocError, Global};
-use wave_search::Search;
+use std::sync::Wait;
 
 /// As many entries of workers a board takes.
 pub const MOST_ENTRIES: u64 = 524_288;
 
-/// What routing leaves: the board, its items in order of id, and the cuts of each net: none where it is complete.
+/// A board that was routed, and what is told of its run.
 #[derive(Drop)]
-pub struct Laid {
+pub struct Routed {
     pub board: Board,
-    pub items: List<Item>,
-    pub ends: List<List<Cut>>,
+    pub facts: Facts,
 }
 
-// The items of a board, in order of id.
-fn items_of(alloc: Global, board: &Board) -> Result<List<Item>, AllocError>
-    ensures { IfOk result (λ items. items ≡ board.now.items) }
-{
-    let copper = board.items();
-    copper.in_order();
-    let mut items = List::new(alloc);
-    let mut from = 0;
-    while let Some(item) = copper.next_item(from) {
-        items.push(copy_item(alloc, item)?)?;
-        let Some(next) = item.id.checked_add(1) else {
-            return Ok(items);
-        };
-        from = next;
-    }
-    Ok(items)
-}
-
-/// Routes the nets of a design on a lattice of it, in order. A via costs `via_cost`, in nm.
-pub fn lay_nets(
+/// Routes the nets of a design on a lattice of it by at most so many passes of one worker, and by the closing pass. A
+/// via costs `via_cost` nm. The gate is called round each offer of a pass. The only error is want of memory.
+pub fn run_nets<R: Wait, G: Gate>(
+    rt: &R,
     alloc: Global,
     lat: &Lattice,
     design: Design,
     via_cost: u64,
-) -> Result<Laid, AllocError>
+    passes: u32,
+    gate: &G,
+) -> Result<Routed, AllocError>
     requires sound { IsSound design }
     requires plain { IsPlainCopper design }
     requires task { IsTask design lat.now via_cost }
-    ensures run { IfOk result (λ laid. IsRun design lat.now via_cost laid.board laid.ends) }
-    ensures items { IfOk result (λ laid. laid.items ≡ laid.board.items) }
+    requires passes { (1 ≤ passes) × (passes ≤ 99) }
+    ensures { IfOk result (λ r. IsRun design lat.now (run_from via_cost passes) r.board r.facts) }
 {
-    let (mut board, _dropped) = Board::start(alloc, design, MOST_ENTRIES)?;
-    let mut search = Search::new(alloc, lat.count())?;
-    let pass = Pass { lat, via_cost };
-    pass.work_off_all(alloc, &mut search, &mut board)?;
-    let closed = match close_out(alloc, board, lat, via_cost) {
+    let (board, dropped) = Board::start(alloc, design, MOST_ENTRIES)?;
+    let (board, lines) = make_passes(rt, alloc, lat, via_cost, passes, board, gate)?;
+    board.keeps();
+    let kept = best_of(lines.as_slice());
+    let board = go_back(board, lines.as_slice(), kept)?;
+    board.keeps();
+    let Closed { board, ends, joins } = match close_out(alloc, board, lat, via_cost) {
         Ok(closed) => closed,
         Err(back) => return Err(back.cause),
     };
-    closed.board.keeps();
-    let items = items_of(alloc, &closed.board)?;
-    Ok(Laid {
-        board: closed.board,
-        items,
-        ends: closed.ends,
-    })
+    board.keeps();
+    let complete = complete_nets(alloc, &ends)?;
+    let cuts = all_cuts(alloc, ends)?;
+    let facts = Facts {
+        grid: lat.grid(),
+        nodes: u64::from(lat.count()),
+        dropped,
+        passes: lines,
+        kept,
+        joins,
+        complete,
+        cuts,
+    };
+    Ok(Routed { board, facts })
 }

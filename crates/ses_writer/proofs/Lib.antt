@@ -1,2 +1,3 @@
-mod Puts
+pub mod Puts
 mod Turned
+pub mod Listing

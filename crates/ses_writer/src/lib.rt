@@ -2,10 +2,12 @@
 //! Source: SPECCTRA reference, session file descriptor.
 #![tactic(auto)]
 
+mod items;
 mod library;
 mod network;
 mod placement;
 mod session;
 mod words;
 
-pub use session::session_text;
+pub use session::{items_session, session_text};
+pub use words::{put, put_whole, put_word};

@@ -5,11 +5,13 @@ ghost use Rattle.std.specs.Prelude.{◌≡◌, ◌<◌, ◌++◌, OnOk, IfOk, co
 ghost use Rattle.ses_writer.specs.Words.{Appends};
 ghost use Rattle.ses_writer.specs.Session.{host_line, is_printed, placement_part, parser_lines, routes_part, session_of};
 
+use crate::items::items_of;
 use crate::library::put_library;
 use crate::network::put_network;
 use crate::placement::{put_components, put_resolution};
 use crate::words::{put, put_spelled};
 use geo_kernel::Name;
+use pcb_board::Board;
 use pcb_model::{Design, Item, SesScale};
 use std::alloc::{AllocError, Global};
 
@@ -80,7 +82,7 @@ fn put_routes(
 /// The session's bytes: the placement of the design, and the wires and vias among `items` that have a net, net by net and
 /// in the order of `items`; with `omit_fixed` the fixed ones are left out. The only error is want of memory.
 #[tactic(auto, unfolding(crate::specs::Session::session_of))]
-pub fn session_text(
+pub fn items_session(
     alloc: Global,
     d: &Design,
     items: &[Item],
@@ -94,4 +96,17 @@ pub fn session_text(
     put_routes(&mut out, alloc, d, scale, items, omit_fixed)?;
     put(&mut out, b")\n")?;
     Ok(out)
+}
+
+/// The session's bytes for the items of a board, in order of id. The only error is want of memory.
+pub fn session_text(
+    alloc: Global,
+    d: &Design,
+    board: &Board,
+    omit_fixed: bool,
+) -> Result<Vec<u8>, AllocError>
+    ensures { IfOk result (λ text. text.items ≡ session_of d.now board.now.items omit_fixed) }
+{
+    let items = items_of(alloc, board)?;
+    items_session(alloc, d, items.as_slice(), omit_fixed)
 }

@@ -9,16 +9,11 @@ use geo_kernel::{List, Name, Point};
 use itoa::Buffer;
 use std::alloc::AllocError;
 
-pub(crate) fn put(out: &mut Vec<u8>, bytes: &[u8]) -> Result<(), AllocError>
+/// Appends bytes. The only error is want of memory.
+pub fn put(out: &mut Vec<u8>, bytes: &[u8]) -> Result<(), AllocError>
     ensures { OnOk result (Appends out.old.items out.new.items bytes.now) }
 {
     out.extend_from_slice(bytes)
-}
-
-fn put_name(out: &mut Vec<u8>, name: &Name) -> Result<(), AllocError>
-    ensures { OnOk result (Appends out.old.items out.new.items name.now) }
-{
-    put(out, name.as_slice())
 }
 
 fn needs_no_quotes(b: u8) -> bool
@@ -39,17 +34,23 @@ fn is_bare_name(name: &[u8]) -> bool
     !name.is_empty() && need_no_quotes(name)
 }
 
-// A name, between quotes where it needs them.
+/// Appends a name, between quotes where it needs them. The only error is want of memory.
 #[tactic(auto, unfolding(crate::specs::Words::spelled))]
+pub fn put_word(out: &mut Vec<u8>, name: &[u8]) -> Result<(), AllocError>
+    ensures { OnOk result (Appends out.old.items out.new.items (spelled name.now)) }
+{
+    if is_bare_name(name) {
+        return put(out, name);
+    }
+    put(out, b"\"")?;
+    put(out, name)?;
+    put(out, b"\"")
+}
+
 pub(crate) fn put_spelled(out: &mut Vec<u8>, name: &Name) -> Result<(), AllocError>
     ensures { OnOk result (Appends out.old.items out.new.items (spelled name.now)) }
 {
-    if is_bare_name(name.as_slice()) {
-        return put_name(out, name);
-    }
-    put(out, b"\"")?;
-    put_name(out, name)?;
-    put(out, b"\"")
+    put_word(out, name.as_slice())
 }
 
 // The empty name.
@@ -96,7 +97,8 @@ pub(crate) fn put_width(out: &mut Vec<u8>, nm: u64, width: u64) -> Result<(), Al
     put(out, buffer.format(width_in(nm, width)).as_bytes())
 }
 
-pub(crate) fn put_whole(out: &mut Vec<u8>, n: u64) -> Result<(), AllocError>
+/// Appends a number, in decimal digits. The only error is want of memory.
+pub fn put_whole(out: &mut Vec<u8>, n: u64) -> Result<(), AllocError>
     ensures { OnOk result (Appends out.old.items out.new.items (decimal n)) }
 {
     let mut buffer = Buffer::new();

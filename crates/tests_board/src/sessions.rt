@@ -5,11 +5,11 @@ ghost use Rattle.pcb_model.specs.Sound.{IsSound};
 
 use crate::board::{board, routed};
 use pcb_model::{Design, Item, SesScale};
-use ses_writer::session_text;
+use ses_writer::items_session;
 use std::alloc::Global;
 
 fn bytes(alloc: Global, d: &Design, items: &[Item], omit_fixed: bool) -> Option<Vec<u8>> {
-    session_text(alloc, d, items, omit_fixed).ok()
+    items_session(alloc, d, items, omit_fixed).ok()
 }
 
 fn is_text(

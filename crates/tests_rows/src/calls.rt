@@ -3,17 +3,46 @@
 
 use crate::designs::swapped;
 use desk_io::{MemDesk, MemSink, NoGate};
-use dsn_route::{Status, dsn_route};
+use dsn_route::{Outcome, Status, dsn_route};
 use std::alloc::{AllocError, Global};
+use std::sync::Wait;
 use std::test::Fail;
 
-/// The words of a call that routes at a grid of 1 mm.
-pub(crate) const ROUTE: [&str; 5] = ["route", "u.dsn", "u.ses", "--grid", "1000"];
+/// The words of a call that routes at a grid of 1 mm by one worker in one pass.
+pub(crate) const ROUTE: [&str; 9] = [
+    "route",
+    "u.dsn",
+    "u.ses",
+    "--grid",
+    "1000",
+    "--workers",
+    "1",
+    "--passes",
+    "1",
+];
 
-/// How a call ended, and the desk and the sink that it left.
+/// The same in three passes.
+pub(crate) const ROUTE_THRICE: [&str; 6] = [
+    "route",
+    "u.dsn",
+    "u.ses",
+    "--grid=1000",
+    "--workers=1",
+    "--passes=3",
+];
+
+/// What is told of a run: how many entries its board has, and which pass was kept.
+#[derive(Clone, Copy, Debug, PartialEq, Eq)]
+pub(crate) struct Made {
+    pub entries: usize,
+    pub kept: u32,
+}
+
+/// How a call ended, what is told of its run, and the desk and the sink that it left.
 #[derive(Drop)]
 pub(crate) struct Left {
     status: Status,
+    made: Option<Made>,
     desk: MemDesk,
     sink: MemSink,
 }
@@ -24,9 +53,14 @@ impl Left {
         self.status == status && self.sink.bytes() == report.as_bytes()
     }
 
-    /// Whether the call ended so, put this line, and wrote no session.
+    /// Whether the call ended so, put this line, wrote no session and routed nothing.
     pub(crate) fn stopped(&self, status: Status, line: &str) -> bool {
-        self.says(status, line) && self.session().is_none()
+        self.says(status, line) && self.session().is_none() && self.made.is_none()
+    }
+
+    /// What is told of the run, if something was routed.
+    pub(crate) fn made(&self) -> Option<Made> {
+        self.made
     }
 
     /// The session, if one was written.
@@ -72,17 +106,33 @@ fn sink_of(alloc: Global, fails: u64) -> Result<MemSink, AllocError> {
     Ok(MemSink::new(alloc, fails))
 }
 
+// What is told of the run of an outcome.
+fn made_of(outcome: &Outcome) -> Option<Made> {
+    match &outcome.routed {
+        Some(routed) => Some(Made {
+            entries: routed.board.history().len(),
+            kept: routed.facts.kept,
+        }),
+        None => None,
+    }
+}
+
 /// Calls over that desk and sink.
-fn call<T>(rt: &T, alloc: Global, words: &[String], desk: MemDesk, sink: MemSink) -> Left {
+fn call<T: Wait>(rt: &T, alloc: Global, words: &[String], desk: MemDesk, sink: MemSink) -> Left {
     let mut desk = desk;
     let mut sink = sink;
-    let status = dsn_route(rt, alloc, words, &mut desk, &mut sink, &NoGate);
-    Left { status, desk, sink }
+    let outcome = dsn_route(rt, alloc, words, &mut desk, &mut sink, &NoGate);
+    Left {
+        status: outcome.status,
+        made: made_of(&outcome),
+        desk,
+        sink,
+    }
 }
 
 /// What a call with these words leaves over a design's text. The desk's call and the sink's put of these numbers fail;
 /// they count from 1, so 0 lets none fail.
-pub(crate) fn called<T>(
+pub(crate) fn called<T: Wait>(
     rt: &T,
     alloc: Global,
     text: &str,
@@ -97,7 +147,7 @@ pub(crate) fn called<T>(
 }
 
 /// What a call that routes at a grid of 1 mm leaves over a design's text with these edits.
-pub(crate) fn routed<T>(
+pub(crate) fn routed<T: Wait>(
     rt: &T,
     alloc: Global,
     text: &str,

@@ -110,15 +110,16 @@ fn designs_that_break_a_rule_are_refused_and_a_passed_limit_is_said(
 #[test]
 fn calls_that_stop_say_why(rt: HostRuntime) -> Result<(), Fail> {
     let alloc = rt.alloc();
-    let cases: [(&[&str], Status, &str); 10] = [
+    let cases: [(&[&str], Status, &str); 14] = [
         (&[], Status::Usage, "usage 1\n"),
         (&["draw"], Status::Usage, "usage 2\n"),
-        (&["gen", "1"], Status::Usage, "usage 2\n"),
+        (&["gen", "401"], Status::Usage, "usage 3\n"),
         (&["route", "u.dsn"], Status::Usage, "usage 3\n"),
         (&["route", "a", "-b"], Status::Usage, "usage 3\n"),
         (&["route", "a", "b", "--grid"], Status::Usage, "usage 3\n"),
+        (&["route", "a", "b", "--grid=0"], Status::Usage, "usage 3\n"),
         (
-            &["route", "a", "b", "--grid", "0"],
+            &["route", "a", "b", "--grid", "5", "--grid", "5"],
             Status::Usage,
             "usage 3\n",
         ),
@@ -126,6 +127,21 @@ fn calls_that_stop_say_why(rt: HostRuntime) -> Result<(), Fail> {
             &["route", "a", "b", "--grid", "100001"],
             Status::Usage,
             "usage 3\n",
+        ),
+        (
+            &["route", "a", "b", "--omit-fixed=1"],
+            Status::Usage,
+            "usage 3\n",
+        ),
+        (
+            &["route", "a", "b", "--passes", "100"],
+            Status::Usage,
+            "usage 3\n",
+        ),
+        (
+            &["route", "--", "-a", "-b"],
+            Status::ReadFault,
+            "read fault\n",
         ),
         (
             &["route", "v.dsn", "u.ses", "--grid", "100000"],

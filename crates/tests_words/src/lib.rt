@@ -1,8 +1,10 @@
-//! The tests of the words of the command line and of generated boards.
+//! The tests of the words of the command line, of generated boards and of what standard error says.
 //! They stand over public calls in a crate of their own, so that the crates below are proved without them.
 #![tactic(auto)]
 
 #[cfg(test)]
 mod of_board_gen;
+#[cfg(test)]
+mod of_fault_notes;
 #[cfg(test)]
 mod of_route_words;

@@ -39,6 +39,12 @@ pub(crate) struct Task<'a, M: Moves, B: Bound, T: Ties> {
 }
 
 impl<'a, M: Moves, B: Bound, T: Ties> Task<'a, M, B, T> {
+    /// What tells apart nodes that wait under one key: the one nearest to the goals comes first. Where a rule of ties chooses,
+    /// the one of least price does, so that a node is done after all that come before it on a least walk.
+    fn among_equals(&self, price: u64, low: u64) -> u64 {
+        if self.ties.tells() { price } else { low }
+    }
+
     /// Looks at move `i` of the node, which was done last.
     fn relax_one(
         &self,
@@ -82,7 +88,8 @@ impl<'a, M: Moves, B: Bound, T: Ties> Task<'a, M, B, T> {
         )?;
         let low = self.b.low(to);
         let key = price + low;
-        front.push(Entry { key, node: to }, low)?;
+        let order = self.among_equals(price, low);
+        front.push(Entry { key, node: to }, order)?;
         Ok(())
     }
 
@@ -134,7 +141,8 @@ impl<'a, M: Moves, B: Bound, T: Ties> Task<'a, M, B, T> {
                 },
             )?;
             let key = self.b.low(node);
-            front.push(Entry { key, node }, key)?;
+            let order = self.among_equals(0, key);
+            front.push(Entry { key, node }, order)?;
         }
         Ok(())
     }

@@ -1,22 +1,23 @@
 use Rattle.std.proofs.Common.{Ok, inr, refl, ap}
 use Rattle.dsn_route.specs.declared.status.Status.TheVariants.{Limit}
-use Rattle.dsn_route.specs.Answers.{nodes_line}
-use Rattle.dsn_route.specs.Said.{command_from}
+use Rattle.dsn_route.specs.Lines.{nodes_line}
 use Rattle.dsn_route.proofs.Ended.{stopped, routed}
 use Rattle.dsn_route.proofs.route.route_design.Goals as goal
 
 pub returns-in-Ok : goal.returns-in-Ok
 returns-in-Ok g c =
-    routed (command_from c.args.asked) _ _ _ _ _ c.args.text.now c.args.design c.requires.input c.requires.reads c.route_on.ensures
+    routed c.args.command.now _ _ _ _ c.args.text.now c.args.design c.requires.is_text c.requires.reads
+    c.route_on.result.routed c.route_on.result.status c.route_on.ensures
 
 pub returns-in-Err-TooManyNodes : goal.returns-in-Err-TooManyNodes
 returns-in-Err-TooManyNodes g c =
-    let gives = rw c.in-Err-TooManyNodes.field-0-is at c.in-Err-TooManyNodes.ensures.lattice in
-    rw c.ended.ensures (stopped (Ok (command_from c.args.asked)) _ _ _ _ _ Limit (nodes_line c.in-Err-TooManyNodes.count)
+    let gives = rw (c.in-Err-TooManyNodes.field-0-is, c.knobs_of.ensures) at c.in-Err-TooManyNodes.ensures.lattice in
+    rw (c.unrouted.ensures, c.ended.ensures)
+    (stopped (Ok c.args.command.now) _ _ _ _ _ Limit (nodes_line c.in-Err-TooManyNodes.count)
     (inr (inr (record {
       text = c.args.text.now;
       design = c.args.design;
-      input = c.requires.input;
+      is_text = c.requires.is_text;
       reads = c.requires.reads;
       many = gives.1;
       line_is = ap nodes_line gives.0;

@@ -1,0 +1,55 @@
+-- What a command asks for: a text, a lattice of its design, and a run.
+use Rattle.std.specs.Prelude.{◌≡◌, ◌≤◌, ℕ, Bool, true, false, List, length, unwrap_or, None}
+use Rattle.desk_io.specs.States.{DeskState}
+use Rattle.desk_io.specs.Answers.{IsFile, IsHeld}
+use Rattle.pcb_model.specs.declared.design.Design.{Design}
+use Rattle.route_lattice.specs.Mesh.{Mesh}
+use Rattle.route_lattice.specs.Whole.{default_grid, lattice_of}
+use Rattle.route_words.specs.declared.command.Command.{Command}
+use Rattle.route_words.specs.declared.command.Command.TheVariants.{Route, Gen}
+use Rattle.route_words.specs.declared.command.Knobs.{Knobs}
+use Rattle.board_gen.specs.Board.{text_of}
+use Rattle.route_run.specs.Runs.{RunOf, run_from}
+use Rattle.dsn_route.specs.Lines.{max_bytes}
+
+-- a generated board is routed by one worker, and else as without an option
+abbrev pub default_knobs : Knobs
+default_knobs = record { grid = None; workers = 1; passes = 10; via_cost = 2000000; omit_fixed = false }
+
+abbrev pub knobs_of : Command → Knobs
+knobs_of (Route input output knobs) = knobs
+knobs_of (Gen n) = default_knobs
+
+-- the lattice that is asked for: at the grid of the words, or at the design's default grid
+abbrev pub mesh_at : Knobs → Design → Mesh
+mesh_at knobs d = lattice_of d (unwrap_or knobs.grid (default_grid d))
+
+abbrev pub mesh_of : Command → Design → Mesh
+mesh_of command d = mesh_at (knobs_of command) d
+
+-- the run that is asked for; one worker makes it, however many are asked for
+abbrev pub run_at : Knobs → RunOf
+run_at knobs = run_from knobs.via_cost knobs.passes
+
+abbrev pub run_of : Command → RunOf
+run_of command = run_at (knobs_of command)
+
+-- the text is that of the file at entry, where the desk tells its files, and within the limit
+pub record IsInput (name : List ℕ) (desk : DeskState) (text : List ℕ) : Type 0 where
+  pub file : IsFile desk.files name text
+  pub fits : length text ≤ max_bytes
+
+-- the text whose design is routed: that of the input, or the generated one
+abbrev pub IsText : Command → DeskState → List ℕ → Type 0
+IsText (Route input output knobs) desk text = IsInput input desk text
+IsText (Gen n) desk text = text ≡ text_of n
+
+-- it is told at entry which text that is
+abbrev pub IsToldText : Command → DeskState → List ℕ → Type 0
+IsToldText (Route input output knobs) desk text = IsHeld desk.files input text
+IsToldText (Gen n) desk text = text ≡ text_of n
+
+-- the report of a generated board is short
+abbrev pub is_short : Command → Bool
+is_short (Route input output knobs) = false
+is_short (Gen n) = true

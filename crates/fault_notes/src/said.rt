@@ -1,0 +1,36 @@
+//! What a status line says.
+//! The names of what is counted are those of the line.
+
+/// What is counted where a limit is passed.
+#[derive(Clone, Copy, Debug, PartialEq, Eq)]
+pub enum Counted {
+    /// The bytes of the design's file.
+    Bytes,
+    /// The layers of the design.
+    Layers,
+    /// Its nets.
+    Nets,
+    /// Its pins.
+    Pins,
+    /// Its pads, keepouts and wires.
+    Items,
+    /// The vertices of one shape.
+    Vertices,
+    /// The nodes of the lattice.
+    Nodes,
+}
+
+/// What a status line says.
+#[derive(Clone, Copy, Debug, PartialEq, Eq)]
+pub enum Said {
+    /// The words are refused by this number.
+    Usage { number: u64 },
+    /// The design is refused by this number, at the byte with this offset.
+    Refused { number: u64, place: u64 },
+    /// The design's file can't be read.
+    ReadFault,
+    /// A limit is passed. The number is the limit, or for nodes how many there would be.
+    Limit { counted: Counted, number: u128 },
+    /// It is no status line.
+    Other,
+}

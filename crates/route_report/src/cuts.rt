@@ -1,0 +1,212 @@
+//! What the report tells of a cut: its island, what blocks it, and the nodes that it holds.
+
+ghost use Rattle.std.specs.Prelude.{◌≡◌, [], false, OnOk, IfOk, filter, flat_map};
+ghost use Rattle.ses_writer.specs.Words.{Appends};
+ghost use Rattle.route_report.specs.Report.{component_name as component_name_of, name_of_pin, pin_name, pin_word};
+ghost use Rattle.route_report.specs.Report.{cut_line, kind_word, is_outside as is_outside_by};
+ghost use Rattle.route_report.specs.Report.{has_outside as has_outside_in, by_line, outside_line, by_lines};
+ghost use Rattle.route_report.specs.Report.{detail_lines, cut_lines};
+ghost use Rattle.route_report.specs.Naming.{has_id, is_among, AreNamed, AreNamedOnce, AreAscending};
+
+use crate::stretches::put_stretches;
+use crate::words::{put_count, put_counted};
+use cut_certificate::{Block, Blocker, Cut};
+use pcb_board::Board;
+use pcb_model::{Copper, Design, Item, Kind, Pin};
+use pcb_tiles::Tiles;
+use route_lattice::Lattice;
+use ses_writer::{put, put_word};
+use std::alloc::{AllocError, Global};
+
+fn component_name(d: &Design, component: u32) -> &[u8]
+    ensures { result.now ≡ component_name_of d.now component }
+{
+    match d.components.as_slice().get(component as usize) {
+        Some(c) => c.name.as_slice(),
+        None => &[],
+    }
+}
+
+// The component's name, a hyphen and the pin's name.
+fn put_pin(out: &mut Vec<u8>, d: &Design, pin: &Pin) -> Result<(), AllocError>
+    ensures { OnOk result (Appends out.old.items out.new.items (name_of_pin d.now pin.now)) }
+{
+    put(out, component_name(d, pin.component))?;
+    put(out, b"-")?;
+    put(out, pin.name.as_slice())
+}
+
+fn name_of(alloc: Global, d: &Design, pin: u32) -> Result<Vec<u8>, AllocError>
+    ensures { IfOk result (λ name. name.items ≡ pin_name d.now pin) }
+{
+    let mut name = Vec::new(alloc);
+    match d.pins.as_slice().get(pin as usize) {
+        Some(p) => {
+            put_pin(&mut name, d, p)?;
+            Ok(name)
+        }
+        None => Ok(name),
+    }
+}
+
+#[tactic(auto, unfolding(crate::specs::Report::pin_word))]
+fn put_pin_word(out: &mut Vec<u8>, alloc: Global, d: &Design, pin: u32) -> Result<(), AllocError>
+    ensures { OnOk result (Appends out.old.items out.new.items (pin_word d.now pin)) }
+{
+    let name = name_of(alloc, d, pin)?;
+    put_word(out, &name)
+}
+
+#[tactic(auto, unfolding(crate::specs::Report::cut_line))]
+fn put_cut_line(out: &mut Vec<u8>, alloc: Global, d: &Design, cut: &Cut) -> Result<(), AllocError>
+    ensures { OnOk result (Appends out.old.items out.new.items (cut_line d.now cut.now)) }
+{
+    put(out, b"cut ")?;
+    put_pin_word(out, alloc, d, cut.pin)?;
+    put_counted(out, b" reached ", cut.reach.nodes.len() as u64)?;
+    put_count(out, b" blocked ", cut.blocked.len() as u64)
+}
+
+// ---- what blocks
+
+fn put_kind(out: &mut Vec<u8>, kind: Kind) -> Result<(), AllocError>
+    ensures { OnOk result (Appends out.old.items out.new.items (kind_word kind)) }
+{
+    match kind {
+        Kind::Wire => put(out, b"wire"),
+        Kind::Via => put(out, b"via"),
+        Kind::Pin => put(out, b"pin"),
+        Kind::Smd => put(out, b"smd"),
+        Kind::Area => put(out, b"area"),
+    }
+}
+
+#[tactic(auto, unfolding(crate::specs::Report::by_line))]
+fn put_by(out: &mut Vec<u8>, item: &Item) -> Result<(), AllocError>
+    ensures { OnOk result (Appends out.old.items out.new.items (by_line item.now)) }
+{
+    put(out, b"by ")?;
+    put_kind(out, item.kind)?;
+    put_count(out, b" ", item.id)
+}
+
+// The line of the item of an id, as far as there is one.
+fn put_by_id(out: &mut Vec<u8>, copper: &Tiles, id: u64) -> Result<(), AllocError>
+    ensures { OnOk result (Appends out.old.items out.new.items
+        (flat_map by_line (filter (has_id id) copper.now.items))) }
+{
+    copper.in_order();
+    match copper.item(id) {
+        Some(item) => put_by(out, item),
+        None => Ok(()),
+    }
+}
+
+fn put_by_ids(out: &mut Vec<u8>, copper: &Tiles, ids: &[u64]) -> Result<(), AllocError>
+    requires { AreAscending ids.now }
+    ensures { OnOk result (Appends out.old.items out.new.items
+        (flat_map by_line (filter (is_among ids.now) copper.now.items))) }
+{
+    copper.in_order();
+    for id in ids {
+        put_by_id(out, copper, *id)?;
+    }
+    Ok(())
+}
+
+// The ids that blocks name.
+fn named_ids(alloc: Global, blocked: &[Block]) -> Result<Vec<u64>, AllocError>
+    ensures { IfOk result (λ ids. AreNamed blocked.now ids.items) }
+{
+    let mut ids = Vec::new(alloc);
+    for b in blocked {
+        if let Blocker::Item(id) = b.by {
+            ids.push(id)?;
+        }
+    }
+    Ok(ids)
+}
+
+// The ids that blocks name, each once and ascending.
+fn blocking_ids(alloc: Global, blocked: &[Block]) -> Result<Vec<u64>, AllocError>
+    ensures { IfOk result (λ ids. AreNamedOnce blocked.now ids.items) }
+{
+    let mut ids = named_ids(alloc, blocked)?;
+    ids.sort_unstable();
+    ids.dedup();
+    Ok(ids)
+}
+
+fn is_outside(b: &Block) -> bool
+    ensures { result ≡ is_outside_by b.now.by }
+{
+    match b.by {
+        Blocker::Item(_) => false,
+        Blocker::Outside => true,
+    }
+}
+
+fn has_outside(blocked: &[Block]) -> bool
+    ensures { result ≡ has_outside_in blocked.now }
+{
+    blocked.iter().any(|b| is_outside(b))
+}
+
+fn put_outside(out: &mut Vec<u8>, blocked: &[Block]) -> Result<(), AllocError>
+    ensures { OnOk result (Appends out.old.items out.new.items (outside_line blocked.now)) }
+{
+    if has_outside(blocked) {
+        put(out, b"by outside\n")
+    } else {
+        Ok(())
+    }
+}
+
+fn put_bys(
+    out: &mut Vec<u8>,
+    alloc: Global,
+    copper: &Tiles,
+    blocked: &[Block],
+) -> Result<(), AllocError>
+    ensures { OnOk result (Appends out.old.items out.new.items (by_lines copper.now.items blocked.now)) }
+{
+    let ids = blocking_ids(alloc, blocked)?;
+    put_by_ids(out, copper, &ids)?;
+    put_outside(out, blocked)
+}
+
+// ---- the whole
+
+fn put_detail(
+    out: &mut Vec<u8>,
+    alloc: Global,
+    lat: &Lattice,
+    board: &Board,
+    cut: &Cut,
+) -> Result<(), AllocError>
+    ensures { OnOk result (Appends out.old.items out.new.items (detail_lines lat.now board.now.items false cut.now)) }
+{
+    put_bys(out, alloc, board.items(), cut.blocked.as_slice())?;
+    put_stretches(out, lat, cut.reach.nodes.as_slice())
+}
+
+/// The lines of a cut; the line alone where `short`.
+#[tactic(auto, unfolding(crate::specs::Report::cut_lines))]
+pub(crate) fn put_cut(
+    out: &mut Vec<u8>,
+    alloc: Global,
+    d: &Design,
+    lat: &Lattice,
+    board: &Board,
+    short: bool,
+    cut: &Cut,
+) -> Result<(), AllocError>
+    ensures { OnOk result (Appends out.old.items out.new.items
+        (cut_lines d.now lat.now board.now.items short cut.now)) }
+{
+    put_cut_line(out, alloc, d, cut)?;
+    if short {
+        return Ok(());
+    }
+    put_detail(out, alloc, lat, board, cut)
+}

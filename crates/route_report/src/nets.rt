@@ -1,0 +1,170 @@
+//! What the report tells of the nets: each net's line and its cuts, and how many nets are complete and open.
+
+ghost use Rattle.std.specs.Prelude.{◌≡◌, ◌==◌, ℕ, ◌+◌, ◌<◌, ◌^◌, ◌++◌, [], not, OnOk, IfOk, All, Vec, count_by};
+ghost use Rattle.std.specs.Prelude.{flat_map, length};
+ghost use Rattle.std.specs.List.{enumerate_from};
+ghost use Rattle.std.specs.Global.{Global as Memory};
+ghost use Rattle.ses_writer.specs.Words.{Appends};
+ghost use Rattle.route_report.specs.Report.{cut_lines, verdict_words, net_line, net_lines, total_line};
+ghost use Rattle.route_report.specs.Tallies.{AddsOne, AreCounts, AddsPiece, TellsCuts};
+
+use crate::cuts::put_cut;
+use crate::facts::Facts;
+use crate::words::{put_count, put_counted};
+use cut_certificate::Cut;
+use pcb_board::Board;
+use pcb_model::{Design, Net};
+use route_lattice::Lattice;
+use ses_writer::{put, put_word};
+use std::alloc::{AllocError, Global};
+
+// ---- how many cuts each net has
+
+fn add_one(numbers: &mut Vec<u64>, net: u32)
+    requires { All (λ n. n + 1 < 2 ^ 64) numbers.old.items }
+    ensures { AddsOne net numbers.old.items numbers.new.items }
+{
+    let at = net as usize;
+    if at < numbers.len() {
+        numbers[at] += 1;
+    }
+}
+
+// In one pass over the cuts.
+fn cut_counts(alloc: Global, cuts: &[Cut], nets: usize) -> Result<Vec<u64>, AllocError>
+    ensures { IfOk result (λ counts. AreCounts cuts.now nets counts.items) }
+{
+    let mut counts = vec![in alloc; 0; nets]?;
+    for cut in cuts {
+        add_one(&mut counts, cut.net);
+    }
+    Ok(counts)
+}
+
+// ---- what is told of each net's cuts
+
+fn empty_texts(alloc: Global, count: usize) -> Result<Vec<Vec<u8>>, AllocError>
+    ensures count_is { IfOk result (λ v. length v.items ≡ count) }
+    ensures all_empty { IfOk result (λ v. All (λ (t : Vec ℕ Memory). t.items ≡ []) v.items) }
+{
+    let mut texts = Vec::new(alloc);
+    for _ in 0..count {
+        texts.push(Vec::new(alloc))?;
+    }
+    Ok(texts)
+}
+
+fn add_cut(
+    texts: &mut Vec<Vec<u8>>,
+    alloc: Global,
+    d: &Design,
+    lat: &Lattice,
+    board: &Board,
+    short: bool,
+    cut: &Cut,
+) -> Result<(), AllocError>
+    ensures { OnOk result (AddsPiece cut.now.net (cut_lines d.now lat.now board.now.items short cut.now)
+        texts.old.items texts.new.items) }
+{
+    let at = cut.net as usize;
+    if at < texts.len() {
+        let text = &mut texts[at];
+        put_cut(text, alloc, d, lat, board, short, cut)?;
+    }
+    Ok(())
+}
+
+// In one pass over the cuts.
+fn cut_texts(
+    alloc: Global,
+    d: &Design,
+    lat: &Lattice,
+    board: &Board,
+    short: bool,
+    cuts: &[Cut],
+) -> Result<Vec<Vec<u8>>, AllocError>
+    ensures { IfOk result (λ texts. TellsCuts (cut_lines d.now lat.now board.now.items short)
+        cuts.now (length d.now.nets) texts.items) }
+{
+    let mut texts = empty_texts(alloc, d.nets.len())?;
+    for cut in cuts {
+        add_cut(&mut texts, alloc, d, lat, board, short, cut)?;
+    }
+    Ok(texts)
+}
+
+// ---- the nets
+
+fn put_verdict(out: &mut Vec<u8>, count: u64) -> Result<(), AllocError>
+    ensures { OnOk result (Appends out.old.items out.new.items (verdict_words count)) }
+{
+    if count == 0 {
+        return put(out, b" complete\n");
+    }
+    put_count(out, b" open ", count)
+}
+
+#[tactic(auto, unfolding(crate::specs::Report::net_line))]
+fn put_net_line(out: &mut Vec<u8>, net: &Net, count: u64) -> Result<(), AllocError>
+    ensures { OnOk result (Appends out.old.items out.new.items (net_line net.now.name count)) }
+{
+    put(out, b"net ")?;
+    put_word(out, net.name.as_slice())?;
+    put_verdict(out, count)
+}
+
+fn put_net(out: &mut Vec<u8>, net: &Net, count: u64, lines: &[u8]) -> Result<(), AllocError>
+    ensures { OnOk result (Appends out.old.items out.new.items (net_line net.now.name count ++ lines.now)) }
+{
+    put_net_line(out, net, count)?;
+    put(out, lines)
+}
+
+/// The lines of each net, in the design's order.
+pub(crate) fn put_nets(
+    out: &mut Vec<u8>,
+    alloc: Global,
+    d: &Design,
+    lat: &Lattice,
+    board: &Board,
+    facts: &Facts,
+    short: bool,
+) -> Result<(), AllocError>
+    ensures { OnOk result (Appends out.old.items out.new.items
+        (flat_map (net_lines d.now lat.now board.now.items facts.now short) (enumerate_from 0 d.now.nets))) }
+{
+    let counts = cut_counts(alloc, facts.cuts.as_slice(), d.nets.len())?;
+    let texts = cut_texts(alloc, d, lat, board, short, facts.cuts.as_slice())?;
+    for (i, net) in d.nets.as_slice().iter().enumerate() {
+        put_net(out, net, counts[i], texts[i].as_slice())?;
+    }
+    Ok(())
+}
+
+fn zeros(counts: &[u64]) -> usize
+    ensures { result ≡ count_by (λ n. n == 0) counts.now }
+{
+    counts.iter().filter(|n| **n == 0).count()
+}
+
+fn others(counts: &[u64]) -> usize
+    ensures { result ≡ count_by (λ n. not (n == 0)) counts.now }
+{
+    counts.iter().filter(|n| **n != 0).count()
+}
+
+/// How many nets are complete, and how many open.
+#[tactic(auto, unfolding(crate::specs::Report::total_line))]
+pub(crate) fn put_totals(
+    out: &mut Vec<u8>,
+    alloc: Global,
+    d: &Design,
+    facts: &Facts,
+) -> Result<(), AllocError>
+    ensures { OnOk result (Appends out.old.items out.new.items (total_line d.now facts.now)) }
+{
+    let counts = cut_counts(alloc, facts.cuts.as_slice(), d.nets.len())?;
+    put_counted(out, b"complete ", zeros(&counts) as u64)?;
+    put_count(out, b" open ", others(&counts) as u64)?;
+    Ok(())
+}

@@ -1,9 +1,0 @@
-use Rattle.std.proofs.Common.{◌-◌, ◌^◌}
-use Rattle.route_run.proofs.Listing.{AreBelow}
-use Rattle.route_run.proofs.run.items_of.Given as goal
-
-abbrev pub invariant-loop-item : goal.invariant-loop-item
-invariant-loop-item l = AreBelow l.copper.items l.from l.items
-
-abbrev pub decreases-loop-item : goal.decreases-loop-item
-decreases-loop-item l = 2 ^ 64 - l.from

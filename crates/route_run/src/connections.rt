@@ -1,0 +1,48 @@
+//! What is open on a board: the nets with several islands, and how many connections they lack.
+
+ghost use Rattle.std.specs.Prelude.{◌≡◌, ◌<◌, ◌≤◌, ◌^◌, IfOk, length};
+ghost use Rattle.pcb_model.specs.Sound.{IsSound, Serves};
+ghost use Rattle.route_run.specs.Passing.{IsOpenNet, AreOpenOn};
+
+use pcb_board::{Board, Snap, boards_serve};
+use pcb_islands::{islands, islands_are_one};
+use std::alloc::{AllocError, Global};
+
+/// The nets that have several islands, in order, and how many connections are open.
+#[derive(Drop)]
+pub(crate) struct OpenNets {
+    pub nets: Vec<u32>,
+    pub count: u64,
+}
+
+// How many connections of a net are open: its islands less one, and none where it has no island.
+fn open_connections(alloc: Global, snap: &Snap, net: u32) -> Result<u64, AllocError>
+    requires sound { IsSound snap.now.design }
+    requires serves { Serves snap.now.items snap.now.design }
+    requires net { net < length snap.now.design.nets }
+    ensures count { IfOk result (IsOpenNet snap.now.design snap.now.items net) }
+    ensures few { IfOk result (λ count. count ≤ 2 ^ 26) }
+{
+    let found = islands(alloc, snap.design(), snap, net)?;
+    Ok((found.len() as u64).saturating_sub(1))
+}
+
+/// Looks over the nets of a board.
+pub(crate) fn look_over(alloc: Global, board: &Board) -> Result<OpenNets, AllocError>
+    ensures { IfOk result (AreOpenOn board.now) }
+{
+    board.keeps();
+    boards_serve();
+    islands_are_one();
+    let snap = board.snap()?;
+    let mut nets = Vec::new(alloc);
+    let mut count = 0;
+    for net in 0..snap.design().nets.len() as u32 {
+        let open = open_connections(alloc, &snap, net)?;
+        if 0 < open {
+            nets.push(net)?;
+            count += open;
+        }
+    }
+    Ok(OpenNets { nets, count })
+}

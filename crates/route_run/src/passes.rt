@@ -1,0 +1,130 @@
+//! Passes one after another: each works off the nets that have several islands when it starts.
+//! They end where nothing is open, where a pass above the first made no entry, or where the board takes no more.
+
+ghost use Rattle.std.specs.Prelude.{◌≡◌, ◌+◌, ◌<◌, ◌≤◌, [], IfOk, IsTrue, not, length};
+ghost use Rattle.route_run.specs.Runs.{run_from, pass_at, penalty_of as penalty_at, HaveEnded};
+ghost use Rattle.route_run.specs.Passing.{IsTask, AreOpenOn, IsMade, EndsBy, HasPassed, Stays};
+
+use crate::connections::{OpenNets, look_over};
+use desk_io::Gate;
+use geo_kernel::List;
+use pcb_board::Board;
+use route_lattice::Lattice;
+use route_report::PassLine;
+use searcher_pool::{full_passes_are_spent, is_full, passes_are_least, run_pass};
+use std::alloc::{AllocError, Global};
+use std::sync::Wait;
+
+/// What a pass leaves: the board, the pass's line, what is open then, and whether the board was full for an offer.
+#[derive(Drop)]
+pub(crate) struct Made {
+    pub board: Board,
+    pub line: PassLine,
+    pub open_nets: OpenNets,
+    pub full: bool,
+}
+
+// The penalty of a pass.
+fn penalty_of(pass: u32) -> Option<u64>
+    requires { pass ≤ 99 }
+    ensures { result ≡ penalty_at pass }
+{
+    if pass <= 1 {
+        None
+    } else {
+        Some(5_000_000 * u64::from(pass))
+    }
+}
+
+// Makes the pass of a number over the open nets.
+fn one_pass<R: Wait, G: Gate>(
+    rt: &R,
+    alloc: Global,
+    lat: &Lattice,
+    via_cost: u64,
+    number: u32,
+    board: Board,
+    open_nets: OpenNets,
+    gate: &G,
+) -> Result<Made, AllocError>
+    requires task { IsTask board.design lat.now via_cost }
+    requires number { number ≤ 99 }
+    requires open_nets { AreOpenOn board open_nets }
+    ensures made { IfOk result (IsMade (pass_at lat.now via_cost 1 number) board) }
+    ensures open_nets { IfOk result (λ made. AreOpenOn made.board made.open_nets) }
+{
+    board.keeps();
+    let before = board.history().len() as u64;
+    let penalty = penalty_of(number);
+    let (board, logs) = match run_pass(
+        rt,
+        alloc,
+        board,
+        lat,
+        via_cost,
+        open_nets.nets,
+        penalty,
+        gate,
+    ) {
+        Ok(made) => made,
+        Err(back) => return Err(back.cause),
+    };
+    board.keeps();
+    passes_are_least();
+    full_passes_are_spent();
+    let full = is_full(logs.as_slice());
+    let open_nets = look_over(alloc, &board)?;
+    let line = PassLine {
+        commits: board.history().len() as u64 - before,
+        parted: open_nets.count,
+    };
+    Ok(Made {
+        board,
+        line,
+        open_nets,
+        full,
+    })
+}
+
+// Whether a pass may follow the one of this number.
+fn may_follow(number: u32, line: PassLine, full: bool) -> bool
+    ensures more { IsTrue result → (0 < line.parted) × (1 < number → 0 < line.commits) }
+    ensures ended { IsTrue (not result) → EndsBy number line full }
+{
+    0 < line.parted && (number <= 1 || 0 < line.commits) && !full
+}
+
+/// Makes passes over the nets of a new board until they end, at most as many as `passes`. A via costs `via_cost` nm.
+pub(crate) fn make_passes<R: Wait, G: Gate>(
+    rt: &R,
+    alloc: Global,
+    lat: &Lattice,
+    via_cost: u64,
+    passes: u32,
+    board: Board,
+    gate: &G,
+) -> Result<(Board, List<PassLine>), AllocError>
+    requires task { IsTask board.design lat.now via_cost }
+    requires passes { (1 ≤ passes) × (passes ≤ 99) }
+    requires new { board.history ≡ [] }
+    ensures passed { IfOk result (λ r. HasPassed lat.now (run_from via_cost passes) r.0 r.1) }
+    ensures ended { IfOk result (λ r. HaveEnded (run_from via_cost passes) r.0 r.1) }
+    ensures same { IfOk result (λ r. Stays board r.0) }
+{
+    board.keeps();
+    let mut board = board;
+    let mut open_nets = look_over(alloc, &board)?;
+    let mut lines = List::new(alloc);
+    for k in 0..passes {
+        let number = k + 1;
+        let made = one_pass(rt, alloc, lat, via_cost, number, board, open_nets, gate)?;
+        let line = made.line;
+        lines.push(line)?;
+        if !may_follow(number, line, made.full) {
+            return Ok((made.board, lines));
+        }
+        board = made.board;
+        open_nets = made.open_nets;
+    }
+    Ok((board, lines))
+}

@@ -1,0 +1,5 @@
+mod Boards
+mod Noting
+mod Answering
+mod Ending
+mod Entries

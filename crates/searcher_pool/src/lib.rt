@@ -1,0 +1,11 @@
+//! A pass: workers claim tasks, and plan and offer for each until it ends. One worker works in its caller's thread.
+#![tactic(auto)]
+
+mod laws;
+mod log;
+mod pass;
+mod worker;
+
+pub use laws::{full_passes_are_spent, passes_are_least};
+pub use log::{OfferNote, WorkerLog, is_full};
+pub use pass::run_pass;

@@ -27,9 +27,9 @@ mesh_at knobs d = lattice_of d (unwrap_or knobs.grid (default_grid d))
 abbrev pub mesh_of : Command → Design → Mesh
 mesh_of command d = mesh_at (knobs_of command) d
 
--- the run that is asked for; one worker makes it, however many are asked for
+-- the run that is asked for
 abbrev pub run_at : Knobs → RunOf
-run_at knobs = run_from knobs.via_cost knobs.passes
+run_at knobs = run_from knobs.via_cost knobs.workers knobs.passes
 
 abbrev pub run_of : Command → RunOf
 run_of command = run_at (knobs_of command)

@@ -31,6 +31,7 @@ use route_run::run_nets;
 use route_words::{Command, Knobs, Text, WordFault, read_words};
 use std::alloc::Global;
 use std::sync::Wait;
+use std::thread::Threads;
 
 /// The most bytes of an input.
 pub const MAX_BYTES: u64 = 33_554_432;
@@ -71,7 +72,7 @@ fn knobs_of(command: &Command) -> Knobs
 }
 
 // Routes a design on its lattice.
-fn route_on<T: Wait, D: Desk, R: Sink, G: Gate>(
+fn route_on<T: Threads + Wait + Sync, D: Desk, R: Sink, G: Gate + Sync>(
     rt: &T,
     alloc: Global,
     lat: &Lattice,
@@ -91,7 +92,16 @@ fn route_on<T: Wait, D: Desk, R: Sink, G: Gate>(
         (D.state desk.new) (R.state report.old) (R.state report.new) result }
 {
     let knobs = knobs_of(command);
-    match run_nets(rt, alloc, lat, design, knobs.via_cost, knobs.passes, gate) {
+    match run_nets(
+        rt,
+        alloc,
+        lat,
+        design,
+        knobs.via_cost,
+        knobs.workers,
+        knobs.passes,
+        gate,
+    ) {
         Ok(routed) => {
             let status = write_out(alloc, lat, &routed, command, desk, report);
             Outcome {
@@ -104,7 +114,7 @@ fn route_on<T: Wait, D: Desk, R: Sink, G: Gate>(
 }
 
 // Routes the design of a text.
-fn route_design<T: Wait, D: Desk, R: Sink, G: Gate>(
+fn route_design<T: Threads + Wait + Sync, D: Desk, R: Sink, G: Gate + Sync>(
     rt: &T,
     alloc: Global,
     text: &[u8],
@@ -132,7 +142,7 @@ fn route_design<T: Wait, D: Desk, R: Sink, G: Gate>(
 }
 
 // Reads the design of a text, and routes it.
-fn route_text<T: Wait, D: Desk, R: Sink, G: Gate>(
+fn route_text<T: Threads + Wait + Sync, D: Desk, R: Sink, G: Gate + Sync>(
     rt: &T,
     alloc: Global,
     text: &[u8],
@@ -157,7 +167,7 @@ fn route_text<T: Wait, D: Desk, R: Sink, G: Gate>(
 }
 
 // Reads the input, and routes it.
-fn route_file<T: Wait, D: Desk, R: Sink, G: Gate>(
+fn route_file<T: Threads + Wait + Sync, D: Desk, R: Sink, G: Gate + Sync>(
     rt: &T,
     alloc: Global,
     input: &Text,
@@ -183,7 +193,7 @@ fn route_file<T: Wait, D: Desk, R: Sink, G: Gate>(
 }
 
 // Does what a command asks for.
-fn route<T: Wait, D: Desk, R: Sink, G: Gate>(
+fn route<T: Threads + Wait + Sync, D: Desk, R: Sink, G: Gate + Sync>(
     rt: &T,
     alloc: Global,
     command: &Command,
@@ -211,10 +221,11 @@ fn route<T: Wait, D: Desk, R: Sink, G: Gate>(
 /// With `route`, reads the design in the file that the words name first, routes it on the lattice at the grid that they
 /// give (or at the design's default grid), writes its session into the file that they name second, and puts the report;
 /// with `gen` routes the generated board of a number and puts its short report. A call that stops before it routes puts
-/// the line of the cause instead. `rt` lets a worker wait for its turn.
+/// the line of the cause instead. Each worker works in a thread of its own, where
+/// one can be started; `rt` starts it, and lets it wait for its turn.
 /// Over every desk and sink each answer has its cause (`answers`), and the cause that stands at entry has its answer
 /// (the other clauses).
-pub fn dsn_route<T: Wait, D: Desk, R: Sink, G: Gate + Sync>(
+pub fn dsn_route<T: Threads + Wait + Sync, D: Desk, R: Sink, G: Gate + Sync>(
     rt: &T,
     alloc: Global,
     words: &[String],

@@ -10,6 +10,7 @@ use std::alloc::{AllocError, Global};
 use std::process::ExitCode;
 use std::rt::{Env, Files};
 use std::sync::Wait;
+use std::thread::Threads;
 use std::{env, io};
 
 // The words without the program's own name. Words that are no text are wrong words.
@@ -89,7 +90,10 @@ fn tell<R: Files + Eprint + AllocGlobal>(rt: &R, words: &[String], fault: Fault)
     };
 }
 
-fn run<R: Files + Print + Eprint + Wait + AllocGlobal>(rt: &R, words: &[String]) -> Status {
+fn run<R: Files + Print + Eprint + Threads + Wait + AllocGlobal + Sync>(
+    rt: &R,
+    words: &[String],
+) -> Status {
     let mut desk = HostDesk::new(rt);
     let mut sink = KeptLine::new(HostSink::new(rt));
     let status = dsn_route(rt, rt.alloc(), words, &mut desk, &mut sink, &NoGate).status;
@@ -100,7 +104,10 @@ fn run<R: Files + Print + Eprint + Wait + AllocGlobal>(rt: &R, words: &[String])
 }
 
 // What the program ends with where its words can't be had: for want of memory, or since one is no text.
-fn unread<R: Files + Print + Eprint + Wait + AllocGlobal>(rt: &R, fault: &io::Error) -> Status {
+fn unread<R: Files + Print + Eprint + Threads + Wait + AllocGlobal + Sync>(
+    rt: &R,
+    fault: &io::Error,
+) -> Status {
     if fault.kind() == io::ErrorKind::OutOfMemory {
         tell(rt, &[], Fault::Memory);
         return Status::Memory;

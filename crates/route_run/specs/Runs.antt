@@ -27,9 +27,8 @@ pub record RunOf : Type 0 where
   pub workers : ℕ
   pub passes : ℕ
 
--- the run of one worker
-abbrev pub run_from : ℕ → ℕ → RunOf
-run_from via_cost passes = record { via_cost = via_cost; workers = 1; passes = passes }
+abbrev pub run_from : ℕ → ℕ → ℕ → RunOf
+run_from via_cost workers passes = record { via_cost = via_cost; workers = workers; passes = passes }
 
 -- ---- open connections
 -- the net has several islands

@@ -14,6 +14,7 @@ use route_report::PassLine;
 use searcher_pool::{full_passes_are_spent, is_full, passes_are_least, run_pass};
 use std::alloc::{AllocError, Global};
 use std::sync::Wait;
+use std::thread::Threads;
 
 /// What a pass leaves: the board, the pass's line, what is open then, and whether the board was full for an offer.
 #[derive(Drop)]
@@ -37,20 +38,22 @@ fn penalty_of(pass: u32) -> Option<u64>
 }
 
 // Makes the pass of a number over the open nets.
-fn one_pass<R: Wait, G: Gate>(
+fn one_pass<R: Threads + Wait + Sync, G: Gate + Sync>(
     rt: &R,
     alloc: Global,
     lat: &Lattice,
     via_cost: u64,
+    workers: u32,
     number: u32,
     board: Board,
     open_nets: OpenNets,
     gate: &G,
 ) -> Result<Made, AllocError>
     requires task { IsTask board.design lat.now via_cost }
+    requires workers { (1 ≤ workers) × (workers ≤ 16) }
     requires number { number ≤ 99 }
     requires open_nets { AreOpenOn board open_nets }
-    ensures made { IfOk result (IsMade (pass_at lat.now via_cost 1 number) board) }
+    ensures made { IfOk result (IsMade (pass_at lat.now via_cost workers number) board) }
     ensures open_nets { IfOk result (λ made. AreOpenOn made.board made.open_nets) }
 {
     board.keeps();
@@ -62,6 +65,7 @@ fn one_pass<R: Wait, G: Gate>(
         board,
         lat,
         via_cost,
+        workers,
         open_nets.nets,
         penalty,
         gate,
@@ -94,21 +98,24 @@ fn may_follow(number: u32, line: PassLine, full: bool) -> bool
     0 < line.parted && (number <= 1 || 0 < line.commits) && !full
 }
 
-/// Makes passes over the nets of a new board until they end, at most as many as `passes`. A via costs `via_cost` nm.
-pub(crate) fn make_passes<R: Wait, G: Gate>(
+/// Makes passes over the nets of a new board until they end, at most as many as `passes`, each of so many workers.
+/// A via costs `via_cost` nm.
+pub(crate) fn make_passes<R: Threads + Wait + Sync, G: Gate + Sync>(
     rt: &R,
     alloc: Global,
     lat: &Lattice,
     via_cost: u64,
+    workers: u32,
     passes: u32,
     board: Board,
     gate: &G,
 ) -> Result<(Board, List<PassLine>), AllocError>
     requires task { IsTask board.design lat.now via_cost }
+    requires workers { (1 ≤ workers) × (workers ≤ 16) }
     requires passes { (1 ≤ passes) × (passes ≤ 99) }
     requires new { board.history ≡ [] }
-    ensures passed { IfOk result (λ r. HasPassed lat.now (run_from via_cost passes) r.0 r.1) }
-    ensures ended { IfOk result (λ r. HaveEnded (run_from via_cost passes) r.0 r.1) }
+    ensures passed { IfOk result (λ r. HasPassed lat.now (run_from via_cost workers passes) r.0 r.1) }
+    ensures ended { IfOk result (λ r. HaveEnded (run_from via_cost workers passes) r.0 r.1) }
     ensures same { IfOk result (λ r. Stays board r.0) }
 {
     board.keeps();
@@ -117,7 +124,9 @@ pub(crate) fn make_passes<R: Wait, G: Gate>(
     let mut lines = List::new(alloc);
     for k in 0..passes {
         let number = k + 1;
-        let made = one_pass(rt, alloc, lat, via_cost, number, board, open_nets, gate)?;
+        let made = one_pass(
+            rt, alloc, lat, via_cost, workers, number, board, open_nets, gate,
+        )?;
         let line = made.line;
         lines.push(line)?;
         if !may_follow(number, line, made.full) {

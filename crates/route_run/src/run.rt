@@ -19,6 +19,7 @@ use route_lattice::Lattice;
 use route_report::{Facts, PassLine};
 use std::alloc::{AllocError, Global};
 use std::sync::Wait;
+use std::thread::Threads;
 
 /// As many entries of workers a board takes.
 pub const MOST_ENTRIES: u64 = 524_288;
@@ -30,25 +31,28 @@ pub struct Routed {
     pub facts: Facts,
 }
 
-/// Routes the nets of a design on a lattice of it by at most so many passes of one worker, and by the closing pass. A
-/// via costs `via_cost` nm. The gate is called round each offer of a pass. The only error is want of memory.
-pub fn run_nets<R: Wait, G: Gate>(
+/// Routes the nets of a design on a lattice of it by at most so many passes, each of so many workers, and by the
+/// closing pass. A via costs `via_cost` nm. The gate is called round each offer of a pass. The only error is want of
+/// memory.
+pub fn run_nets<R: Threads + Wait + Sync, G: Gate + Sync>(
     rt: &R,
     alloc: Global,
     lat: &Lattice,
     design: Design,
     via_cost: u64,
+    workers: u32,
     passes: u32,
     gate: &G,
 ) -> Result<Routed, AllocError>
     requires sound { IsSound design }
     requires plain { IsPlainCopper design }
     requires task { IsTask design lat.now via_cost }
+    requires workers { (1 ≤ workers) × (workers ≤ 16) }
     requires passes { (1 ≤ passes) × (passes ≤ 99) }
-    ensures { IfOk result (λ r. IsRun design lat.now (run_from via_cost passes) r.board r.facts) }
+    ensures { IfOk result (λ r. IsRun design lat.now (run_from via_cost workers passes) r.board r.facts) }
 {
     let (board, dropped) = Board::start(alloc, design, MOST_ENTRIES)?;
-    let (board, lines) = make_passes(rt, alloc, lat, via_cost, passes, board, gate)?;
+    let (board, lines) = make_passes(rt, alloc, lat, via_cost, workers, passes, board, gate)?;
     board.keeps();
     let kept = best_of(lines.as_slice());
     let board = go_back(board, lines.as_slice(), kept)?;

@@ -1,5 +1,9 @@
 mod Boards
-mod Noting
-mod Answering
+mod Rows
+mod Seen
+mod Knowing
 mod Ending
+mod Steps
+mod Crews
+mod Together
 mod Entries

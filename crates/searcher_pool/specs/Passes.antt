@@ -7,10 +7,11 @@ use Rattle.board_offers.specs.declared.offer.Offer.{Offer}
 use Rattle.pcb_board.specs.declared.answer.Entry.{Entry}
 use Rattle.pcb_board.specs.declared.answer.Entry.TheVariants.{Join, Back}
 use Rattle.pcb_board.specs.declared.answer.Answer.{Answer}
-use Rattle.pcb_board.specs.declared.answer.Answer.TheVariants.{Committed, Stale, Wrong, Malformed, Full}
+use Rattle.pcb_board.specs.declared.answer.Answer.TheVariants.{Committed, Stale, Wrong, Full}
 use Rattle.pcb_board.specs.Boards.{BoardOf, board_at, worker_entries}
 use Rattle.pcb_board.specs.Answers.{Step}
 use Rattle.least_offer.specs.Least.{IsLeastOffer}
+use Rattle.late_offer.specs.Late.{IsFair}
 use Rattle.route_plan.specs.Plans.{IsWhole, IsShutIn}
 use Rattle.claim_counter.specs.Claims.{times, once_below}
 use Rattle.searcher_pool.specs.declared.log.OfferNote.{OfferNote}
@@ -92,12 +93,6 @@ IsStale _ = ⊥
 abbrev pub IsFullAnswer : Answer → Type 0
 IsFullAnswer Full = Unit {0}
 IsFullAnswer _ = ⊥
-
--- neither wrong nor malformed
-abbrev pub IsFair : Answer → Type 0
-IsFair (Wrong item commit) = ⊥
-IsFair (Malformed clause) = ⊥
-IsFair _ = Unit {0}
 
 -- A note of a worker that drew these places: its offer is the worker's, for a net of its tasks, least on the board
 -- after its base, which is a board of the pass; and the answer is the board's at that moment or a later one.

@@ -1,20 +1,31 @@
 -- What one worker keeps while it works.
-use Rattle.std.specs.Prelude.{◌≡◌, ℕ, ◌+◌, ◌-◌, ◌<◌, ◌≤◌, ◌^◌, drop, List, length, All, AllPairs, Any, Option, Some}
-use Rattle.std.specs.Prelude.{IfSome, slice_get, ◌⊎◌, Bool, true, false}
+use Rattle.std.specs.Prelude.{◌≡◌, ℕ, ◌+◌, ◌-◌, ◌<◌, ◌≤◌, ◌^◌, List, [], ◌∷◌, ◌++◌, length, flat_map, sum_by}
+use Rattle.std.specs.Prelude.{All, AllPairs, Any, false, cond, Option, Some, IfSome, slice_get}
 use Rattle.pcb_model.specs.declared.design.Design.{Design}
 use Rattle.pcb_model.specs.Plain.{IsPlainCopper}
-use Rattle.route_lattice.specs.Mesh.{Mesh}
+use Rattle.route_lattice.specs.Mesh.{Mesh, node_count}
 use Rattle.route_lattice.specs.Fits.{FitsDesign}
 use Rattle.pcb_board.specs.declared.answer.Answer.{Answer}
-use Rattle.pcb_board.specs.declared.answer.Answer.TheVariants.{Committed}
-use Rattle.pcb_board.specs.Boards.{BoardOf, worker_entries}
-use Rattle.route_plan.specs.Plans.{IsWhole}
+use Rattle.pcb_board.specs.declared.answer.Answer.TheVariants.{Committed, Stale}
+use Rattle.pcb_board.specs.Boards.{BoardOf, is_worker, worker_entries}
+use Rattle.pcb_board.specs.Keeping.{IsBoard}
+use Rattle.board_offers.specs.declared.offer.Offer.{Offer}
+use Rattle.route_plan.specs.Plans.{IsOfferOf}
+use Rattle.claim_counter.specs.Claims.{CounterOf}
+use Rattle.board_turn.specs.declared.Deed.{Deed}
+use Rattle.board_turn.specs.declared.Deed.TheVariants.{Looked, Offered, Idle}
+use Rattle.board_turn.specs.declared.Event.{Event}
+use Rattle.board_turn.specs.Events.{Reaches, own, IsPrefix}
+use Rattle.board_turn.specs.Turns.{TurnOf, opening, count_of}
+use Rattle.board_turn.specs.Turns as turn
 use Rattle.searcher_pool.specs.declared.log.OfferNote.{OfferNote}
-use Rattle.searcher_pool.specs.declared.worker.Pass.{Pass}
-use Rattle.searcher_pool.specs.Passes.{PassOf, Grows, IsTold, IsShutOn, IsSpent, HasFull, EndsPlace, EndsTask}
-use Rattle.searcher_pool.specs.Passes.{commits_in, joins_by, named, IsStale, IsFullAnswer}
+use Rattle.searcher_pool.specs.declared.worker.Job.{Job}
+use Rattle.searcher_pool.specs.declared.worker.Worker.{Worker}
+use Rattle.searcher_pool.specs.declared.worker.Attempt.{Attempt}
+use Rattle.searcher_pool.specs.declared.worker.Attempt.TheVariants.{Ended, Joined, Late}
+use Rattle.searcher_pool.specs.Passes.{PassOf, IsTold, IsSpent, EndsTask}
+use Rattle.searcher_pool.specs.Passes.{named, IsStale, IsStaleOf, IsFullAnswer}
 
--- the pass of one worker
 abbrev pub pass_from : Mesh → ℕ → ℕ → List ℕ → Option ℕ → PassOf
 pass_from m via_cost workers tasks penalty = record {
   lattice = m;
@@ -24,8 +35,8 @@ pass_from m via_cost workers tasks penalty = record {
   penalty = penalty;
 }
 
-abbrev pub pass_of : Pass → PassOf
-pass_of p = pass_from p.lat.now p.via_cost 1 p.tasks.now p.penalty
+abbrev pub pass_of : Job → PassOf
+pass_of j = pass_from j.lat.now j.via_cost j.workers j.tasks.now j.penalty
 
 -- what is given fits the design
 pub record IsTask (p : PassOf) (d : Design) : Type 0 where
@@ -35,48 +46,111 @@ pub record IsTask (p : PassOf) (d : Design) : Type 0 where
   pub small_penalty : IfSome p.penalty (λ q. q ≤ 2 ^ 30)
   pub nets : All (λ net. net < length d.nets) p.tasks
 
--- Since the pass began on the old board, the only worker brought it to this one: its notes tell all that it did.
-pub record Works (p : PassOf) (old board : BoardOf) (drawn : List ℕ) (notes : List OfferNote) : Type 0 where
-  pub grows : Grows p old board
-  pub commits : commits_in notes ≡ joins_by 0 (length old.history + 1) (drop (length old.history) board.history)
-  pub told : All (IsTold p old board 0 drawn) notes
+-- the turn over the board of the pass, with a pass of the turn for each worker
+pub record IsTurnOf (p : PassOf) (t : TurnOf) : Type 0 where
+  pub board : IsBoard (opening t)
+  pub task : IsTask p (opening t).design
+  pub count : count_of t ≡ p.workers
+  pub few : p.workers ≤ 16
+
+-- ---- what a worker knows
+-- the offers among events, with their answers
+abbrev pub note_of : Deed → List OfferNote
+note_of Looked = []
+note_of (Offered o a) = record { offer = o; answer = a } ∷ []
+note_of Idle = []
+
+abbrev pub noted : List Event → List OfferNote
+noted events = flat_map (λ (e : Event). note_of e.deed) events
+
+-- A pass of the turn and the notes of its worker: they are the offers that the pass made, with their answers. On the
+-- board that the events leave which it has seen, each is told so; an offer rests on a board that has the commits that
+-- earlier answers named; where an answer was that the board is full, it is; and one worker alone is never too late.
+pub record Knows (p : PassOf) (t : TurnOf) (q : turn.PassOf) (drawn : List ℕ) (notes : List OfferNote) : Type 0 where
+  pub turn_is : q.turn ≡ t
+  pub below : q.name < p.workers
+  pub notes_are : notes ≡ noted (own q.name q.seen)
+  pub board : BoardOf
+  pub reached : Reaches (opening t) q.seen board
+  pub told : All (IsTold p (opening t) board q.name drawn) notes
   pub fresh : AllPairs (λ (a b : OfferNote). named a.answer ≤ b.offer.base) notes
   pub seen : All (λ (n : OfferNote). named n.answer ≤ length board.history) notes
-  pub prompt : All (λ (n : OfferNote). ¬ (IsStale n.answer)) notes
   pub spent : All (λ (n : OfferNote). IsFullAnswer n.answer → IsSpent board) notes
+  pub prompt : p.workers ≡ 1 → All (λ (n : OfferNote). ¬ (IsStale n.answer)) notes
 
--- as before, whatever the board was when the pass began
-abbrev pub StillWorks : PassOf → BoardOf → List ℕ → List OfferNote → BoardOf → List ℕ → List OfferNote → Type 0
-StillWorks p board drawn notes board' drawn' notes' = (old : BoardOf) → Works p old board drawn notes
-    → Works p old board' drawn' notes'
-
--- a task that had ended has ended still
-abbrev pub StillEnds : PassOf → BoardOf → List OfferNote → BoardOf → List OfferNote → Type 0
-StillEnds p board notes board' notes' = (old : BoardOf) (net : ℕ) → EndsTask p old board notes net
-    → EndsTask p old board' notes' net
+-- the worker knows what its pass has seen, and has memory for its searches
+pub record IsReady (p : PassOf) (t : TurnOf) (w : Worker) : Type 0 where
+  pub number_is : w.number ≡ w.pass.name
+  pub size : w.search ≡ node_count p.lattice
+  pub knows : Knows p t w.pass w.drawn.items w.notes.items
 
 -- the net is one of a place that was drawn
 abbrev pub IsDrawn : PassOf → List ℕ → ℕ → Type 0
 IsDrawn p drawn net = Any (λ place. slice_get p.tasks place ≡ Some net) drawn
 
--- the task ends on the board as it is
-abbrev pub EndsNow : PassOf → BoardOf → List OfferNote → ℕ → Type 0
-EndsNow p board notes net = IsWhole board.design board.items net
-    ⊎ (IsShutOn p.lattice p.via_cost board net p.penalty ⊎ HasFull notes net)
+-- a least offer of the worker for the net, on a board whose events its pass has seen
+pub record IsPlanned (p : PassOf) (t : TurnOf) (w : Worker) (net : ℕ) (o : Offer) : Type 0 where
+  pub board : BoardOf
+  pub reached : Reaches (opening t) w.pass.seen board
+  pub plan : IsOfferOf p.lattice p.via_cost board w.number net p.penalty o
 
--- how many entries of workers may still come
-abbrev pub entries_left : BoardOf → ℕ
-entries_left b = b.cap - worker_entries b.history
+-- ---- steps
+-- the worker went on: its pass has seen more, and it has noted more
+pub record IsAfter (v w : Worker) : Type 0 where
+  pub name : w.pass.name ≡ v.pass.name
+  pub seen : IsPrefix v.pass.seen w.pass.seen
+  pub notes : IsPrefix v.notes.items w.notes.items
+  pub drawn : w.drawn ≡ v.drawn
+  pub seat : w.seat ≡ v.seat
+  pub failed : w.failed ≡ v.failed
+
+-- the task ended by a board whose events the pass has seen
+abbrev pub EndsSeen : PassOf → TurnOf → turn.PassOf → List OfferNote → ℕ → Type 0
+EndsSeen p t q notes net = (b : BoardOf) → Reaches (opening t) q.seen b → EndsTask p (opening t) b notes net
+
+-- 1 for a commit of a worker
+abbrev pub commit_of : Deed → ℕ
+commit_of (Offered o (Committed number)) = cond (is_worker o.worker) 1 0
+commit_of _ = 0
+
+-- how many entries of workers may still come after these events
+abbrev pub entries_left : TurnOf → List Event → ℕ
+entries_left t events =
+    (opening t).cap - (worker_entries (opening t).history + sum_by (λ (e : Event). commit_of e.deed) events)
+
+abbrev pub attempt_of : Answer → Attempt
+attempt_of (Committed number) = Joined
+attempt_of (Stale item commit) = Late
+attempt_of _ = Ended
+
+-- the task ended; or fewer entries may come; or the last offer for the net came too late
+abbrev pub Attempts : PassOf → TurnOf → turn.PassOf → List OfferNote → turn.PassOf → List OfferNote → ℕ → Attempt
+    → Type 0
+Attempts p t q notes r after net Ended = EndsSeen p t r after net
+Attempts p t q notes r after net Joined = entries_left t r.seen < entries_left t q.seen
+Attempts p t q notes r after net Late = (n : OfferNote) × (after ≡ notes ++ n ∷ []) × IsStaleOf net n
 
 -- all tasks that were drawn ended
-abbrev pub EndsAll : PassOf → BoardOf → BoardOf → List ℕ → List OfferNote → Type 0
-EndsAll p old board drawn notes = All (EndsPlace p old board notes) drawn
+abbrev pub EndsDrawn : PassOf → TurnOf → turn.PassOf → List ℕ → List OfferNote → Type 0
+EndsDrawn p t q drawn notes = All (λ place. IfSome (slice_get p.tasks place) (EndsSeen p t q notes)) drawn
 
-abbrev pub is_commit : Answer → Bool
-is_commit (Committed number) = true
-is_commit _ = false
+-- ---- the whole work of a worker
+-- its seat is one at the counter, and drew what it drew
+pub record IsSeated (c : CounterOf) (w : Worker) : Type 0 where
+  pub table : w.seat.table ≡ c.table
+  pub shares : w.seat.hand.shares ≡ 1
+  pub drawn : w.seat.hand.drawn ≡ w.drawn.items
 
--- where all tasks had ended, all have
-abbrev pub EndsMore : PassOf → BoardOf → List ℕ → List OfferNote → BoardOf → List ℕ → List OfferNote → Type 0
-EndsMore p board drawn notes board' drawn' notes' = (old : BoardOf) → Works p old board drawn notes
-    → EndsAll p old board drawn notes → EndsAll p old board' drawn' notes'
+-- it may work, and left no task behind
+pub record MayWork (p : PassOf) (t : TurnOf) (c : CounterOf) (w : Worker) : Type 0 where
+  pub ready : IsReady p t w
+  pub seated : IsSeated c w
+  pub ended : EndsDrawn p t w.pass w.drawn.items w.notes.items
+
+-- it worked, and unless memory was wanting no task is left
+pub record Worked (p : PassOf) (t : TurnOf) (c : CounterOf) (name : ℕ) (w : Worker) : Type 0 where
+  pub ready : IsReady p t w
+  pub seated : IsSeated c w
+  pub name_is : w.pass.name ≡ name
+  pub done : w.failed ≡ false
+      → (c.tasks ≤ w.seat.hand.floor) × EndsDrawn p t w.pass w.drawn.items w.notes.items

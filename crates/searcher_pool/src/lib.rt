@@ -1,6 +1,8 @@
-//! A pass: workers claim tasks, and plan and offer for each until it ends. One worker works in its caller's thread.
+//! A pass: workers share a board, each in a thread of its own. They claim tasks, and plan and offer for each until it
+//! ends.
 #![tactic(auto)]
 
+mod crew;
 mod laws;
 mod log;
 mod pass;

@@ -1,121 +1,151 @@
-//! The pass of one worker: it draws the tasks one after another, and works each off.
+//! A pass: workers share the board by a turn, draw the tasks one after another, and work each off.
 
-ghost use Rattle.std.specs.Prelude.{◌≡◌, ◌∷◌, [], ◌<◌, ◌≤◌, ◌^◌, ℕ, IfOk, IfErr, OnOk, length, vec_len};
-ghost use Rattle.route_lattice.specs.Mesh.{node_count};
-ghost use Rattle.claim_counter.specs.Claims.{hand, times, once_below};
+ghost use Rattle.std.specs.Prelude.{◌≡◌, ◌<◌, ◌≤◌, ◌^◌, IfOk, IfErr, false, length, vec_capacity, vec_len};
+ghost use Rattle.board_turn.specs.Turns.{passes_of, opening};
 ghost use Rattle.searcher_pool.specs.Passes.{IsPassed, Grows};
-ghost use Rattle.searcher_pool.specs.Working.{pass_of, pass_from, IsTask, StillWorks, EndsAll, EndsMore, Works};
+ghost use Rattle.searcher_pool.specs.Working.{pass_of, pass_from, IsTask, IsTurnOf};
+ghost use Rattle.searcher_pool.specs.Crews.{AreRooms};
 
-use crate::log::{OfferNote, WorkerLog};
-use crate::worker::{Pass, Worker, work_off};
+use crate::crew::{Crew, crew_works, dismiss, searches, staff};
+use crate::log::WorkerLog;
+use crate::worker::Job;
+use board_turn::{Pass, Turn};
 use claim_counter::{Claimer, Counter};
 use desk_io::Gate;
-use geo_kernel::List;
 use pcb_board::{Board, PassBack};
 use route_lattice::Lattice;
 use std::alloc::{AllocError, Global};
 use std::sync::Wait;
+use std::thread::Threads;
 use wave_search::Search;
 
-// Draws the tasks and works them off, until none is left.
-fn work<R: Wait, G: Gate>(
-    rt: &R,
-    alloc: Global,
-    pass: Pass<'_>,
-    counter: &Counter,
-    me: &mut Claimer,
-    gate: &G,
-    w: &mut Worker,
-) -> Result<(), AllocError>
-    requires task { IsTask (pass_of pass) w.old.board.design }
-    requires few { length pass.tasks.now < 2 ^ 32 }
-    requires size { w.old.search ≡ node_count pass.lat.now }
-    requires counter { counter.now.tasks ≡ length pass.tasks.now }
-    requires me { (me.old.table ≡ counter.now.table) × (me.old.hand.shares ≡ 17)
-        × (me.old.hand.drawn ≡ w.old.drawn.items) }
-    ensures me { (me.new.table ≡ me.old.table) × (me.new.hand.shares ≡ 17) × (me.new.hand.drawn ≡ w.new.drawn.items) }
-    ensures works { StillWorks (pass_of pass.entry) w.old.board w.old.drawn.items w.old.notes.items
-        w.new.board w.new.drawn.items w.new.notes.items }
-    ensures done { OnOk result (counter.now.tasks ≤ me.new.hand.floor) }
-    ensures ended { OnOk result (EndsMore (pass_of pass.entry) w.old.board w.old.drawn.items w.old.notes.items
-        w.new.board w.new.drawn.items w.new.notes.items) }
-{
-    for _ in rt.forever() {
-        w.drawn.reserve(1)?;
-        let Some(place) = counter.claim(rt, me) else {
-            return Ok(());
-        };
-        w.drawn.push_reserved(place as u32);
-        let net = pass.tasks[place as usize];
-        work_off(alloc, pass, gate, w, net)?;
-        w.board.keeps();
-    }
-    unreachable!()
+// What a pass needs beside the turn: memory for searches, workers and logs, and the counter of tasks.
+#[derive(Drop)]
+struct Rooms {
+    searches: Vec<Search>,
+    crew: Crew,
+    logs: Vec<WorkerLog>,
+    counter: Counter,
+    home: Claimer,
 }
 
-/// Makes one pass over the tasks, which are nets, with a penalty in nm or without; a via costs `via_cost` nm.
+fn make_rooms(alloc: Global, job: Job<'_>) -> Result<Rooms, AllocError>
+    ensures { IfOk result (AreRooms (pass_of job.entry)) }
+{
+    let searches = searches(alloc, job.workers, job.lat.count())?;
+    let crew = Vec::with_capacity(alloc, job.workers as usize)?;
+    let logs = Vec::with_capacity(alloc, job.workers as usize)?;
+    let (counter, home) = Counter::new(alloc, job.tasks.len() as u64)?;
+    Ok(Rooms {
+        searches,
+        crew,
+        logs,
+        counter,
+        home,
+    })
+}
+
+// The pass, once there is room for all. Says whether memory was wanting to a worker.
+fn turn_over<R: Threads + Wait + Sync, G: Gate + Sync>(
+    rt: &R,
+    alloc: Global,
+    job: Job<'_>,
+    turn: Turn,
+    mut passes: Vec<Pass>,
+    rooms: Rooms,
+    gate: &G,
+) -> (Board, Vec<WorkerLog>, bool)
+    requires turn { IsTurnOf (pass_of job) turn }
+    requires some { 0 < job.workers }
+    requires few { length job.tasks.now < 2 ^ 32 }
+    requires passes { (passes.items ≡ passes_of turn 0 (vec_len passes)) × (vec_len passes ≡ job.workers)
+        × (job.workers ≤ vec_capacity passes) }
+    requires rooms { AreRooms (pass_of job) rooms }
+    ensures grows { Grows (pass_of job.entry) (opening turn) result.0 }
+    ensures passed { result.2 ≡ false → IsPassed (pass_of job.entry) (opening turn) result.0 result.1.items }
+{
+    let Rooms {
+        mut searches,
+        mut crew,
+        mut logs,
+        counter,
+        mut home,
+    } = rooms;
+    staff(
+        alloc,
+        job,
+        &turn,
+        &counter,
+        &mut home,
+        &mut passes,
+        &mut searches,
+        &mut crew,
+    );
+    crew_works(rt, alloc, job, &turn, &counter, gate, &mut crew);
+    let failed = dismiss(
+        job,
+        &turn,
+        &counter,
+        &mut home,
+        &mut passes,
+        &mut logs,
+        &mut crew,
+    );
+    let board = turn.close(passes);
+    if failed {
+        return (board, logs, true);
+    }
+    counter.finish(home);
+    (board, logs, false)
+}
+
+/// Makes one pass of so many workers over the tasks, which are nets, with a penalty in nm or without; a via costs
+/// `via_cost` nm. Each worker works in a thread of its own, or where none can be started in the caller's.
 ///
 /// # Errors
 ///
 /// Where memory is wanting the board comes back with what was joined.
-pub fn run_pass<R: Wait, G: Gate>(
+pub fn run_pass<R: Threads + Wait + Sync, G: Gate + Sync>(
     rt: &R,
     alloc: Global,
     board: Board,
     lat: &Lattice,
     via_cost: u64,
+    workers: u32,
     tasks: Vec<u32>,
     penalty: Option<u64>,
     gate: &G,
 ) -> Result<(Board, Vec<WorkerLog>), PassBack>
-    requires task { IsTask (pass_from lat.now via_cost 1 tasks.items penalty) board.design }
+    requires workers { (1 ≤ workers) × (workers ≤ 16) }
+    requires task { IsTask (pass_from lat.now via_cost workers tasks.items penalty) board.design }
     requires few { vec_len tasks < 2 ^ 32 }
-    ensures ok { IfOk result (λ r. IsPassed (pass_from lat.now via_cost 1 tasks.items penalty) board r.0 r.1.items) }
-    ensures back { IfErr result (λ e. Grows (pass_from lat.now via_cost 1 tasks.items penalty) board e.board) }
+    ensures ok { IfOk result
+        (λ r. IsPassed (pass_from lat.now via_cost workers tasks.items penalty) board r.0 r.1.items) }
+    ensures back { IfErr result
+        (λ e. Grows (pass_from lat.now via_cost workers tasks.items penalty) board e.board) }
 {
-    let mut logs = match Vec::with_capacity(alloc, 1) {
-        Ok(room) => room,
-        Err(cause) => return Err(PassBack { board, cause }),
-    };
-    let (counter, mut me) = match Counter::new(alloc, tasks.len() as u64) {
-        Ok(made) => made,
-        Err(cause) => return Err(PassBack { board, cause }),
-    };
-    let search = match Search::new(alloc, lat.count()) {
-        Ok(search) => search,
-        Err(cause) => return Err(PassBack { board, cause }),
-    };
-    let pass = Pass {
+    board.keeps();
+    let job = Job {
         lat,
         via_cost,
+        workers,
         tasks: tasks.as_slice(),
         penalty,
     };
-    let mut w = Worker {
-        board,
-        drawn: Vec::new(alloc),
-        notes: Vec::new(alloc),
-        turns: 0,
-        search,
+    let rooms = match make_rooms(alloc, job) {
+        Ok(rooms) => rooms,
+        Err(cause) => return Err(PassBack { board, cause }),
     };
-    let worked = work(rt, alloc, pass, &counter, &mut me, gate, &mut w);
-    let Worker {
-        board,
-        drawn,
-        notes,
-        turns: _,
-        search: _,
-    } = w;
-    match worked {
-        Ok(()) => {
-            counter.finish(me);
-            logs.push_reserved(WorkerLog {
-                worker: 0,
-                tasks: List::from_vec(drawn),
-                notes: List::from_vec(notes),
-            });
-            Ok((board, logs))
-        }
-        Err(cause) => Err(PassBack { board, cause }),
+    let (turn, passes) = match Turn::new(alloc, board, workers) {
+        Ok(made) => made,
+        Err(back) => return Err(back),
+    };
+    let (board, logs, failed) = turn_over(rt, alloc, job, turn, passes, rooms, gate);
+    if failed {
+        return Err(PassBack {
+            board,
+            cause: AllocError,
+        });
     }
+    Ok((board, logs))
 }

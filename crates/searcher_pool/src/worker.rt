@@ -1,145 +1,226 @@
-//! A worker: it plans on a snapshot, offers, and notes the answer.
+//! A worker: it plans on a snapshot of the board, offers in its turn, and notes the answer.
 
-ghost use Rattle.std.specs.Prelude.{◌≡◌, ◌<◌, ◌≤◌, IfOk, OnOk, IsTrue, not, length};
-ghost use Rattle.route_lattice.specs.Mesh.{node_count};
-ghost use Rattle.route_plan.specs.Plans.{IsOfferOf};
-ghost use Rattle.searcher_pool.specs.Working.{pass_of, IsTask, StillWorks, StillEnds, IsDrawn, EndsNow};
-ghost use Rattle.searcher_pool.specs.Working.{entries_left, is_commit as is_committing};
+ghost use Rattle.std.specs.Prelude.{◌≡◌, ◌<◌, ◌≤◌, ◌^◌, IfOk, OnOk, length};
+ghost use Rattle.board_turn.specs.Turns.{opening};
+ghost use Rattle.searcher_pool.specs.Working.{pass_of, IsTurnOf, IsReady, IsDrawn, IsPlanned, IsAfter, Attempts};
+ghost use Rattle.searcher_pool.specs.Working.{attempt_of, EndsSeen, EndsDrawn, IsSeated, MayWork, Worked};
 
 use crate::log::OfferNote;
+use board_turn::{Pass, Turn, events_keep};
+use claim_counter::{Claimer, Counter};
 use desk_io::Gate;
-use pcb_board::{Answer, Board, Offer, boards_serve, copy_offer};
+use late_offer::late_offers_are_fair;
+use pcb_board::{Answer, Offer, boards_serve, copy_offer};
 use route_lattice::Lattice;
 use route_plan::{Planned, plan_in};
 use std::alloc::{AllocError, Global};
+use std::sync::Wait;
 use wave_search::Search;
 
-/// What a pass goes by: the lattice, the price of a via, the nets of its tasks, and the penalty.
+/// As many offers of a task may come too late before it is left.
+const MOST_LATE: u32 = 8;
+
+/// What a pass goes by: the lattice, the price of a via, how many workers there are, the nets of its tasks, and the
+/// penalty.
 #[derive(Clone, Copy)]
-pub(crate) struct Pass<'a> {
+pub(crate) struct Job<'a> {
     pub lat: &'a Lattice,
     pub via_cost: u64,
+    pub workers: u32,
     pub tasks: &'a [u32],
     pub penalty: Option<u64>,
 }
 
-/// A worker with the board: the places that it drew, what it offered, and how often, and the memory of its searches.
+/// A worker: its number, its pass of the turn and its seat at the counter of tasks, the places that it drew, what it
+/// offered, and how often, the memory of its searches, and whether memory was wanting.
 #[derive(Drop)]
 pub(crate) struct Worker {
-    pub board: Board,
+    pub number: u32,
+    pub pass: Pass,
+    pub seat: Claimer,
     pub drawn: Vec<u32>,
     pub notes: Vec<OfferNote>,
     pub turns: u32,
     pub search: Search,
+    pub failed: bool,
 }
 
-// Whether an offer was committed.
-fn is_commit(answer: Answer) -> bool
-    ensures { result ≡ is_committing answer }
+/// What became of a plan: its task ended, or its offer was committed, or came too late.
+#[derive(Clone, Copy)]
+pub(crate) enum Attempt {
+    Ended,
+    Joined,
+    Late,
+}
+
+// What an answer means for the task.
+fn judged(answer: Answer) -> Attempt
+    ensures { result ≡ attempt_of answer }
 {
-    matches!(answer, Answer::Committed { number: _ })
+    match answer {
+        Answer::Committed { number: _ } => Attempt::Joined,
+        Answer::Stale { item: _, commit: _ } => Attempt::Late,
+        _ => Attempt::Ended,
+    }
 }
 
-// Offers, and notes the answer. False where the board is full.
-fn make<G: Gate>(
+// Offers, and notes the answer.
+fn make<R: Wait, G: Gate>(
+    rt: &R,
     alloc: Global,
-    pass: Pass<'_>,
+    job: Job<'_>,
+    turn: &Turn,
     gate: &G,
     w: &mut Worker,
     net: u32,
     offer: Offer,
-) -> Result<bool, AllocError>
-    requires plan { IsOfferOf pass.lat.now pass.via_cost w.old.board 0 net pass.penalty offer }
-    requires drawn { IsDrawn (pass_of pass) w.old.drawn.items net }
-    ensures same { (w.new.drawn ≡ w.old.drawn) × (w.new.board.design ≡ w.old.board.design) }
-    ensures size { w.new.search ≡ w.old.search }
-    ensures works { StillWorks (pass_of pass.entry) w.old.board w.old.drawn.items w.old.notes.items
-        w.new.board w.new.drawn.items w.new.notes.items }
-    ensures ends { StillEnds (pass_of pass.entry) w.old.board w.old.notes.items w.new.board w.new.notes.items }
-    ensures more { IfOk result (λ more. IsTrue more → entries_left w.new.board < entries_left w.old.board) }
-    ensures ended { IfOk result
-        (λ more. IsTrue (not more) → EndsNow (pass_of pass.entry) w.new.board w.new.notes.items net) }
+) -> Result<Attempt, AllocError>
+    requires turn { IsTurnOf (pass_of job) turn.now }
+    requires drawn { IsDrawn (pass_of job) w.old.drawn.items net }
+    requires ready { IsReady (pass_of job) turn.now w.old }
+    requires plan { IsPlanned (pass_of job) turn.now w.old net offer }
+    ensures ready { IsReady (pass_of job.entry) turn.now w.new }
+    ensures after { IsAfter w.old w.new }
+    ensures attempt { IfOk result (Attempts (pass_of job.entry) turn.now w.old.pass w.old.notes.items
+        w.new.pass w.new.notes.items net) }
 {
-    w.board.keeps();
+    events_keep();
+    late_offers_are_fair();
     w.notes.reserve(1)?;
     let copy = copy_offer(alloc, &offer)?;
-    gate.before_offer(0, w.turns);
-    match w.board.offer(offer) {
+    gate.before_offer(w.number, w.turns);
+    match turn.offer(rt, &mut w.pass, offer) {
         Ok(answer) => {
             w.notes.push_reserved(OfferNote {
                 offer: copy,
                 answer,
             });
-            gate.after_answer(0, w.turns);
+            gate.after_answer(w.number, w.turns);
             w.turns = w.turns.wrapping_add(1);
-            Ok(is_commit(answer))
+            Ok(judged(answer))
         }
         Err(back) => Err(back.cause),
     }
 }
 
-// Plans for a net, and offers. False where the task ended.
-fn attempt<G: Gate>(
+// Plans for a net on the board as it is, and offers.
+fn plan_and_offer<R: Wait, G: Gate>(
+    rt: &R,
     alloc: Global,
-    pass: Pass<'_>,
+    job: Job<'_>,
+    turn: &Turn,
     gate: &G,
     w: &mut Worker,
     net: u32,
-) -> Result<bool, AllocError>
-    requires task { IsTask (pass_of pass) w.old.board.design }
-    requires drawn { IsDrawn (pass_of pass) w.old.drawn.items net }
-    requires net { net < length w.old.board.design.nets }
-    requires size { w.old.search ≡ node_count pass.lat.now }
-    ensures same { (w.new.drawn ≡ w.old.drawn) × (w.new.board.design ≡ w.old.board.design) }
-    ensures size { w.new.search ≡ w.old.search }
-    ensures works { StillWorks (pass_of pass.entry) w.old.board w.old.drawn.items w.old.notes.items
-        w.new.board w.new.drawn.items w.new.notes.items }
-    ensures ends { StillEnds (pass_of pass.entry) w.old.board w.old.notes.items w.new.board w.new.notes.items }
-    ensures more { IfOk result (λ more. IsTrue more → entries_left w.new.board < entries_left w.old.board) }
-    ensures ended { IfOk result
-        (λ more. IsTrue (not more) → EndsNow (pass_of pass.entry) w.new.board w.new.notes.items net) }
+) -> Result<Attempt, AllocError>
+    requires turn { IsTurnOf (pass_of job) turn.now }
+    requires drawn { IsDrawn (pass_of job) w.old.drawn.items net }
+    requires net { net < length (opening turn.now).design.nets }
+    requires ready { IsReady (pass_of job) turn.now w.old }
+    ensures ready { IsReady (pass_of job.entry) turn.now w.new }
+    ensures after { IsAfter w.old w.new }
+    ensures attempt { IfOk result (Attempts (pass_of job.entry) turn.now w.old.pass w.old.notes.items
+        w.new.pass w.new.notes.items net) }
 {
-    w.board.keeps();
+    events_keep();
     boards_serve();
-    let snap = w.board.snap()?;
+    let snap = turn.snap(rt, &mut w.pass)?;
     let planned = plan_in(
         alloc,
         &mut w.search,
-        pass.lat,
+        job.lat,
         snap.design(),
         &snap,
-        pass.via_cost,
-        0,
+        job.via_cost,
+        w.number,
         net,
-        pass.penalty,
+        job.penalty,
     )?;
     match planned {
-        Planned::Offer(offer) => make(alloc, pass, gate, w, net, offer),
-        Planned::Shut(_) => Ok(false),
-        Planned::Whole => Ok(false),
+        Planned::Offer(offer) => make(rt, alloc, job, turn, gate, w, net, offer),
+        Planned::Shut(_) => Ok(Attempt::Ended),
+        Planned::Whole => Ok(Attempt::Ended),
     }
 }
 
-/// Plans and offers for a net until it is whole or shut, or the board is full.
-/// Each join leaves fewer entries that may come, so there is an end.
-pub(crate) fn work_off<G: Gate>(
+// Plans and offers for a net until it is whole or shut, the board is full, or eight offers came too late.
+// Each join leaves fewer entries that may come, so there is an end.
+fn work_off<R: Wait, G: Gate>(
+    rt: &R,
     alloc: Global,
-    pass: Pass<'_>,
+    job: Job<'_>,
+    turn: &Turn,
     gate: &G,
     w: &mut Worker,
     net: u32,
 ) -> Result<(), AllocError>
-    requires task { IsTask (pass_of pass) w.old.board.design }
-    requires drawn { IsDrawn (pass_of pass) w.old.drawn.items net }
-    requires net { net < length w.old.board.design.nets }
-    requires size { w.old.search ≡ node_count pass.lat.now }
-    ensures same { (w.new.drawn ≡ w.old.drawn) × (w.new.board.design ≡ w.old.board.design) }
-    ensures size { w.new.search ≡ w.old.search }
-    ensures works { StillWorks (pass_of pass.entry) w.old.board w.old.drawn.items w.old.notes.items
-        w.new.board w.new.drawn.items w.new.notes.items }
-    ensures ends { StillEnds (pass_of pass.entry) w.old.board w.old.notes.items w.new.board w.new.notes.items }
-    ensures ended { OnOk result (EndsNow (pass_of pass.entry) w.new.board w.new.notes.items net) }
+    requires turn { IsTurnOf (pass_of job) turn.now }
+    requires drawn { IsDrawn (pass_of job) w.old.drawn.items net }
+    requires net { net < length (opening turn.now).design.nets }
+    requires ready { IsReady (pass_of job) turn.now w.old }
+    ensures ready { IsReady (pass_of job.entry) turn.now w.new }
+    ensures after { IsAfter w.old w.new }
+    ensures ended { OnOk result (EndsSeen (pass_of job.entry) turn.now w.new.pass w.new.notes.items net) }
 {
-    while attempt(alloc, pass, gate, w, net)? {}
+    let mut late = 0;
+    while late < MOST_LATE {
+        match plan_and_offer(rt, alloc, job, turn, gate, w, net)? {
+            Attempt::Ended => return Ok(()),
+            Attempt::Joined => {}
+            Attempt::Late => late += 1,
+        }
+    }
     Ok(())
+}
+
+// Draws tasks and works them off, until none is left.
+fn draw_all<R: Wait, G: Gate>(
+    rt: &R,
+    alloc: Global,
+    job: Job<'_>,
+    turn: &Turn,
+    counter: &Counter,
+    gate: &G,
+    w: &mut Worker,
+) -> Result<(), AllocError>
+    requires turn { IsTurnOf (pass_of job) turn.now }
+    requires few { length job.tasks.now < 2 ^ 32 }
+    requires counter { counter.now.tasks ≡ length job.tasks.now }
+    requires may_work { MayWork (pass_of job) turn.now counter.now w.old }
+    ensures ready { IsReady (pass_of job.entry) turn.now w.new }
+    ensures seated { IsSeated counter.now w.new }
+    ensures name { w.new.pass.name ≡ w.old.pass.name }
+    ensures done { OnOk result ((counter.now.tasks ≤ w.new.seat.hand.floor)
+        × EndsDrawn (pass_of job.entry) turn.now w.new.pass w.new.drawn.items w.new.notes.items) }
+{
+    for _ in rt.forever() {
+        w.drawn.reserve(1)?;
+        let Some(place) = counter.claim(rt, &mut w.seat) else {
+            return Ok(());
+        };
+        w.drawn.push_reserved(place as u32);
+        let net = job.tasks[place as usize];
+        work_off(rt, alloc, job, turn, gate, w, net)?;
+    }
+    unreachable!()
+}
+
+/// The work of one worker in a pass.
+pub(crate) fn work<R: Wait, G: Gate>(
+    rt: &R,
+    alloc: Global,
+    job: Job<'_>,
+    turn: &Turn,
+    counter: &Counter,
+    gate: &G,
+    w: &mut Worker,
+)
+    requires turn { IsTurnOf (pass_of job) turn.now }
+    requires few { length job.tasks.now < 2 ^ 32 }
+    requires counter { counter.now.tasks ≡ length job.tasks.now }
+    requires may_work { MayWork (pass_of job) turn.now counter.now w.old }
+    ensures { Worked (pass_of job.entry) turn.now counter.now w.old.pass.name w.new }
+{
+    let drew = draw_all(rt, alloc, job, turn, counter, gate, w);
+    w.failed = drew.is_err();
 }

@@ -7,6 +7,7 @@ use dsn_route::{Outcome, Status, dsn_route};
 use std::alloc::{AllocError, Global};
 use std::sync::Wait;
 use std::test::Fail;
+use std::thread::Threads;
 
 /// The words of a call that routes at a grid of 1 mm by one worker in one pass.
 pub(crate) const ROUTE: [&str; 9] = [
@@ -118,7 +119,13 @@ fn made_of(outcome: &Outcome) -> Option<Made> {
 }
 
 /// Calls over that desk and sink.
-fn call<T: Wait>(rt: &T, alloc: Global, words: &[String], desk: MemDesk, sink: MemSink) -> Left {
+fn call<T: Threads + Wait + Sync>(
+    rt: &T,
+    alloc: Global,
+    words: &[String],
+    desk: MemDesk,
+    sink: MemSink,
+) -> Left {
     let mut desk = desk;
     let mut sink = sink;
     let outcome = dsn_route(rt, alloc, words, &mut desk, &mut sink, &NoGate);
@@ -132,7 +139,7 @@ fn call<T: Wait>(rt: &T, alloc: Global, words: &[String], desk: MemDesk, sink: M
 
 /// What a call with these words leaves over a design's text. The desk's call and the sink's put of these numbers fail;
 /// they count from 1, so 0 lets none fail.
-pub(crate) fn called<T: Wait>(
+pub(crate) fn called<T: Threads + Wait + Sync>(
     rt: &T,
     alloc: Global,
     text: &str,
@@ -147,7 +154,7 @@ pub(crate) fn called<T: Wait>(
 }
 
 /// What a call that routes at a grid of 1 mm leaves over a design's text with these edits.
-pub(crate) fn routed<T: Wait>(
+pub(crate) fn routed<T: Threads + Wait + Sync>(
     rt: &T,
     alloc: Global,
     text: &str,

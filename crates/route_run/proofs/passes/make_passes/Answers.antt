@@ -7,7 +7,7 @@ use Rattle.route_run.proofs.passes.make_passes.Goals as goal
 
 pub loop-k-init : goal.loop-k-init
 loop-k-init g c =
-    let r = run_from c.args.via_cost c.args.passes in
+    let r = run_from c.args.via_cost c.args.workers c.args.passes in
     record {
       passed = subst (HasPassed c.args.lat.now r c.args.board) (sym c.new-lines.ensures)
           (passed_none c.args.lat.now r c.args.board c.keeps.ensures c.requires.new);
@@ -20,7 +20,7 @@ loop-k-init g c =
 pub returns-then-not-may_follow-clause-passed : goal.returns-then-not-may_follow-clause-passed
 returns-then-not-may_follow-clause-passed g c =
     let m = c.args.lat.now in
-    let r = run_from c.args.via_cost c.args.passes in
+    let r = run_from c.args.via_cost c.args.workers c.args.passes in
     let made = c.in_ok-made.made in
     let before = c.loop-k.invariant in
     subst (HasPassed m r made.board) (sym c.in_ok-push.ensures.ok)
@@ -30,7 +30,7 @@ returns-then-not-may_follow-clause-passed g c =
 pub returns-then-not-may_follow-clause-ended : goal.returns-then-not-may_follow-clause-ended
 returns-then-not-may_follow-clause-ended g c =
     let m = c.args.lat.now in
-    let r = run_from c.args.via_cost c.args.passes in
+    let r = run_from c.args.via_cost c.args.workers c.args.passes in
     let made = c.in_ok-made.made in
     let before = c.loop-k.invariant in
     let has = pass_more m r c.loop-k.board c.loop-k.lines made c.loop-k.k before.passed before.follows before.count
@@ -44,7 +44,7 @@ returns-then-not-may_follow-clause-ended g c =
 pub loop-k-preserved : goal.loop-k-preserved
 loop-k-preserved g c =
     let m = c.args.lat.now in
-    let r = run_from c.args.via_cost c.args.passes in
+    let r = run_from c.args.via_cost c.args.workers c.args.passes in
     let made = c.in_ok-made.made in
     let before = c.loop-k.invariant in
     let is = c.in_ok-made.ensures.made in
@@ -60,12 +60,12 @@ loop-k-preserved g c =
       count = (let long = ap length pushed in let more = length-append c.loop-k.lines (made.line ∷ []) in
           omega (arith, long, more, before.count));
       open_nets = c.in_ok-made.ensures.open_nets;
-      same = stays_on (pass_at m c.args.via_cost 1 (c.loop-k.k + 1)) c.args.board c.loop-k.board made.board
+      same = stays_on (pass_at m c.args.via_cost c.args.workers (c.loop-k.k + 1)) c.args.board c.loop-k.board made.board
           before.same is.grows;
     }
 
 pub returns-clause-ended : goal.returns-clause-ended
 returns-clause-ended g c =
     let before = c.loop-k.invariant in
-    ended_last (run_from c.args.via_cost c.args.passes) c.loop-k.board c.loop-k.lines c.requires.passes.0
+    ended_last (run_from c.args.via_cost c.args.workers c.args.passes) c.loop-k.board c.loop-k.lines c.requires.passes.0
     (omega (arith, before.count, c.loop-k.auto.k-end, c.loop-k-test.false))

@@ -5,7 +5,7 @@ use Rattle.route_run.proofs.passes.make_passes.Given as goal
 
 abbrev pub invariant-loop-k : goal.invariant-loop-k
 invariant-loop-k g l = record {
-  passed : HasPassed l.lat (run_from l.via_cost l.passes) l.board l.lines;
+  passed : HasPassed l.lat (run_from l.via_cost l.workers l.passes) l.board l.lines;
   follows : MayFollow l.lines;
   count : length l.lines ≡ l.k;
   open_nets : AreOpenOn l.board l.open_nets;

@@ -31,10 +31,10 @@ returns-clause-made g c =
     subst (λ (o : Option ℕ). IsMade (record {
       lattice = m;
       via_cost = cost;
-      workers = 1;
+      workers = c.args.workers;
       tasks = [];
       penalty = o;
     }) old made) c.penalty_of-penalty.ensures
-    (made_from _ old made _ c.args.open_nets.count (omega arith) c.keeps-2.ensures passed
+    (made_from _ old made _ c.args.open_nets.count (omega (arith, c.requires.workers.0)) c.keeps-2.ensures passed
     (c.passes_are_least.ensures _ old new _ passed) c.requires.open_nets.are (omega (arith, before, after, longer))
     (open_count new.design new.items _ _ c.in_ok-open_nets.ensures.are) spent)

@@ -1,0 +1,4 @@
+mod Boxes
+mod Digits
+mod Layers
+mod Lines

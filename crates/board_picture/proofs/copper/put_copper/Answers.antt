@@ -1,0 +1,9 @@
+use Rattle.board_picture.specs.Picture.{copper_part}
+use Rattle.ses_writer.proofs.Puts.{then_put}
+use Rattle.board_picture.proofs.copper.put_copper.Goals as goal
+
+pub returns : goal.returns
+unfolding copper_part
+returns c =
+    let two = then_put c.in_ok-put_keepout_group.ensures c.in_ok-put_layer_groups.ensures in
+    then_put two c.in_ok-put_hole_group.ensures

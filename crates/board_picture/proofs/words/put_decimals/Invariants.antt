@@ -1,0 +1,8 @@
+use Rattle.std.proofs.Common.{◌++◌, drop}
+use Rattle.ses_writer.specs.Words.{decimals}
+use Rattle.ses_writer.proofs.Puts.{Leads}
+use Rattle.board_picture.proofs.words.put_decimals.Given as goal
+
+abbrev pub invariant-loop-place : goal.invariant-loop-place
+invariant-loop-place l =
+    Leads l.out.items (decimals l.nm (drop l.place-index l.places)) (l.fn.out.items ++ decimals l.nm l.places)

@@ -1,0 +1,8 @@
+use Rattle.std.proofs.Common.{◌++◌, drop, flat_map}
+use Rattle.ses_writer.proofs.Puts.{Leads}
+use Rattle.board_picture.specs.Words.{point_words}
+use Rattle.board_picture.proofs.words.put_points.Given as goal
+
+abbrev pub invariant-loop-p : goal.invariant-loop-p
+invariant-loop-p l =
+    Leads l.out.items (flat_map point_words (drop l.p-index l.points)) (l.fn.out.items ++ flat_map point_words l.points)

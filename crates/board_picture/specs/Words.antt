@@ -1,0 +1,34 @@
+-- How a picture spells lengths, points and names.
+-- Source: Scalable Vector Graphics 1.1, numbers and path data; XML 1.0, predefined entities.
+use Rattle.std.specs.Prelude.{ℕ, ℤ, pos, unsigned_abs, int_lt, nat_lt, ◌==◌, if◌then◌else◌, List, [], ◌∷◌, ◌++◌}
+use Rattle.std.specs.Prelude.{flat_map, codes}
+use Rattle.geo_kernel.specs.declared.point.Point.{Point}
+use Rattle.ses_writer.specs.Words.{degrees}
+
+-- ---- lengths, in mm
+
+-- a length in nm: whole mm, and up to six digits without zeros at their end, as an angle in microdegrees is spelled
+abbrev pub length_word : ℕ → List ℕ
+length_word nm = degrees nm
+
+abbrev pub sign_word : ℤ → List ℕ
+sign_word nm = if int_lt nm (pos 0) then codes "-" else []
+
+-- a coordinate in nm
+unfoldable pub mm_word : ℤ → List ℕ
+mm_word nm = sign_word nm ++ length_word (unsigned_abs nm)
+
+-- a blank before each coordinate
+unfoldable pub point_words : Point → List ℕ
+point_words p = codes " " ++ mm_word p.x ++ codes " " ++ mm_word p.y
+
+-- ---- names
+
+-- the four marks that XML reads as its own, a question mark for a control byte, and any other byte as it is
+abbrev pub escaped_byte : ℕ → List ℕ
+escaped_byte b =
+    if b == 38 then codes "&amp;" else if b == 60 then codes "&lt;" else if b == 62 then codes "&gt;"
+    else if b == 34 then codes "&quot;" else if nat_lt b 32 then codes "?" else b ∷ []
+
+abbrev pub escaped : List ℕ → List ℕ
+escaped name = flat_map escaped_byte name

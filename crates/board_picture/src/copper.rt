@@ -1,0 +1,163 @@
+//! Keepouts, the copper of each layer, and holes.
+
+ghost use Rattle.std.specs.Prelude.{◌≡◌, OnOk, flat_map, length};
+ghost use Rattle.pcb_model.specs.declared.item.Item.{Item as OneItem};
+ghost use Rattle.ses_writer.specs.Words.{Appends};
+ghost use Rattle.board_picture.specs.Words.{escaped};
+ghost use Rattle.board_picture.specs.Shapes.{wire_on, land_on, keepout_shapes, hole_of};
+ghost use Rattle.board_picture.specs.Picture.{keepout_group, layer_name, layer_group, layer_groups};
+ghost use Rattle.board_picture.specs.Picture.{hole_group, copper_part};
+
+use crate::paint::put_paint;
+use crate::shapes::{is_keepout, is_land, is_wire, put_hole, put_pieces, put_pieces_on};
+use crate::words::put_escaped;
+use pcb_model::{Design, Item};
+use ses_writer::put;
+use std::alloc::AllocError;
+
+// ---- keepouts
+
+fn put_keepout(out: &mut Vec<u8>, a: &Item) -> Result<(), AllocError>
+    ensures { OnOk result (Appends out.old.items out.new.items (keepout_shapes a.now)) }
+{
+    if is_keepout(&a.metal) {
+        return put_pieces(out, a.pieces.as_slice());
+    }
+    Ok(())
+}
+
+fn put_keepouts(out: &mut Vec<u8>, items: &[Item]) -> Result<(), AllocError>
+    ensures { OnOk result (Appends out.old.items out.new.items (flat_map keepout_shapes items.now)) }
+{
+    for a in items {
+        put_keepout(out, a)?;
+    }
+    Ok(())
+}
+
+#[tactic(auto, unfolding(crate::specs::Picture::keepout_group))]
+fn put_keepout_group(out: &mut Vec<u8>, items: &[Item]) -> Result<(), AllocError>
+    ensures { OnOk result (Appends out.old.items out.new.items (keepout_group items.now)) }
+{
+    put(
+        out,
+        b"<g class=\"keepouts\" fill=\"url(#hatch)\" stroke=\"url(#hatch)\">\n",
+    )?;
+    put_keepouts(out, items)?;
+    put(out, b"</g>\n")?;
+    Ok(())
+}
+
+// ---- layers
+
+fn put_wire(out: &mut Vec<u8>, layer: usize, a: &Item) -> Result<(), AllocError>
+    ensures { OnOk result (Appends out.old.items out.new.items (wire_on layer a.now)) }
+{
+    if is_wire(&a.metal) {
+        return put_pieces_on(out, layer, a.pieces.as_slice());
+    }
+    Ok(())
+}
+
+fn put_wires(out: &mut Vec<u8>, layer: usize, items: &[Item]) -> Result<(), AllocError>
+    ensures { OnOk result (Appends out.old.items out.new.items (flat_map (wire_on layer) items.now)) }
+{
+    for a in items {
+        put_wire(out, layer, a)?;
+    }
+    Ok(())
+}
+
+fn put_land(out: &mut Vec<u8>, layer: usize, a: &Item) -> Result<(), AllocError>
+    ensures { OnOk result (Appends out.old.items out.new.items (land_on layer a.now)) }
+{
+    if is_land(&a.metal) {
+        return put_pieces_on(out, layer, a.pieces.as_slice());
+    }
+    Ok(())
+}
+
+fn put_lands(out: &mut Vec<u8>, layer: usize, items: &[Item]) -> Result<(), AllocError>
+    ensures { OnOk result (Appends out.old.items out.new.items (flat_map (land_on layer) items.now)) }
+{
+    for a in items {
+        put_land(out, layer, a)?;
+    }
+    Ok(())
+}
+
+fn put_layer_name(out: &mut Vec<u8>, d: &Design, layer: usize) -> Result<(), AllocError>
+    ensures { OnOk result (Appends out.old.items out.new.items (escaped (layer_name d.now layer))) }
+{
+    match d.layers.as_slice().get(layer) {
+        Some(l) => put_escaped(out, l.name.as_slice()),
+        None => Ok(()),
+    }
+}
+
+#[tactic(auto, unfolding(crate::specs::Picture::layer_group))]
+fn put_layer_group(
+    out: &mut Vec<u8>,
+    d: &Design,
+    items: &[Item],
+    layer: usize,
+) -> Result<(), AllocError>
+    ensures { OnOk result (Appends out.old.items out.new.items (layer_group d.now items.now layer)) }
+{
+    put(out, b"<g id=\"")?;
+    put_layer_name(out, d, layer)?;
+    put(out, b"\"")?;
+    put_paint(out, layer)?;
+    put(out, b">\n")?;
+    put_wires(out, layer, items)?;
+    put_lands(out, layer, items)?;
+    put(out, b"</g>\n")
+}
+
+// From the last layer up to the first.
+fn put_layer_groups(out: &mut Vec<u8>, d: &Design, items: &[Item]) -> Result<(), AllocError>
+    ensures { OnOk result (Appends out.old.items out.new.items (layer_groups d.now items.now (length d.now.layers))) }
+{
+    let mut layer = d.layers.len();
+    while layer > 0 {
+        layer -= 1;
+        put_layer_group(out, d, items, layer)?;
+    }
+    Ok(())
+}
+
+// ---- holes
+
+fn put_holes(out: &mut Vec<u8>, d: &Design, items: &[Item]) -> Result<(), AllocError>
+    ensures { OnOk result (Appends out.old.items out.new.items
+        (flat_map (λ (a : OneItem). hole_of d.now a.metal) items.now)) }
+{
+    for a in items {
+        put_hole(out, d, &a.metal)?;
+    }
+    Ok(())
+}
+
+#[tactic(auto, unfolding(crate::specs::Picture::hole_group))]
+fn put_hole_group(out: &mut Vec<u8>, d: &Design, items: &[Item]) -> Result<(), AllocError>
+    ensures { OnOk result (Appends out.old.items out.new.items (hole_group d.now items.now)) }
+{
+    put(
+        out,
+        b"<g class=\"holes\" fill=\"#fff\" stroke=\"#000\" stroke-width=\"0.05\">\n",
+    )?;
+    put_holes(out, d, items)?;
+    put(out, b"</g>\n")?;
+    Ok(())
+}
+
+/// Keepouts, then the layers, and then the holes.
+#[tactic(auto, unfolding(crate::specs::Picture::copper_part))]
+pub(crate) fn put_copper(out: &mut Vec<u8>, d: &Design, items: &[Item]) -> Result<(), AllocError>
+    ensures { OnOk result (Appends out.old.items out.new.items (copper_part d.now items.now)) }
+{
+    put_keepout_group(out, items)?;
+    put_layer_groups(out, d, items)?;
+    put_hole_group(out, d, items)?;
+    Ok(())
+}

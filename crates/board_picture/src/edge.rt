@@ -1,0 +1,130 @@
+//! The board's edge, the names of components, and the open connections.
+
+ghost use Rattle.std.specs.Prelude.{◌≡◌, OnOk, flat_map};
+ghost use Rattle.ses_writer.specs.Words.{Appends};
+ghost use Rattle.board_picture.specs.Picture.{bound_shape, edge_group, name_text, name_group, open_shape, open_group};
+
+use crate::open::OpenLine;
+use crate::shapes::put_loops;
+use crate::sheet::Sheet;
+use crate::words::{put_escaped, put_length, put_point};
+use geo_kernel::{List, Point};
+use pcb_model::{Component, Design};
+use ses_writer::put;
+use std::alloc::AllocError;
+
+// ---- edge
+
+#[tactic(auto, unfolding(crate::specs::Picture::bound_shape))]
+fn put_bound(out: &mut Vec<u8>, loops: &[List<Point>]) -> Result<(), AllocError>
+    ensures { OnOk result (Appends out.old.items out.new.items (bound_shape loops.now)) }
+{
+    put(out, b"<path d=\"")?;
+    put_loops(out, loops)?;
+    put(out, b"\"/>\n")
+}
+
+fn put_bounds(out: &mut Vec<u8>, bounds: &[List<List<Point>>]) -> Result<(), AllocError>
+    ensures { OnOk result (Appends out.old.items out.new.items (flat_map bound_shape bounds.now)) }
+{
+    for loops in bounds {
+        put_bound(out, loops.as_slice())?;
+    }
+    Ok(())
+}
+
+/// The boundaries, as thin lines.
+#[tactic(auto, unfolding(crate::specs::Picture::edge_group))]
+pub(crate) fn put_edge(out: &mut Vec<u8>, s: Sheet, d: &Design) -> Result<(), AllocError>
+    ensures { OnOk result (Appends out.old.items out.new.items (edge_group s d.now)) }
+{
+    put(
+        out,
+        b"<g class=\"edge\" fill=\"none\" stroke=\"#000\" stroke-width=\"",
+    )?;
+    put_length(out, s.unit / 10)?;
+    put(out, b"\">\n")?;
+    put_bounds(out, d.bounds.as_slice())?;
+    put(out, b"</g>\n")?;
+    Ok(())
+}
+
+// ---- names
+
+#[tactic(auto, unfolding(crate::specs::Picture::name_text))]
+fn put_name(out: &mut Vec<u8>, c: &Component) -> Result<(), AllocError>
+    ensures { OnOk result (Appends out.old.items out.new.items (name_text c.now)) }
+{
+    put(out, b"<text transform=\"matrix(1 0 0 -1")?;
+    put_point(out, &c.at)?;
+    put(out, b")\">")?;
+    put_escaped(out, c.name.as_slice())?;
+    put(out, b"</text>\n")?;
+    Ok(())
+}
+
+fn put_name_texts(out: &mut Vec<u8>, components: &[Component]) -> Result<(), AllocError>
+    ensures { OnOk result (Appends out.old.items out.new.items (flat_map name_text components.now)) }
+{
+    for c in components {
+        put_name(out, c)?;
+    }
+    Ok(())
+}
+
+/// The names of components.
+#[tactic(auto, unfolding(crate::specs::Picture::name_group))]
+pub(crate) fn put_names(out: &mut Vec<u8>, s: Sheet, d: &Design) -> Result<(), AllocError>
+    ensures { OnOk result (Appends out.old.items out.new.items (name_group s d.now)) }
+{
+    put(out, b"<g class=\"names\" font-size=\"")?;
+    put_length(out, s.unit / 2)?;
+    put(
+        out,
+        b"\" text-anchor=\"middle\" stroke=\"#fff\" stroke-width=\"",
+    )?;
+    put_length(out, s.unit / 10)?;
+    put(out, b"\" paint-order=\"stroke\">\n")?;
+    put_name_texts(out, d.components.as_slice())?;
+    put(out, b"</g>\n")?;
+    Ok(())
+}
+
+// ---- open connections
+
+#[tactic(auto, unfolding(crate::specs::Picture::open_shape))]
+fn put_line(out: &mut Vec<u8>, line: &OpenLine) -> Result<(), AllocError>
+    ensures { OnOk result (Appends out.old.items out.new.items (open_shape line.now)) }
+{
+    put(out, b"<path d=\"M")?;
+    put_point(out, &line.from)?;
+    put_point(out, &line.to)?;
+    put(out, b"\"/>\n")
+}
+
+fn put_lines(out: &mut Vec<u8>, lines: &[OpenLine]) -> Result<(), AllocError>
+    ensures { OnOk result (Appends out.old.items out.new.items (flat_map open_shape lines.now)) }
+{
+    for line in lines {
+        put_line(out, line)?;
+    }
+    Ok(())
+}
+
+/// The open connections, dashed.
+#[tactic(auto, unfolding(crate::specs::Picture::open_group))]
+pub(crate) fn put_open(out: &mut Vec<u8>, s: Sheet, lines: &[OpenLine]) -> Result<(), AllocError>
+    ensures { OnOk result (Appends out.old.items out.new.items (open_group s lines.now)) }
+{
+    put(
+        out,
+        b"<g class=\"open\" fill=\"none\" stroke=\"#E0007A\" stroke-width=\"",
+    )?;
+    put_length(out, s.unit / 16)?;
+    put(out, b"\" stroke-dasharray=\"")?;
+    put_length(out, s.unit / 2)?;
+    put(out, b"\">\n")?;
+    put_lines(out, lines)?;
+    put(out, b"</g>\n")?;
+    Ok(())
+}

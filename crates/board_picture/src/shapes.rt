@@ -1,0 +1,152 @@
+//! What is drawn of the pieces of copper: their spines, with the widths that they have and round ends.
+//! Source: Scalable Vector Graphics 1.1, paths.
+
+ghost use Rattle.std.specs.Prelude.{◌≡◌, OnOk, flat_map};
+ghost use Rattle.ses_writer.specs.Words.{Appends};
+ghost use Rattle.board_picture.specs.Shapes.{loop_words, spine_words, piece_shape, shape_on, shapes_on};
+ghost use Rattle.board_picture.specs.Shapes.{is_wire, is_via, is_keepout, is_land, hole_dot, hole_of_pin, hole_of};
+
+use crate::words::{put_length, put_point, put_points};
+use geo_kernel::{List, Point, Spine};
+use pcb_model::{Design, Metal, Piece, Pin};
+use ses_writer::put;
+use std::alloc::AllocError;
+
+#[tactic(auto, unfolding(crate::specs::Shapes::loop_words))]
+fn put_loop(out: &mut Vec<u8>, points: &[Point]) -> Result<(), AllocError>
+    ensures { OnOk result (Appends out.old.items out.new.items (loop_words points.now)) }
+{
+    put(out, b"M")?;
+    put_points(out, points)?;
+    put(out, b"z")
+}
+
+/// The loops of an area.
+pub(crate) fn put_loops(out: &mut Vec<u8>, loops: &[List<Point>]) -> Result<(), AllocError>
+    ensures { OnOk result (Appends out.old.items out.new.items (flat_map loop_words loops.now)) }
+{
+    for points in loops {
+        put_loop(out, points.as_slice())?;
+    }
+    Ok(())
+}
+
+#[tactic(auto, unfolding(crate::specs::Shapes::spine_words))]
+fn put_spine(out: &mut Vec<u8>, spine: &Spine) -> Result<(), AllocError>
+    ensures { OnOk result (Appends out.old.items out.new.items (spine_words spine.now)) }
+{
+    match spine {
+        Spine::Chain(points) => {
+            put(out, b"\" fill=\"none\" d=\"M")?;
+            put_points(out, points.as_slice())?;
+            put(out, b"h0\"/>\n")
+        }
+        Spine::Area(loops) => {
+            put(out, b"\" d=\"")?;
+            put_loops(out, loops.as_slice())?;
+            put(out, b"\"/>\n")
+        }
+    }
+}
+
+#[tactic(auto, unfolding(crate::specs::Shapes::piece_shape))]
+fn put_piece(out: &mut Vec<u8>, c: &Piece) -> Result<(), AllocError>
+    ensures { OnOk result (Appends out.old.items out.new.items (piece_shape c.now)) }
+{
+    put(out, b"<path stroke-width=\"")?;
+    put_length(out, c.width)?;
+    put_spine(out, &c.spine)?;
+    Ok(())
+}
+
+/// All pieces.
+pub(crate) fn put_pieces(out: &mut Vec<u8>, pieces: &[Piece]) -> Result<(), AllocError>
+    ensures { OnOk result (Appends out.old.items out.new.items (flat_map piece_shape pieces.now)) }
+{
+    for c in pieces {
+        put_piece(out, c)?;
+    }
+    Ok(())
+}
+
+fn put_piece_on(out: &mut Vec<u8>, layer: usize, c: &Piece) -> Result<(), AllocError>
+    ensures { OnOk result (Appends out.old.items out.new.items (shape_on layer c.now)) }
+{
+    if usize::from(c.layer) == layer {
+        return put_piece(out, c);
+    }
+    Ok(())
+}
+
+/// The pieces on a layer.
+pub(crate) fn put_pieces_on(
+    out: &mut Vec<u8>,
+    layer: usize,
+    pieces: &[Piece],
+) -> Result<(), AllocError>
+    ensures { OnOk result (Appends out.old.items out.new.items (shapes_on layer pieces.now)) }
+{
+    for c in pieces {
+        put_piece_on(out, layer, c)?;
+    }
+    Ok(())
+}
+
+pub(crate) fn is_wire(metal: &Metal) -> bool
+    ensures { result ≡ is_wire metal.now }
+{
+    matches!(metal, Metal::Wire { .. })
+}
+
+pub(crate) fn is_via(metal: &Metal) -> bool
+    ensures { result ≡ is_via metal.now }
+{
+    matches!(metal, Metal::Via { .. })
+}
+
+pub(crate) fn is_keepout(metal: &Metal) -> bool
+    ensures { result ≡ is_keepout metal.now }
+{
+    matches!(metal, Metal::Ban { .. })
+}
+
+/// Whether it is a via or the pad of a pin.
+pub(crate) fn is_land(metal: &Metal) -> bool
+    ensures { result ≡ is_land metal.now }
+{
+    !is_wire(metal) && !is_keepout(metal)
+}
+
+#[tactic(auto, unfolding(crate::specs::Shapes::hole_dot))]
+fn put_dot(out: &mut Vec<u8>, p: &Point) -> Result<(), AllocError>
+    ensures { OnOk result (Appends out.old.items out.new.items (hole_dot p.now)) }
+{
+    put(out, b"<circle r=\"0.15\" transform=\"translate(")?;
+    put_point(out, p)?;
+    put(out, b")\"/>\n")?;
+    Ok(())
+}
+
+fn put_hole_of_pin(out: &mut Vec<u8>, p: &Pin) -> Result<(), AllocError>
+    ensures { OnOk result (Appends out.old.items out.new.items (hole_of_pin p.now)) }
+{
+    if p.smd {
+        return Ok(());
+    }
+    put_dot(out, &p.centre)
+}
+
+/// The place of the hole of a via, or of a pin's pad.
+pub(crate) fn put_hole(out: &mut Vec<u8>, d: &Design, metal: &Metal) -> Result<(), AllocError>
+    ensures { OnOk result (Appends out.old.items out.new.items (hole_of d.now metal.now)) }
+{
+    match metal {
+        Metal::Wire { .. } => Ok(()),
+        Metal::Via { at, .. } => put_dot(out, at),
+        Metal::Pad { pin } => match d.pins.as_slice().get(*pin as usize) {
+            Some(p) => put_hole_of_pin(out, p),
+            None => Ok(()),
+        },
+        Metal::Ban { .. } => Ok(()),
+    }
+}

@@ -1,0 +1,5 @@
+pub mod Counts
+pub mod EventLists
+pub mod Moves
+pub mod Seats
+pub mod Ends

@@ -1,0 +1,4 @@
+pub mod Events
+pub mod Lock
+pub mod Turns
+pub mod Seats

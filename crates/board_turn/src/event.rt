@@ -1,0 +1,17 @@
+//! What passes do with a board. No value of these types is made: contracts speak of them.
+
+use pcb_board::{Answer, Offer};
+
+/// What a pass did with the board: it took a snapshot, it made an offer that was answered so, or memory was wanting
+/// for either.
+pub enum Deed {
+    Looked,
+    Offered(Offer, Answer),
+    Idle,
+}
+
+/// A deed of the pass of this name.
+pub struct Event {
+    pub name: u32,
+    pub deed: Deed,
+}

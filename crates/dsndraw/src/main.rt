@@ -1,0 +1,74 @@
+//! The command `dsndraw`: it draws a design, or a session of it, as a picture.
+//! Its exit code tells how that ended; where there is no picture, standard error says why to a person.
+#![tactic(auto)]
+
+mod notes;
+mod words;
+
+use crate::notes::{WANTING_NOTE, WORDS_NOTE, note_of};
+use crate::words::read_call;
+use desk_io::HostDesk;
+use picture_call::{Outcome, PictureCall, draw};
+use route_words::WordFault;
+use std::process::ExitCode;
+use std::rt::{Env, Files};
+use std::{env, io};
+
+/// The exit code of refused words.
+const WORDS_CODE: u8 = 2;
+
+/// The exit code of want of memory.
+const WANTING_CODE: u8 = 7;
+
+// The words without the program's own name.
+fn words_of<R: Env + AllocGlobal>(rt: &R) -> Result<Vec<String>, io::Error> {
+    let mut words = Vec::new(rt.alloc());
+    for word in env::args(rt)?.skip(1) {
+        words.push(word)?;
+    }
+    Ok(words)
+}
+
+// What the words ask for. Words that are no text are wrong words.
+fn call_of<R: Env + AllocGlobal>(rt: &R) -> Result<PictureCall, WordFault> {
+    match words_of(rt) {
+        Ok(words) => read_call(rt.alloc(), &words),
+        Err(fault) => {
+            if fault.kind() == io::ErrorKind::OutOfMemory {
+                Err(WordFault::Memory(std::alloc::AllocError))
+            } else {
+                Err(WordFault::Usage)
+            }
+        }
+    }
+}
+
+// Says on standard error why there is no picture. Where that fails too, the exit code alone tells.
+fn tell<R: Files + Eprint + AllocGlobal>(rt: &R, call: &PictureCall, outcome: &Outcome) {
+    let _ = match note_of(rt, call, outcome) {
+        Ok(note) => eprint!(rt; "{note}"),
+        Err(_) => eprint!(rt; "{WANTING_NOTE}"),
+    };
+}
+
+fn run<R: Files + Eprint + AllocGlobal>(rt: &R, call: &PictureCall) -> u8 {
+    let mut desk = HostDesk::new(rt);
+    let outcome = draw(rt.alloc(), call, &mut desk);
+    tell(rt, call, &outcome);
+    outcome.code()
+}
+
+fn main(rt: HostRuntime) -> ExitCode {
+    let code = match call_of(&rt) {
+        Ok(call) => run(&rt, &call),
+        Err(WordFault::Memory(_)) => {
+            let _ = eprint!(rt; "{WANTING_NOTE}");
+            WANTING_CODE
+        }
+        Err(_) => {
+            let _ = eprint!(rt; "{WORDS_NOTE}");
+            WORDS_CODE
+        }
+    };
+    ExitCode::from(code)
+}

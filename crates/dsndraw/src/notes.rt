@@ -1,0 +1,153 @@
+//! What standard error says where there is no picture: which file, where, and what is wrong.
+//! What is said of a design is what `dsnroute` says of it.
+
+use desk_io::{Desk, HostDesk};
+use dsn_shapes::{Refusal, What};
+use dsn_tree::TreeFault;
+use fault_notes::{Counted, Fault, Said, note_text, place_of};
+use picture_call::{MAX_BYTES, Outcome, PictureCall};
+use std::alloc::{AllocError, Global};
+use std::rt::Files;
+
+/// What is said of refused words.
+pub(crate) const WORDS_NOTE: &str = "\
+dsndraw: two or three names are wanted
+dsndraw DESIGN [SESSION] OUT
+";
+
+/// What is said where memory was wanting.
+pub(crate) const WANTING_NOTE: &str = "dsndraw: memory was wanting\n";
+
+// What is wrong with a session, by the numbers of its refusals.
+fn session_words(number: u8) -> &'static str {
+    match number {
+        1 => "the list isn't a `session`, or `routes`, `resolution` or `network_out` is missing",
+        2 => "a number, unit or count is none that can be, or is too large",
+        3 => "the design has no net of this name",
+        4 => "the design has no layer of this name",
+        5 => "the design has no padstack of this name",
+        _ => "a wire is wanted with one path, of whole points and at least two",
+    }
+}
+
+// The fault of a text without a tree; an empty text is refused at its first byte.
+fn misspelt(fault: &TreeFault) -> Fault {
+    let (number, place) = match fault {
+        TreeFault::QuoteOpen { at } => (1, *at),
+        TreeFault::BadQuoteByte { at } => (2, *at),
+        TreeFault::Unclosed { at } => (3, *at),
+        TreeFault::Surplus { at } => (4, *at),
+        TreeFault::TooDeep { at } => (5, *at),
+        TreeFault::Empty => (6, 0),
+        TreeFault::Memory(_) => return Fault::Memory,
+    };
+    Fault::Told(Said::Refused { number, place })
+}
+
+// What a limit of a design counts; None where the refusal is of none.
+fn counted(what: What) -> Option<Counted> {
+    match what {
+        What::Nothing => None,
+        What::Layers => Some(Counted::Layers),
+        What::Nets => Some(Counted::Nets),
+        What::Pins => Some(Counted::Pins),
+        What::Items => Some(Counted::Items),
+        What::Vertices => Some(Counted::Vertices),
+    }
+}
+
+// The fault of a refused design; where it passes a limit, that is told in place of a byte.
+fn refused(refusal: Refusal) -> Fault {
+    match counted(refusal.what) {
+        Some(counted) => Fault::Told(Said::Limit {
+            counted,
+            number: u128::from(refusal.limit),
+        }),
+        None => Fault::Told(Said::Refused {
+            number: u64::from(refusal.number),
+            place: refusal.at,
+        }),
+    }
+}
+
+// The fault of a file that has more bytes than the limit.
+const TOO_LONG: Fault = Fault::Told(Said::Limit {
+    counted: Counted::Bytes,
+    number: MAX_BYTES as u128,
+});
+
+// The text of a file once more, where a place in it is to be told.
+fn text_again<R: Files + AllocGlobal>(rt: &R, file: &str) -> Option<Vec<u8>> {
+    HostDesk::new(rt).read(file, MAX_BYTES).ok()
+}
+
+// The note of a fault in the file of this name.
+fn file_note<R: Files + AllocGlobal>(
+    rt: &R,
+    file: &str,
+    fault: Fault,
+) -> Result<String, AllocError> {
+    match fault {
+        Fault::Told(Said::Refused { .. }) => {
+            let text = text_again(rt, file);
+            note_text(rt.alloc(), fault, file, file, text.as_deref())
+        }
+        Fault::Memory => String::from_str(rt.alloc(), WANTING_NOTE),
+        _ => note_text(rt.alloc(), fault, file, file, None),
+    }
+}
+
+// Where a session is refused: its line and column, or the byte where it can't be read again.
+fn session_front<R: Files + AllocGlobal>(
+    rt: &R,
+    file: &str,
+    at: u64,
+) -> Result<String, AllocError> {
+    match text_again(rt, file) {
+        Some(text) => {
+            let place = place_of(&text, at);
+            let line = place.line;
+            let column = place.column;
+            format!(in rt.alloc(); "{file}:{line}:{column}")
+        }
+        None => format!(in rt.alloc(); "{file}: byte {at}"),
+    }
+}
+
+// The note of a refused session.
+fn session_note<R: Files + AllocGlobal>(
+    rt: &R,
+    file: &str,
+    number: u8,
+    at: u64,
+) -> Result<String, AllocError> {
+    let front = session_front(rt, file, at)?;
+    let words = session_words(number);
+    format!(in rt.alloc(); "{front}: the session is refused: {words} (session refusal {number})\n")
+}
+
+/// The note of an outcome, which is empty where the picture is drawn.
+pub(crate) fn note_of<R: Files + AllocGlobal>(
+    rt: &R,
+    call: &PictureCall,
+    outcome: &Outcome,
+) -> Result<String, AllocError> {
+    let design = call.design.as_str();
+    let session = match &call.session {
+        Some(name) => name.as_str(),
+        None => design,
+    };
+    match outcome {
+        Outcome::Drawn => Ok(String::new(rt.alloc())),
+        Outcome::DesignUnread => file_note(rt, design, Fault::Told(Said::ReadFault)),
+        Outcome::SessionUnread => file_note(rt, session, Fault::Told(Said::ReadFault)),
+        Outcome::DesignTooLong => file_note(rt, design, TOO_LONG),
+        Outcome::SessionTooLong => file_note(rt, session, TOO_LONG),
+        Outcome::DesignMisspelt(fault) => file_note(rt, design, misspelt(fault)),
+        Outcome::DesignRefused(refusal) => file_note(rt, design, refused(*refusal)),
+        Outcome::SessionMisspelt(fault) => file_note(rt, session, misspelt(fault)),
+        Outcome::SessionRefused { number, at } => session_note(rt, session, *number, *at),
+        Outcome::Unwritten => file_note(rt, call.output.as_str(), Fault::Session),
+        Outcome::Memory => file_note(rt, design, Fault::Memory),
+    }
+}

@@ -1,0 +1,4 @@
+pub mod Codes
+pub mod Drawing
+pub mod Answers
+pub mod Growing

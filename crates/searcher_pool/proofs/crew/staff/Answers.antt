@@ -1,0 +1,74 @@
+use Rattle.std.proofs.Common.{◌≡◌, ◌∙◌, ◌+◌, ◌-◌, ◌<◌, ℕ, arith, ap, sym, subst, List, [], ◌∷◌, ◌++◌, length, vec_len}
+use Rattle.std.proofs.Common.{All, Option}
+use Rattle.std.specs.Prelude.{slice_index_or, option_to_list}
+use Rattle.std.proofs.lemmas.List.{length-append}
+use Rattle.crossbeam_utils.specs.Padded.{padded_value}
+use Rattle.crossbeam_utils.specs.declared.cache_padded.CachePadded.{CachePadded}
+use Rattle.route_lattice.specs.Mesh.{node_count}
+use Rattle.claim_counter.specs.Claims.{hand, less_one, newcomer}
+use Rattle.board_turn.specs.Turns.{PassOf, passes_of}
+use Rattle.board_turn.proofs.Seats.{passes_of-snoc}
+use Rattle.searcher_pool.specs.declared.worker.Worker.{Worker}
+use Rattle.searcher_pool.specs.Working.{MayWork, pass_of}
+use Rattle.searcher_pool.proofs.Rows.{at_front, at_last, at_push, ends_same}
+use Rattle.searcher_pool.proofs.Crews.{new_worker}
+use Rattle.searcher_pool.proofs.crew.staff.Goals as goal
+
+pub loop-pass-preserved : goal.loop-pass-preserved
+loop-pass-preserved c =
+    let inv = c.loop-pass.invariant in
+    let p = pass_of c.args.job in
+    let t = c.args.turn.now in
+    let n = vec_len c.pop.new.self in
+    let len : n + 1 ≡ vec_len c.loop-pass.passes = c.in-Some.ensures.cases in
+    let at : ℕ → PassOf = λ k. record { turn = t; name = k; seen = [] } in
+    let nought : 0 + n ≡ n = omega arith in
+    let whole : c.pop.new.self.items ++ c.in-Some.pass ∷ [] ≡ passes_of t 0 n ++ at n ∷ [] =
+    sym c.in-Some.ensures.items ∙ inv.left ∙ ap (passes_of t 0) (sym len) ∙ sym (passes_of-snoc t 0 n)
+    ∙ ap (λ k. passes_of t 0 n ++ at k ∷ []) nought in
+    let parts = ends_same c.pop.new.self.items (passes_of t 0 n) c.in-Some.pass (at n) whole in
+    let crew = c.loop-pass.crew.items in
+    let m = length crew in
+    let put = c.push_reserved.ensures in
+    let long : length c.push_reserved.new.self.items ≡ m + 1 = ap length put.items ∙ length-append crew _ in
+    let count = inv.count in
+    let nodes = node_count c.args.job.lat.now in
+    let found : c.loop-pass.searches.items ≡ c.pop-in-Some.new.self.items ++ c.unwrap-search.result ∷ [] =
+    c.pop-in-Some.ensures.items
+    ∙ ap (λ (o : Option ℕ). c.pop-in-Some.new.self.items ++ option_to_list o) c.unwrap-search.ensures in
+    let all_sized : All (λ s. s ≡ nodes) (c.pop-in-Some.new.self.items ++ c.unwrap-search.result ∷ []) =
+    subst (All (λ s. s ≡ nodes)) found inv.memory.1 in
+    let one : length (option_to_list c.pop-in-Some.result) ≡ 1 =
+    ap (λ (o : Option ℕ). length (option_to_list o)) c.unwrap-search.ensures in
+    let made = c.new-in-Some-2.ensures in
+    let cut = c.split-seat.ensures in
+    let IsNamed : ℕ → CachePadded Worker → Type 0 = λ k w. (padded_value w).pass.name + k + 1 ≡ c.args.job.workers in
+    let Fresh : CachePadded Worker → Type 0 = λ w. MayWork p t c.args.counter.now (padded_value w) in
+    let fresh : Fresh c.new-in-Some-2.result =
+    subst (MayWork p t c.args.counter.now) (sym made) (new_worker p t c.args.counter.now _ n parts.1
+    c.len-number.ensures (omega (arith, len, count)) (at_last (λ k s. s ≡ nodes) c.pop-in-Some.new.self.items
+    c.unwrap-search.result all_sized) c.new.ensures.items c.new-in-Some.ensures.items cut.other.0
+    (cut.other.1 ∙ ap newcomer inv.hand_is)) in
+    let name : (padded_value c.new-in-Some-2.result).pass.name ≡ n =
+    ap (λ (w : Worker). w.pass.name) made ∙ ap (λ (q : PassOf). q.name) parts.1 in
+    record {
+      left = parts.0;
+      count = omega (arith, len, count, long);
+      memory = (
+        (let a = inv.memory.0 in let b = c.pop-in-Some.ensures.len in omega (arith, a, b, one, len)),
+        at_front (λ k s. s ≡ nodes) c.pop-in-Some.new.self.items c.unwrap-search.result all_sized,
+      );
+      room = c.pop.ensures.capacity ∙ inv.room;
+      space = (
+        (let a = inv.space.0 in let b = put.len in omega (arith, a, b, long)),
+        (let a = inv.space.1 in let b = put.capacity in omega (arith, a, b)),
+      );
+      table = cut.same.0 ∙ inv.table;
+      hand_is = cut.same.1 ∙ ap less_one inv.hand_is ∙ (let less : 17 - m - 1 ≡ 17 - length
+          c.push_reserved.new.self.items = omega (arith, long) in ap (λ (k : ℕ). hand k [] 0) less);
+      names = subst (λ (ws : List (CachePadded Worker)). (k : ℕ) (d : CachePadded Worker) → k < length ws
+          → IsNamed k (slice_index_or ws k d)) (sym put.items)
+          (at_push IsNamed crew c.new-in-Some-2.result inv.names (omega (arith, name, len, count)));
+      fresh = subst (All Fresh) (sym put.items)
+          (at_push (λ (k : ℕ) (w : CachePadded Worker). Fresh w) crew c.new-in-Some-2.result inv.fresh fresh);
+    }

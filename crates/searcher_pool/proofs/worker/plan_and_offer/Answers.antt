@@ -1,0 +1,151 @@
+use Rattle.std.proofs.Common.{◌∙◌, refl, subst}
+use Rattle.route_plan.specs.Plans.{Plans}
+use Rattle.board_turn.specs.declared.event.Deed.TheVariants.{Looked, Idle}
+use Rattle.searcher_pool.specs.declared.worker.Worker.{Worker}
+use Rattle.searcher_pool.specs.Working.{Attempts, pass_of}
+use Rattle.searcher_pool.proofs.Steps.{attempt_on, board_seen, ends_shut, ends_whole, on_ok, quiet, snap_is}
+use Rattle.searcher_pool.proofs.worker.plan_and_offer.Goals as goal
+
+pub returns-in_err-snap-clause-ready : goal.returns-in_err-snap-clause-ready
+returns-in_err-snap-clause-ready g c =
+    (quiet (pass_of c.args.job) c.args.turn.now c.args.w.now _ Idle c.in_err-snap.ensures.err.0 c.requires.ready
+    (record { number = refl; size = c.requires.ready.size; drawn = refl; seat = refl; failed = refl }) refl refl refl
+    c.in_err-snap.ensures.err.1).ready
+
+pub returns-in_err-snap-clause-after : goal.returns-in_err-snap-clause-after
+returns-in_err-snap-clause-after g c =
+    (quiet (pass_of c.args.job) c.args.turn.now c.args.w.now _ Idle c.in_err-snap.ensures.err.0 c.requires.ready
+    (record { number = refl; size = c.requires.ready.size; drawn = refl; seat = refl; failed = refl }) refl refl refl
+    c.in_err-snap.ensures.err.1).after
+
+pub returns-in_err-planned-clause-ready : goal.returns-in_err-planned-clause-ready
+returns-in_err-planned-clause-ready g c =
+    (quiet (pass_of c.args.job) c.args.turn.now c.args.w.now _ Looked c.in_ok-snap.ensures.ok.0 c.requires.ready
+    (record {
+      number = refl;
+      size = c.plan_in.ensures.size ∙ c.requires.ready.size;
+      drawn = refl;
+      seat = refl;
+      failed = refl;
+    }) refl refl refl c.in_ok-snap.ensures.ok.1).ready
+
+pub returns-in_err-planned-clause-after : goal.returns-in_err-planned-clause-after
+returns-in_err-planned-clause-after g c =
+    (quiet (pass_of c.args.job) c.args.turn.now c.args.w.now _ Looked c.in_ok-snap.ensures.ok.0 c.requires.ready
+    (record {
+      number = refl;
+      size = c.plan_in.ensures.size ∙ c.requires.ready.size;
+      drawn = refl;
+      seat = refl;
+      failed = refl;
+    }) refl refl refl c.in_ok-snap.ensures.ok.1).after
+
+pub make-requires-clause-ready : goal.make-requires-clause-ready
+make-requires-clause-ready g c =
+    (quiet (pass_of c.args.job) c.args.turn.now c.args.w.now _ Looked c.in_ok-snap.ensures.ok.0 c.requires.ready
+    (record {
+      number = refl;
+      size = c.plan_in.ensures.size ∙ c.requires.ready.size;
+      drawn = refl;
+      seat = refl;
+      failed = refl;
+    }) refl refl refl c.in_ok-snap.ensures.ok.1).ready
+
+pub make-requires-clause-plan : goal.make-requires-clause-plan
+make-requires-clause-plan g c =
+    let b = c.in_ok-snap.ensures.ok.0 in
+    let calls = c.in_ok-snap.ensures.ok.1 in
+    let turn = c.requires.turn in
+    let keep = c.events_keep.ensures.boards in
+    record {
+      board = b;
+      reached = board_seen (pass_of c.args.job) c.args.turn.now turn keep c.args.w.now c.snap.new.pass b
+          c.requires.ready calls;
+      plan = subst (Plans c.args.job.lat.now c.args.job.via_cost b c.args.w.now.number c.args.net
+          c.args.job.penalty) c.in-Offer.is
+          (c.in_ok-planned.ensures.plan b (snap_is (pass_of c.args.job) c.args.turn.now turn keep c.args.w.now
+          c.snap.new.pass b c.requires.ready calls c.in_ok-snap.snap c.in_ok-snap.ensures.ok.2));
+    }
+
+pub returns-in-Offer-clause-attempt : goal.returns-in-Offer-clause-attempt
+returns-in-Offer-clause-attempt g c =
+    let looked : Worker = record c.args.w.now { pass = c.snap.new.pass; search = c.plan_in.new.search } in
+    on_ok (Attempts (pass_of c.args.job) c.args.turn.now c.snap.new.pass c.args.w.now.notes.items c.make.new.w.pass
+    c.make.new.w.notes.items c.args.net) (Attempts (pass_of c.args.job) c.args.turn.now c.args.w.now.pass
+    c.args.w.now.notes.items c.make.new.w.pass c.make.new.w.notes.items c.args.net) c.make.result
+    (λ a. attempt_on (pass_of c.args.job) c.args.turn.now c.args.w.now.pass c.snap.new.pass c.make.new.w.pass
+    c.args.w.now.notes.items c.args.w.now.notes.items c.make.new.w.notes.items c.args.net a
+    (quiet (pass_of c.args.job) c.args.turn.now c.args.w.now looked Looked c.in_ok-snap.ensures.ok.0 c.requires.ready
+    (record {
+      number = refl;
+      size = c.plan_in.ensures.size ∙ c.requires.ready.size;
+      drawn = refl;
+      seat = refl;
+      failed = refl;
+    }) refl refl refl c.in_ok-snap.ensures.ok.1).after.seen refl) c.make.ensures.attempt
+
+pub returns-in-Shut-clause-ready : goal.returns-in-Shut-clause-ready
+returns-in-Shut-clause-ready g c =
+    (quiet (pass_of c.args.job) c.args.turn.now c.args.w.now _ Looked c.in_ok-snap.ensures.ok.0 c.requires.ready
+    (record {
+      number = refl;
+      size = c.plan_in.ensures.size ∙ c.requires.ready.size;
+      drawn = refl;
+      seat = refl;
+      failed = refl;
+    }) refl refl refl c.in_ok-snap.ensures.ok.1).ready
+
+pub returns-in-Shut-clause-after : goal.returns-in-Shut-clause-after
+returns-in-Shut-clause-after g c =
+    (quiet (pass_of c.args.job) c.args.turn.now c.args.w.now _ Looked c.in_ok-snap.ensures.ok.0 c.requires.ready
+    (record {
+      number = refl;
+      size = c.plan_in.ensures.size ∙ c.requires.ready.size;
+      drawn = refl;
+      seat = refl;
+      failed = refl;
+    }) refl refl refl c.in_ok-snap.ensures.ok.1).after
+
+pub returns-in-Shut-clause-attempt : goal.returns-in-Shut-clause-attempt
+returns-in-Shut-clause-attempt g c =
+    let b = c.in_ok-snap.ensures.ok.0 in
+    let calls = c.in_ok-snap.ensures.ok.1 in
+    ends_shut (pass_of c.args.job) c.args.turn.now c.requires.turn c.events_keep.ensures.boards c.args.w.now
+    c.snap.new.pass b c.requires.ready calls _ c.args.net _
+    (subst (Plans c.args.job.lat.now c.args.job.via_cost b c.args.w.now.number c.args.net c.args.job.penalty)
+    c.in-Shut.is (c.in_ok-planned.ensures.plan b (snap_is (pass_of c.args.job) c.args.turn.now c.requires.turn
+    c.events_keep.ensures.boards c.args.w.now c.snap.new.pass b c.requires.ready calls c.in_ok-snap.snap
+    c.in_ok-snap.ensures.ok.2)))
+
+pub returns-clause-ready : goal.returns-clause-ready
+returns-clause-ready g c =
+    (quiet (pass_of c.args.job) c.args.turn.now c.args.w.now _ Looked c.in_ok-snap.ensures.ok.0 c.requires.ready
+    (record {
+      number = refl;
+      size = c.plan_in.ensures.size ∙ c.requires.ready.size;
+      drawn = refl;
+      seat = refl;
+      failed = refl;
+    }) refl refl refl c.in_ok-snap.ensures.ok.1).ready
+
+pub returns-clause-after : goal.returns-clause-after
+returns-clause-after g c =
+    (quiet (pass_of c.args.job) c.args.turn.now c.args.w.now _ Looked c.in_ok-snap.ensures.ok.0 c.requires.ready
+    (record {
+      number = refl;
+      size = c.plan_in.ensures.size ∙ c.requires.ready.size;
+      drawn = refl;
+      seat = refl;
+      failed = refl;
+    }) refl refl refl c.in_ok-snap.ensures.ok.1).after
+
+pub returns-clause-attempt : goal.returns-clause-attempt
+returns-clause-attempt g c =
+    let b = c.in_ok-snap.ensures.ok.0 in
+    let calls = c.in_ok-snap.ensures.ok.1 in
+    ends_whole (pass_of c.args.job) c.args.turn.now c.requires.turn c.events_keep.ensures.boards c.args.w.now
+    c.snap.new.pass b c.requires.ready calls _ c.args.net
+    (subst (Plans c.args.job.lat.now c.args.job.via_cost b c.args.w.now.number c.args.net c.args.job.penalty)
+    c.in-Whole.is (c.in_ok-planned.ensures.plan b (snap_is (pass_of c.args.job) c.args.turn.now c.requires.turn
+    c.events_keep.ensures.boards c.args.w.now c.snap.new.pass b c.requires.ready calls c.in_ok-snap.snap
+    c.in_ok-snap.ensures.ok.2)))

@@ -1,0 +1,12 @@
+use Rattle.std.proofs.Common.{◌≡◌, take}
+use Rattle.std.specs.Prelude.{map}
+use Rattle.std.specs.List.{flat_map}
+use Rattle.dsn_shapes.specs.Lists.{trees_of}
+use Rattle.dsn_shapes.specs.Refusals.{noted}
+use Rattle.ses_reader.specs.Measures.{word_coord, word_refusal}
+use Rattle.ses_reader.proofs.wire.read_coords.Given as goal
+
+abbrev pub invariant-loop-word : goal.invariant-loop-word
+invariant-loop-word l =
+    (l.first ≡ noted l.initial.first (flat_map (word_refusal l.m) (trees_of (take l.word-index l.words))))
+    × (l.coords ≡ map (word_coord l.m) (trees_of (take l.word-index l.words)))

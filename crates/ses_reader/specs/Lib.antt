@@ -1,0 +1,6 @@
+pub mod Names
+pub mod Measures
+pub mod Copper
+pub mod Session
+pub mod Reading
+pub mod Sound

@@ -1,0 +1,113 @@
+//! The resolution of a session's routes, such as `(resolution um 10)`: ten of its units are one micrometre.
+//! Source: SPECCTRA reference, unit and resolution descriptors.
+
+ghost use Rattle.std.specs.Prelude.{◌≡◌, ◌≤◌, IfSome, unwrap_or};
+ghost use Rattle.dsn_shapes.specs.Refusals.{noted};
+ghost use Rattle.dsn_structure.specs.Header.{count_of, some_count, unit_in, unit_of};
+ghost use Rattle.ses_reader.specs.Measures.{measure_in, resolution_refusal, resolution_refusals};
+
+use crate::measure::Measure;
+use crate::numbers::note_unless;
+use dsn_shapes::{Refusal, at_of, name_of, note, place_of, refused};
+use dsn_tree::{Tree, child};
+use dsn_units::{read_decimal, whole_number};
+use geo_kernel::Unit;
+
+fn unit_of(text: &[u8]) -> Option<Unit>
+    ensures { result ≡ unit_of text.now }
+{
+    if text.eq_ignore_ascii_case(b"inch") {
+        Some(Unit::Inch)
+    } else if text.eq_ignore_ascii_case(b"mil") {
+        Some(Unit::Mil)
+    } else if text.eq_ignore_ascii_case(b"cm") {
+        Some(Unit::Cm)
+    } else if text.eq_ignore_ascii_case(b"mm") {
+        Some(Unit::Mm)
+    } else if text.eq_ignore_ascii_case(b"um") {
+        Some(Unit::Um)
+    } else {
+        None
+    }
+}
+
+fn unit_in(tree: &Tree) -> Unit
+    ensures { result ≡ unit_in tree.now }
+{
+    match unit_of(name_of(tree, 1)) {
+        Some(unit) => unit,
+        None => Unit::Um,
+    }
+}
+
+fn some_count(count: Option<u32>) -> Option<u32>
+    ensures value { result ≡ some_count count }
+    ensures some { IfSome result (λ n. 1 ≤ n) }
+{
+    match count {
+        Some(n) => { if n == 0 { None } else { Some(n) } }
+        None => None,
+    }
+}
+
+// How many units of a resolution are one of its unit, from 1 to 1,000,000.
+fn count_of(tree: &Tree) -> Option<u32>
+    ensures value { result ≡ count_of tree.now }
+    ensures some { IfSome result (λ n. 1 ≤ n) }
+{
+    match read_decimal(name_of(tree, 2)) {
+        Some(decimal) => some_count(whole_number(&decimal, 1_000_000)),
+        None => None,
+    }
+}
+
+fn per_in(tree: &Tree) -> u32
+    ensures value { result ≡ unwrap_or (count_of tree.now) 1 }
+    ensures some { 1 ≤ result }
+{
+    match count_of(tree) {
+        Some(count) => count,
+        None => 1,
+    }
+}
+
+/// The unit of the numbers of these routes; a part of the resolution that is refused stands for `um` or 1.
+#[tactic(auto, unfolding(crate::specs::Measures::measure_in))]
+pub(crate) fn measure_in(routes: &Tree) -> Measure
+    ensures value { result ≡ measure_in routes.now }
+    ensures some { 1 ≤ result.per }
+{
+    match child(routes, b"resolution") {
+        Some(tree) => Measure {
+            unit: unit_in(tree),
+            per: per_in(tree),
+        },
+        None => Measure {
+            unit: Unit::Um,
+            per: 1,
+        },
+    }
+}
+
+fn refuse_resolution(first: &mut Option<Refusal>, tree: &Tree)
+    ensures { first.new ≡ noted first.old (resolution_refusal tree.now) }
+{
+    note_unless(
+        first,
+        unit_of(name_of(tree, 1)).is_some(),
+        2,
+        place_of(tree, 1),
+    );
+    note_unless(first, count_of(tree).is_some(), 2, place_of(tree, 2));
+}
+
+/// Refuses the resolution of these routes, or their lack of one.
+#[tactic(auto, unfolding(crate::specs::Measures::resolution_refusals))]
+pub(crate) fn refuse_resolutions(first: &mut Option<Refusal>, routes: &Tree)
+    ensures { first.new ≡ noted first.old (resolution_refusals routes.now) }
+{
+    match child(routes, b"resolution") {
+        Some(tree) => refuse_resolution(first, tree),
+        None => note(first, refused(1, at_of(routes))),
+    }
+}

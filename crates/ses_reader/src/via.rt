@@ -1,0 +1,93 @@
+//! Vias: a padstack of the design and its place, which its copper may not carry past the board.
+//! Source: SPECCTRA reference, via descriptor of the routes; coordinates in nm.
+
+ghost use Rattle.std.specs.Prelude.{◌≡◌, ◌≤◌, not};
+ghost use Rattle.pcb_model.specs.Sound.{origin};
+ghost use Rattle.dsn_shapes.specs.Refusals.{noted};
+ghost use Rattle.dsn_wiring.specs.Vias.{point_by};
+ghost use Rattle.ses_reader.specs.Measures.{coord_refusal, refused_unless};
+ghost use Rattle.ses_reader.specs.Copper.{is_via_past, padstack_at, padstack_place, via_metal, via_point, via_refusals};
+ghost use Rattle.std.specs.Prelude.{◌++◌, is_some};
+ghost use Rattle.dsn_shapes.specs.Lists.{at_of, place_of};
+
+use crate::index::DesignIndex;
+use crate::measure::Measure;
+use crate::numbers::{note_coord, note_unless};
+use crate::vertices::is_stack_past;
+use dsn_shapes::{Refusal, at_of, name_of, place_index, place_of};
+use dsn_tree::Tree;
+use geo_kernel::Point;
+use pcb_model::{Design, Metal};
+
+fn origin() -> Point
+    ensures { result ≡ origin }
+{
+    Point { x: 0, y: 0 }
+}
+
+fn point_by(x: Option<i64>, y: Option<i64>) -> Option<Point>
+    ensures { result ≡ point_by x y }
+{
+    match (x, y) {
+        (Some(x), Some(y)) => Some(Point { x, y }),
+        _ => None,
+    }
+}
+
+// The place of a via, where neither of its numbers is refused.
+#[tactic(auto, unfolding(crate::specs::Copper::via_point))]
+fn note_point(first: &mut Option<Refusal>, via: &Tree, m: Measure) -> Option<Point>
+    requires { 1 ≤ m.per }
+    ensures noted { first.new ≡ noted first.old (coord_refusal m via.now 2 ++ coord_refusal m via.now 3) }
+    ensures value { result ≡ via_point m via.now }
+{
+    let x = note_coord(first, via, 2, m);
+    let y = note_coord(first, via, 3, m);
+    point_by(x, y)
+}
+
+// Where the padstack of a via stands in the design.
+fn note_padstack(first: &mut Option<Refusal>, index: &DesignIndex, via: &Tree) -> Option<usize>
+    ensures noted { first.new ≡ noted first.old
+        (refused_unless (is_some (padstack_place index.now via.now)) 5 (place_of via.now 1)) }
+    ensures value { result ≡ padstack_place index.now via.now }
+{
+    let place = index.padstack(name_of(via, 1));
+    note_unless(first, place.is_some(), 5, place_of(via, 1));
+    place
+}
+
+#[tactic(auto, unfolding(crate::specs::Copper::is_via_past))]
+fn is_via_past(d: &Design, place: Option<usize>, at: Option<Point>) -> bool
+    ensures { result ≡ is_via_past (padstack_at d.now place) at }
+{
+    let (Some(place), Some(at)) = (place, at) else {
+        return false;
+    };
+    match d.padstacks.get(place) {
+        Some(padstack) => is_stack_past(at, padstack),
+        None => false,
+    }
+}
+
+/// The padstack of a via, and its place.
+#[tactic(auto, unfolding(crate::specs::Copper::via_metal, crate::specs::Copper::via_refusals))]
+pub(crate) fn note_via(
+    first: &mut Option<Refusal>,
+    index: &DesignIndex,
+    via: &Tree,
+    m: Measure,
+) -> Metal
+    requires { 1 ≤ m.per }
+    ensures noted { first.new ≡ noted first.old (via_refusals index.now m via.now) }
+    ensures value { result ≡ via_metal index.now m via.now }
+{
+    let place = note_padstack(first, index, via);
+    let at = note_point(first, via, m);
+    let is_past = is_via_past(index.design(), place, at);
+    note_unless(first, !is_past, 2, at_of(via));
+    Metal::Via {
+        padstack: place_index(place.unwrap_or(0)),
+        at: at.unwrap_or(origin()),
+    }
+}

@@ -1,0 +1,12 @@
+pub mod Bytes
+pub mod Spelling
+pub mod Numbers
+pub mod Points
+pub mod Names
+pub mod Metals
+pub mod Lines
+pub mod Blocks
+pub mod Printed
+pub mod Parts
+pub mod Whole
+pub mod Boards

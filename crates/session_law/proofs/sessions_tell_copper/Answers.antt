@@ -1,0 +1,5 @@
+use Rattle.session_law.proofs.Whole.{sessions_tell}
+use Rattle.session_law.proofs.sessions_tell_copper.Goals as goal
+
+pub returns : goal.returns
+returns c = sessions_tell

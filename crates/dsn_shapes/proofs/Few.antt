@@ -7,9 +7,10 @@ use Rattle.std.proofs.lemmas.Nat.{pow_pos}
 use Rattle.dsn_tree.specs.declared.tree.Tree.{Tree}
 use Rattle.dsn_shapes.specs.declared.form.Form.{Form}
 use Rattle.dsn_shapes.specs.declared.form.Outline.{Outline}
+use Rattle.dsn_shapes.specs.declared.refusal.Refusal.{Refusal}
 use Rattle.dsn_shapes.specs.declared.parts.Layer.{Layer}
 use Rattle.dsn_shapes.specs.Refusals.{refused}
-use Rattle.dsn_shapes.specs.Lists.{name_of, place_of, words_of}
+use Rattle.dsn_shapes.specs.Lists.{at_of, name_of, place_of, words_of}
 use Rattle.dsn_shapes.specs.Numbers.{word_coord}
 use Rattle.dsn_shapes.specs.Layers.{layers_of, named_by, names_some, stands_for}
 use Rattle.dsn_shapes.specs.Forms.{coord_words, form_of, has_count, outline_of, outline_refusals, vertices_of, width_of}
@@ -32,8 +33,9 @@ outline_layers : (nm : ℕ) (layers : List Layer) (form : Form) (t : Tree) → (
 unfolding outline_of
 outline_layers nm layers form t =
     let read : Outline = record { layers = layers_of layers (name_of t 1); width = width_of nm form t; coords = vertices_of form (map (word_coord nm) (coord_words form t)) } in
-    let none : Outline = record { layers = layers_of layers (name_of t 1); width = 0; coords = [] } in
-    layers_if (has_count form (length (words_of t))) read none (2 ^ length layers) (layers_few layers (name_of t 1)) (layers_few layers (name_of t 1))
+    let none : Outline = record { layers = 0; width = 0; coords = [] } in
+    layers_if (has_count form (length (words_of t))) read none (2 ^ length layers) (layers_few layers (name_of t 1))
+    (pow_pos (length layers))
 
 layers_at : (nm : ℕ) (layers : List Layer) (t : Tree) (o : Option Form) → (option_map_or (λ form. shaped form (outline_of nm layers form t)) o empty_shape).layers < 2 ^ length layers
 layers_at nm layers t None = pow_pos (length layers)
@@ -52,9 +54,17 @@ named_layer : (layers : List Layer) (word : List ℕ) → names_some layers word
 unfolding names_some
 named_layer layers word e = some_there (stands_for (named_by layers word) word) layers e
 
+-- what stands beside a refusal is empty where the whole is
+beside : (b : Bool) (xs : List Refusal) (x : Refusal) → cond b xs (x ∷ []) ≡ [] → xs ≡ []
+beside true xs x e = e
+beside false xs x e = cc
+
 outline_layered : (nm : ℕ) (layers : List Layer) (form : Form) (t : Tree) → outline_refusals nm layers form t ≡ [] → 1 ≤ length layers
 unfolding outline_refusals
-outline_layered nm layers form t e = named_layer layers (name_of t 1) (test_holds (names_some layers (name_of t 1)) (refused 12 (place_of t 1)) [] [] (front_nil _ _ e))
+outline_layered nm layers form t e =
+    let read = beside (has_count form (length (words_of t))) _ (refused 22 (at_of t)) e in
+    named_layer layers (name_of t 1)
+    (test_holds (names_some layers (name_of t 1)) (refused 12 (place_of t 1)) [] [] (front_nil _ _ read))
 
 layered_at : (nm : ℕ) (layers : List Layer) (t : Tree) (o : Option Form) → option_map_or (λ form. outline_refusals nm layers form t ++ spine_refusals form t (outline_of nm layers form t)) o (no_form t) ≡ [] → 1 ≤ length layers
 layered_at nm layers t None e = absurd (no_form_left _ _ _ e)

@@ -208,13 +208,14 @@ outline_small : (nm : ℕ) (layers : List Layer) (form : Form) (t : Tree) → Is
 unfolding outline_of
 outline_small nm layers form t =
     let read : Outline = record { layers = layers_of layers (name_of t 1); width = width_of nm form t; coords = vertices_of form (map (word_coord nm) (coord_words form t)) } in
-    let none : Outline = record { layers = layers_of layers (name_of t 1); width = 0; coords = [] } in
+    let none : Outline = record { layers = 0; width = 0; coords = [] } in
     outline_if (has_count form (length (words_of t))) read none (width_small nm form t) (omega arith)
 
 -- the words are as many as the form wants
 counted : (nm : ℕ) (layers : List Layer) (form : Form) (t : Tree) → outline_refusals nm layers form t ≡ [] → has_count form (length (words_of t)) ≡ true
 unfolding outline_refusals
-counted nm layers form t e = test_holds (has_count form (length (words_of t))) (refused 22 (at_of t)) [] (width_refusal nm form t ++ flat_map (word_coord_refusal nm) (coord_words form t)) (back_nil (layer_refusal layers t) _ e)
+counted nm layers form t e = test_holds (has_count form (length (words_of t))) (refused 22 (at_of t)) []
+    (layer_refusal layers t ++ (width_refusal nm form t ++ flat_map (word_coord_refusal nm) (coord_words form t))) e
 
 coords_if : (b : Bool) (o p : Outline) → b ≡ true → (cond b o p).coords ≡ o.coords
 coords_if true o p e = refl
@@ -224,7 +225,7 @@ coords_read : (nm : ℕ) (layers : List Layer) (form : Form) (t : Tree) → has_
 unfolding outline_of
 coords_read nm layers form t e =
     let read : Outline = record { layers = layers_of layers (name_of t 1); width = width_of nm form t; coords = vertices_of form (map (word_coord nm) (coord_words form t)) } in
-    let none : Outline = record { layers = layers_of layers (name_of t 1); width = 0; coords = [] } in
+    let none : Outline = record { layers = 0; width = 0; coords = [] } in
     coords_if (has_count form (length (words_of t))) read none e
 
 coords_count : (nm : ℕ) (form : Form) (t : Tree) → length (map (word_coord nm) (coord_words form t)) ≡ length (words_of t) - first_coord form

@@ -134,10 +134,10 @@ width_tabled nm Path t = extent_tabled nm t 2
 
 outline_tabled : (nm : ℕ) (layers : List Layer) (form : Form) (t : Tree) → AreTabled (outline_refusals nm layers form t)
 unfolding outline_refusals
-outline_tabled nm layers form t = both _ _ (where_fails (names_some layers (name_of t 1)) 12 (place_of t 1) refl)
-    (either (has_count form (length (words_of t))) _ _
-    (both _ _ (width_tabled nm form t) (each (word_coord_refusal nm) (word_tabled nm) (coord_words form t)))
-    (one 22 (at_of t) refl))
+outline_tabled nm layers form t = either (has_count form (length (words_of t))) _ _
+    (both _ _ (where_fails (names_some layers (name_of t 1)) 12 (place_of t 1) refl)
+    (both _ _ (width_tabled nm form t) (each (word_coord_refusal nm) (word_tabled nm) (coord_words form t))))
+    (one 22 (at_of t) refl)
 
 limit_of_vertices : (form : Form) (t : Tree) (n : ℕ) → AreTabled (vertex_limit form t n)
 limit_of_vertices form t n = either (nat_lt 4096 n) _ [] (passed Vertices (place_of t (first_coord form + 8192)) (λ e. cc)) none

@@ -58,16 +58,17 @@ vertices_of Rect cs = cs
 vertices_of Polygon cs = cs
 vertices_of Path cs = cs
 
--- what a form says: its layers, its width and the coordinates of its vertices, where its count of words is right
+-- what a form says: its layers, its width and the coordinates of its vertices; nothing where its count of words is wrong
 unfoldable pub outline_of : ℕ → List Layer → Form → Tree → Outline
 outline_of nm layers form t = if has_count form (length (words_of t))
     then record { layers = layers_of layers (name_of t 1); width = width_of nm form t; coords = vertices_of form (map (word_coord nm) (coord_words form t)) }
-    else record { layers = layers_of layers (name_of t 1); width = 0; coords = [] }
+    else record { layers = 0; width = 0; coords = [] }
 
+-- a wrong count of words is refused alone
 unfoldable pub outline_refusals : ℕ → List Layer → Form → Tree → List Refusal
-outline_refusals nm layers form t = layer_refusal layers t ++ (if has_count form (length (words_of t))
-    then width_refusal nm form t ++ flat_map (word_coord_refusal nm) (coord_words form t)
-    else refused 22 (at_of t) ∷ [])
+outline_refusals nm layers form t = if has_count form (length (words_of t))
+    then layer_refusal layers t ++ (width_refusal nm form t ++ flat_map (word_coord_refusal nm) (coord_words form t))
+    else refused 22 (at_of t) ∷ []
 
 -- ---- vertices
 -- the numbers two by two; a number that is refused counts as 0

@@ -148,16 +148,16 @@ pub(crate) fn read_outline(
     ensures noted { OnOk result (first.new ≡ noted first.old (outline_refusals s.nm layers.now form tree.now)) }
     ensures value { IfOk result (λ o. o ≡ outline_of s.nm layers.now form tree.now) }
 {
-    let layers = read_layers(first, tree, layers.as_slice());
     let words = Trees::words(alloc, tree)?;
     if !has_count(form, words.len()) {
         note(first, refused(22, at_of(tree)));
         return Ok(Outline {
-            layers,
+            layers: 0,
             width: 0,
             coords: List::new(alloc),
         });
     }
+    let layers = read_layers(first, tree, layers.as_slice());
     let width = read_width(first, tree, form, s);
     let numbers = read_coords_from(alloc, first, &words, first_coord(form), s)?;
     let coords = vertices_of(alloc, form, numbers)?;

@@ -9,3 +9,4 @@ pub mod Joining
 pub mod Hopping
 pub mod Touching
 pub mod Widths
+pub mod Parting

@@ -1,17 +1,15 @@
 -- The copper of a walk: wires of the net's width with two points or more, and vias.
-use Rattle.std.proofs.Common.{◌≡◌, ℕ, ◌+◌, ◌<◌, ◌≤◌, ◌==◌, Bool, true, false, List, [], ◌∷◌, map, length, All, refl, sym, subst, arith}
+use Rattle.std.proofs.Common.{ℕ, ◌≤◌, ◌==◌, Bool, true, false, List, [], ◌∷◌, length, All, refl, arith}
 use Rattle.std.proofs.lemmas.List.{length-map}
 use Rattle.std.proofs.lemmas.List.Elements.{All-nil, All-cons}
-use Rattle.geo_kernel.specs.declared.point.Point.{Point}
-use Rattle.pcb_model.specs.declared.item.Metal.{Metal}
 use Rattle.pcb_model.specs.declared.item.Metal.TheVariants as metal
 use Rattle.pcb_model.specs.declared.design.Design.{Design}
 use Rattle.pcb_model.specs.Rules.{width_for}
 use Rattle.route_lattice.specs.declared.moves.Move.{Move}
 use Rattle.route_lattice.specs.declared.moves.Move.TheVariants as move
-use Rattle.route_lattice.specs.Mesh.{Mesh, node_count, point_of, layer_of}
+use Rattle.route_lattice.specs.Mesh.{Mesh, point_of, layer_of}
 use Rattle.path_wire.specs.Lays.{IsWireOrVia}
-use Rattle.path_wire.specs.Wires.{MovesLead, IsNetWalk, unless_straight, goes_on, corners, wire_from, copper_from, copper_of}
+use Rattle.path_wire.specs.Wires.{MovesLead, IsNetWalk, unless_straight, corners, copper_from, copper_of}
 use Rattle.path_wire.proofs.Walking.{each_metal}
 
 module _ (d : Design) (m : Mesh) (net : ℕ) where

@@ -1,3 +1,4 @@
 pub mod Wires
 pub mod Lays
 pub mod Joins
+pub mod Parts

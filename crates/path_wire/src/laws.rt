@@ -1,7 +1,7 @@
 //! Laws of a walk's copper, for the proofs of callers.
 //! The functions do nothing; a call brings the law that its clauses state.
 
-ghost use Rattle.std.specs.Prelude.{◌≡◌, ℕ, ◌<◌, ◌∷◌, List as Seq, All, Any, Contains, length, Some};
+ghost use Rattle.std.specs.Prelude.{◌≡◌, ℕ, ◌<◌, ◌≤◌, ◌∷◌, List as Seq, All, Any, Contains, length, map, Some};
 ghost use Rattle.geo_kernel.specs.declared.point.Point.{Point as OnePoint};
 ghost use Rattle.pcb_model.specs.declared.item.Item.{Item as OneItem};
 ghost use Rattle.pcb_model.specs.declared.item.Metal.{Metal as OneMetal};
@@ -20,6 +20,7 @@ ghost use Rattle.route_lattice.specs.Legal.{IsLegalProbe, legal_graph};
 ghost use Rattle.path_wire.specs.Wires.{IsNetWalk, copper_of};
 ghost use Rattle.path_wire.specs.Lays.{move_probes, walk_probes, laid_item, IsProbeInside, IsMetalInside, IsWellLaid, IsWireOrVia};
 ghost use Rattle.path_wire.specs.Joins.{HasNode, Connect, last_node};
+ghost use Rattle.path_wire.specs.Parts.{Part, AreParts, part_metal};
 ghost use Rattle.pcb_model.specs.Plain.{ArePlain, IsPlainItem, IsPlainCopper};
 
 /// A walk over legal moves, from nodes of the lattice, is a walk of the net; what each of its moves lays is legal; it leads from a start to a goal.
@@ -27,6 +28,14 @@ pub fn net_walks()
     ensures walk { (d : TheDesign) (m : Mesh) (items : Seq OneItem) (net via_cost : ℕ) (starts goals : Seq ℕ) (w : OneWalk) → All (λ v. v < node_count m) starts → IsWalk (legal_graph d m items net via_cost) starts goals w → IsNetWalk d m net w.nodes w.moves }
     ensures legal { (d : TheDesign) (m : Mesh) (items : Seq OneItem) (net via_cost : ℕ) (starts goals : Seq ℕ) (w : OneWalk) → IsWalk (legal_graph d m items net via_cost) starts goals w → All (IsLegalProbe d items net) (move_probes d m net w.nodes w.moves) }
     ensures ends { (d : TheDesign) (m : Mesh) (items : Seq OneItem) (net via_cost : ℕ) (starts goals : Seq ℕ) (w : OneWalk) → IsWalk (legal_graph d m items net via_cost) starts goals w → (v : ℕ) × (vs : Seq ℕ) × (w.nodes ≡ v ∷ vs) × Contains starts v × Contains goals (last_node v vs) }
+{}
+
+/// The copper of a walk with moves is that of the walk's parts, in order: a wire for each longest stretch of steps,
+/// whose vertices are its ends and the nodes at which the direction changes, and a via for each via move.
+pub fn copper_by_parts()
+    ensures { (d : TheDesign) (m : Mesh) (net v : ℕ) (nodes : Seq ℕ) (moves : Seq OneMove) → 1 ≤ length moves
+        → IsNetWalk d m net (v ∷ nodes) moves → (parts : Seq Part) × AreParts v nodes moves parts
+        × (copper_of d m net (v ∷ nodes) moves ≡ map (part_metal m (width_for d net)) parts) }
 {}
 
 /// Where the disc at the first node and what each move lays agree with an item, so does the copper.

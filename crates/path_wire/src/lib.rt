@@ -6,7 +6,7 @@ mod laws;
 mod wires;
 
 pub use laws::{
-    common_points_touch, copper_agrees, copper_connects, copper_inside, copper_touches,
-    copper_well_laid, copper_widths, net_walks, own_copper_agrees,
+    common_points_touch, copper_agrees, copper_by_parts, copper_connects, copper_inside,
+    copper_touches, copper_well_laid, copper_widths, net_walks, own_copper_agrees,
 };
 pub use wires::walk_items;

@@ -145,7 +145,7 @@ outline_near : (nm : ℕ) (layers : List Layer) (form : Form) (t : Tree) → Has
 unfolding outline_of
 outline_near nm layers form t =
     let read : Outline = record { layers = layers_of layers (name_of t 1); width = width_of nm form t; coords = vertices_of form (map (word_coord nm) (coord_words form t)) } in
-    let none : Outline = record { layers = layers_of layers (name_of t 1); width = 0; coords = [] } in
+    let none : Outline = record { layers = 0; width = 0; coords = [] } in
     outline_if (has_count form (length (words_of t))) read none (vertices_near form (map (word_coord nm) (coord_words form t)) (All-map IsNearIfRead (word_coord nm) (coord_words form t) (λ k d l. word_near nm _))) (All-nil IsNearIfRead)
 
 loop_near : (ps : List Point) → All (IsWithin (2 ^ 29)) ps → All (All (IsWithin (2 ^ 29))) (ps ∷ [])

@@ -1,7 +1,7 @@
 //! Reading the tree of a text.
 //! A group is read by a call of its own, so that calls nest at most 64 deep.
 
-ghost use Rattle.std.specs.Prelude.{[], ◌∷◌, ◌++◌, OnOk, ◌≡◌, ◌<◌, ◌≤◌, ◌^◌, length};
+ghost use Rattle.std.specs.Prelude.{[], ◌∷◌, ◌++◌, IfOk, OnOk, ◌≡◌, ◌<◌, ◌≤◌, ◌^◌, length};
 ghost use Rattle.dsn_tree.specs.Groups.{ReadsGroup};
 ghost use Rattle.dsn_tree.specs.Trees.{ReadsTree};
 
@@ -19,6 +19,14 @@ fn append(items: &mut List<Tree>, tree: Tree) -> Result<(), AllocError>
     Ok(())
 }
 
+/// A list with room for one tree, since most groups are short.
+fn short_list(alloc: Global) -> Result<List<Tree>, AllocError>
+    ensures { IfOk result (λ items. items ≡ []) }
+{
+    let items = Vec::with_capacity(alloc, 1)?;
+    Ok(List::from_vec(items))
+}
+
 /// The items of the group that is opened at `at`, through its closing bracket, with `room` for deeper groups in it.
 fn rest_of_group(
     alloc: Global,
@@ -29,7 +37,7 @@ fn rest_of_group(
     requires { room ≤ 63 }
     ensures { ReadsGroup lexer.old at room result lexer.new }
 {
-    let mut items = List::new(alloc);
+    let mut items = short_list(alloc)?;
     loop {
         let token = match lexer.next() {
             Ok(Some(token)) => token,

@@ -1,5 +1,6 @@
 -- The copper of a walk, laid move by move, is that of the walk's parts.
-use Rattle.std.proofs.Common.{◌≡◌, ℕ, suc, ◌+◌, ◌≤◌, Bool, true, false, cond, Some, List, [], ◌∷◌, map, length, All, refl, sym, ap, ap₂, ◌∙◌, subst, arith, inl, inr}
+use Rattle.std.proofs.Common.{◌≡◌, ℕ, suc, ◌+◌, ◌≤◌, Bool, true, false, cond, Some, List, [], ◌∷◌, map, length, All}
+use Rattle.std.proofs.Common.{refl, sym, ap, ap₂, ◌∙◌, subst, arith, inl, inr}
 use Rattle.std.specs.Prelude.{not, flat_map, filter, slice_get, ◌⊎◌}
 use Rattle.std.specs.List.{enumerate_from}
 use Rattle.std.proofs.lemmas.List.Elements.{All-nil, All-cons, All-head, All-tail}
@@ -11,7 +12,8 @@ use Rattle.route_lattice.specs.declared.moves.Move.TheVariants as move
 use Rattle.route_lattice.specs.Mesh.{Mesh, point_of, layer_of}
 use Rattle.path_wire.specs.Wires.{MovesLead, IsNetWalk, unless_straight, goes_on, corners, copper_from, copper_of}
 use Rattle.path_wire.specs.Joins.{last_node}
-use Rattle.path_wire.specs.Parts.{Part, part, nodes_behind, moves_of, IsVia, IsStep, AreSteps, IsPart, Follow, AreLongest, AreParts}
+use Rattle.path_wire.specs.Parts.{Part, part, nodes_behind, moves_of, IsVia, IsStep, AreSteps, IsPart, Follow}
+use Rattle.path_wire.specs.Parts.{AreLongest, AreParts}
 use Rattle.path_wire.specs.Parts.{goes_straight, is_bend, bends, part_metal}
 
 -- ---- the parts, from the last move on
@@ -38,13 +40,15 @@ parts_of v (w ∷ vs) (move.Step dir ∷ ms) = with_step v w dir (parts_of w vs 
 parts_of v vs ms = []
 
 -- ---- a step in front keeps what parts are
-step_nodes : (v w dir : ℕ) (parts : List Part) → flat_map nodes_behind (with_step v w dir parts) ≡ w ∷ flat_map nodes_behind parts
+step_nodes : (v w dir : ℕ) (parts : List Part)
+    → flat_map nodes_behind (with_step v w dir parts) ≡ w ∷ flat_map nodes_behind parts
 step_nodes v w dir [] = refl
 step_nodes v w dir (part u us [] ∷ parts) = refl
 step_nodes v w dir (part u us (move.Via padstack layer ∷ ks) ∷ parts) = refl
 step_nodes v w dir (part u us (move.Step e ∷ ks) ∷ parts) = refl
 
-step_moves : (v w dir : ℕ) (parts : List Part) → flat_map moves_of (with_step v w dir parts) ≡ move.Step dir ∷ flat_map moves_of parts
+step_moves : (v w dir : ℕ) (parts : List Part)
+    → flat_map moves_of (with_step v w dir parts) ≡ move.Step dir ∷ flat_map moves_of parts
 step_moves v w dir [] = refl
 step_moves v w dir (part u us [] ∷ parts) = refl
 step_moves v w dir (part u us (move.Via padstack layer ∷ ks) ∷ parts) = refl
@@ -55,12 +59,14 @@ lone_step : (v w dir : ℕ) → IsPart (part v (w ∷ []) (move.Step dir ∷ [])
 lone_step v w dir = (refl, inl (omega arith, All-cons IsStep (move.Step dir) [] tt (All-nil IsStep)))
 
 -- a stretch has steps alone
-all_steps : (e : ℕ) (ks : List Move) → AreSteps (move.Step e ∷ ks) ⊎ IsVia (move.Step e ∷ ks) → All IsStep (move.Step e ∷ ks)
+all_steps : (e : ℕ) (ks : List Move) → AreSteps (move.Step e ∷ ks) ⊎ IsVia (move.Step e ∷ ks)
+    → All IsStep (move.Step e ∷ ks)
 all_steps e ks (inl s) = s.1
 all_steps e ks (inr h) = absurd h
 
 -- a part that begins by a via move is that move alone
-alone : (padstack layer : ℕ) (ks : List Move) → AreSteps (move.Via padstack layer ∷ ks) ⊎ IsVia (move.Via padstack layer ∷ ks)
+alone : (padstack layer : ℕ) (ks : List Move)
+    → AreSteps (move.Via padstack layer ∷ ks) ⊎ IsVia (move.Via padstack layer ∷ ks)
     → IsVia (move.Via padstack layer ∷ ks)
 alone padstack layer ks (inl s) = absurd (All-head IsStep (move.Via padstack layer) ks s.1)
 alone padstack layer ks (inr h) = h
@@ -75,7 +81,8 @@ step_each v w dir [] h = All-cons IsPart (part v (w ∷ []) (move.Step dir ∷ [
 step_each v w dir (part u us [] ∷ parts) h =
     All-cons IsPart (part v (w ∷ []) (move.Step dir ∷ [])) (part u us [] ∷ parts) (lone_step v w dir) h
 step_each v w dir (part u us (move.Via padstack layer ∷ ks) ∷ parts) h =
-    All-cons IsPart (part v (w ∷ []) (move.Step dir ∷ [])) (part u us (move.Via padstack layer ∷ ks) ∷ parts) (lone_step v w dir) h
+    All-cons IsPart (part v (w ∷ []) (move.Step dir ∷ [])) (part u us (move.Via padstack layer ∷ ks) ∷ parts)
+    (lone_step v w dir) h
 step_each v w dir (part u us (move.Step e ∷ ks) ∷ parts) h =
     let here = All-head IsPart (part u us (move.Step e ∷ ks)) parts h in
     All-cons IsPart (part v (w ∷ us) (move.Step dir ∷ move.Step e ∷ ks)) parts
@@ -86,14 +93,16 @@ step_follow : (v w dir : ℕ) (parts : List Part) → Follow w parts → Follow 
 step_follow v w dir [] h = (refl, tt)
 step_follow v w dir (part u us [] ∷ parts) h = (refl, h)
 step_follow v w dir (part u us (move.Via padstack layer ∷ ks) ∷ parts) h = (refl, h)
-step_follow v w dir (part u us (move.Step e ∷ ks) ∷ parts) h = (refl, subst (λ x. Follow (last_node x us) parts) h.0 h.1)
+step_follow v w dir (part u us (move.Step e ∷ ks) ∷ parts) h =
+    (refl, subst (λ x. Follow (last_node x us) parts) h.0 h.1)
 
 -- a stretch is no via
 past_stretch : (e : ℕ) (ks : List Move) (q : Part) → IsVia (move.Step e ∷ ks) ⊎ IsVia (moves_of q) → IsVia (moves_of q)
 past_stretch e ks q (inl h) = absurd h
 past_stretch e ks q (inr h) = h
 
-step_longest : (v w dir : ℕ) (parts : List Part) → All IsPart parts → AreLongest parts → AreLongest (with_step v w dir parts)
+step_longest : (v w dir : ℕ) (parts : List Part) → All IsPart parts → AreLongest parts
+    → AreLongest (with_step v w dir parts)
 step_longest v w dir [] each h = tt
 step_longest v w dir (part u us [] ∷ parts) each h = absurd (some_moves (All-head IsPart (part u us []) parts each).1)
 step_longest v w dir (part u us (move.Via padstack layer ∷ ks) ∷ parts) each h =
@@ -146,7 +155,8 @@ turned false false w xs ys e h = ap (λ zs. w ∷ zs) h
 step_bends : (w : ℕ) (us : List ℕ) (dir : ℕ) (ks : List Move)
     → bends (w ∷ us) (move.Step dir ∷ ks) ≡ unless_straight (goes_on dir ks) w (bends us ks)
 step_bends w us dir ks = turned (goes_straight (Some (move.Step dir)) (slice_get ks 0)) (goes_on dir ks) w
-    (filter (λ (x : ℕ × ℕ). is_bend (move.Step dir ∷ ks) x.0) (enumerate_from (0 + 1) us)) (bends us ks) (first_on dir ks)
+    (filter (λ (x : ℕ × ℕ). is_bend (move.Step dir ∷ ks) x.0) (enumerate_from (0 + 1) us)) (bends us ks)
+    (first_on dir ks)
     (bends_on (move.Step dir) ks 0 us)
 
 -- ---- a walk of a net
@@ -195,7 +205,8 @@ module _ (d : Design) (m : Mesh) (net : ℕ) where
   each_part v [] (a ∷ ms) h = absurd h
   each_part v (w ∷ vs) [] h = absurd h
   each_part v (w ∷ vs) (move.Via padstack layer ∷ ms) h =
-      All-cons IsPart (part v (w ∷ []) (move.Via padstack layer ∷ [])) (parts_of w vs ms) (refl, inr tt) (each_part w vs ms h.1)
+      All-cons IsPart (part v (w ∷ []) (move.Via padstack layer ∷ [])) (parts_of w vs ms) (refl, inr tt)
+      (each_part w vs ms h.1)
   each_part v (w ∷ vs) (move.Step dir ∷ ms) h = step_each v w dir (parts_of w vs ms) (each_part w vs ms h.1)
 
   parts_follow : (v : ℕ) (vs : List ℕ) (ms : List Move) → MovesLead d m net (v ∷ vs) ms → Follow v (parts_of v vs ms)

@@ -6,7 +6,6 @@ use Rattle.route_lattice.specs.Mesh.{Mesh, level}
 use Rattle.wave_search.specs.declared.ties.Heading.{Heading}
 use Rattle.wave_search.specs.declared.ties.Heading.TheVariants.{Across, Up, Elsewhere}
 
-
 -- a step leads along x or along y, and a via elsewhere
 abbrev pub heading : Move → Heading
 heading (Step dir) = cond (nat_lt dir 2) Across Up

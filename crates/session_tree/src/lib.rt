@@ -1,0 +1,2 @@
+//! Which tree the text of a written session spells.
+#![tactic(auto)]

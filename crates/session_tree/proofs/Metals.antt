@@ -1,7 +1,7 @@
 -- What the printed names, wires, vias and nets of a session spell.
-use Rattle.std.proofs.Common.{◌≡◌, ℕ, zero, suc, ◌+◌, ◌<◌, ◌==◌, pos, Bool, true, false, List, [], ◌∷◌, ◌++◌, length}
-use Rattle.std.proofs.Common.{refl, ap, sym, ◌∙◌, subst, arith, append_assoc}
-use Rattle.std.specs.Prelude.{codes, flat_map, filter, slice_get, if◌then◌else◌, All, Option, Some, None, IfSome}
+use Rattle.std.proofs.Common.{◌≡◌, ℕ, zero, suc, ◌+◌, ◌==◌, pos, Bool, true, false, List, [], ◌∷◌, ◌++◌, length}
+use Rattle.std.proofs.Common.{refl, subst, arith, append_assoc}
+use Rattle.std.specs.Prelude.{codes, flat_map, filter, slice_get, if◌then◌else◌, All}
 use Rattle.std.specs.Option.{option_map_or}
 use Rattle.std.specs.List.{enumerate_from}
 use Rattle.std.proofs.lemmas.Bool.Decides.{nat_tests}
@@ -16,9 +16,10 @@ use Rattle.pcb_model.specs.declared.design.Padstack.{Padstack}
 use Rattle.pcb_model.specs.declared.design.Net.{Net}
 use Rattle.pcb_model.specs.declared.design.Design.{Design}
 use Rattle.pcb_model.specs.Sound.{IsPrintable, HasPrintableNames}
-use Rattle.ses_writer.specs.Words.{spelled, length_word, point_words, chain_words}
-use Rattle.ses_writer.specs.Session.{layer_word, padstack_word, metal_line, is_of_net, copper_lines, net_lines, network_entry, network_lines}
-use Rattle.session_tree.specs.Shape.{group_tree, word_tree, metal_trees, wire_tree, via_tree, copper_trees, net_with, net_trees}
+use Rattle.ses_writer.specs.Words.{spelled}
+use Rattle.ses_writer.specs.Session.{layer_word, padstack_word, metal_line, is_of_net, copper_lines, net_lines}
+use Rattle.ses_writer.specs.Session.{network_entry, network_lines}
+use Rattle.session_tree.specs.Shape.{group_tree, word_tree, metal_trees, wire_tree, via_tree, copper_trees, net_trees}
 use Rattle.session_tree.proofs.Plain.{IsSpelled, name_word}
 use Rattle.session_tree.proofs.Saying.{Says, closes, end, blank, gap, word, group, both, last, each, respell}
 use Rattle.session_tree.proofs.Numbers.{number_says, point_says, chain_says}
@@ -42,7 +43,8 @@ layer_spelled d layer h = name_word _ (printable_at (λ (l : BoardLayer). l.name
 
 -- a padstack's name
 padstack_spelled : (d : Design) (padstack : ℕ) → HasPrintableNames d
-    → IsSpelled (option_map_or (λ (s : Padstack). s.name) (slice_get d.padstacks padstack) []) (padstack_word d padstack)
+    → IsSpelled (option_map_or (λ (s : Padstack). s.name) (slice_get d.padstacks padstack) [])
+    (padstack_word d padstack)
 padstack_spelled d padstack h = name_word _ (printable_at (λ (s : Padstack). s.name) d.padstacks padstack h.padstacks)
 
 -- ---- copper
@@ -81,7 +83,8 @@ metal_says room d nm (Ban wires vias) h = end
 -- the lines of a net's items
 copper_says : (room : ℕ) (d : Design) (nm : ℕ) (items : List Item) (net : ℕ) → HasPrintableNames d
     → Says (suc (suc room)) (copper_trees d nm items net) (copper_lines d nm items net) []
-copper_says room d nm items net h = each (λ (a : Item). metal_trees d nm a.metal) (λ (a : Item). metal_line d nm a.metal)
+copper_says room d nm items net h =
+    each (λ (a : Item). metal_trees d nm a.metal) (λ (a : Item). metal_line d nm a.metal)
     (λ (a : Item). metal_says room d nm a.metal h) (filter (is_of_net net) items)
 
 -- ---- nets
@@ -115,13 +118,15 @@ lines_say room name lines copper false h c = respell
     (simp (append_assoc) refl)
 
 -- a net
-net_says : (room : ℕ) (d : Design) (nm : ℕ) (items : List Item) (i : ℕ) (n : Net) → HasPrintableNames d → IsPrintable n.name
+net_says : (room : ℕ) (d : Design) (nm : ℕ) (items : List Item) (i : ℕ) (n : Net) → HasPrintableNames d
+    → IsPrintable n.name
     → Says (suc (suc (suc room))) (net_trees d nm items (i, n)) (network_entry d nm items (i, n)) []
 unfolding net_lines
 net_says room d nm items i n h p =
     let lines = copper_lines d nm items i in
     let copper = copper_trees d nm items i in
-    subst (λ none. Says (suc (suc (suc room))) (if none then [] else group_tree (codes "net") (word_tree n.name ∷ copper) ∷ [])
+    subst (λ none. Says (suc (suc (suc room)))
+    (if none then [] else group_tree (codes "net") (word_tree n.name ∷ copper) ∷ [])
     (net_lines n.name lines) [])
     (items_none d nm (filter (is_of_net i) items))
     (lines_say room n.name lines copper (length lines == 0) p (copper_says room d nm items i h))
@@ -138,6 +143,7 @@ nets_say room d nm items i (n ∷ nets) h p =
 
 -- the network
 pub network_says : (room : ℕ) (d : Design) (nm : ℕ) (items : List Item) → HasPrintableNames d
-    → Says (suc (suc (suc room))) (flat_map (net_trees d nm items) (enumerate_from 0 d.nets)) (network_lines d nm items) []
+    → Says (suc (suc (suc room))) (flat_map (net_trees d nm items) (enumerate_from 0 d.nets))
+    (network_lines d nm items) []
 unfolding network_lines
 network_says room d nm items h = nets_say room d nm items 0 d.nets h h.nets

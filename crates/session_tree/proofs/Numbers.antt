@@ -1,17 +1,17 @@
 -- What the printed numbers and points of a session spell.
-use Rattle.std.proofs.Common.{◌≡◌, ℕ, suc, ℤ, pos, List, [], ◌∷◌, ◌++◌, refl, ap, sym, ◌∙◌, subst, append_assoc}
+use Rattle.std.proofs.Common.{ℕ, suc, ℤ, List, [], ◌∷◌, refl, append_assoc}
 use Rattle.std.specs.Prelude.{codes, decimal, flat_map}
 use Rattle.std.specs.Fmt.{signed_decimal}
-use Rattle.dsn_tree.specs.declared.tree.Tree.{Tree}
 use Rattle.geo_kernel.specs.declared.point.Point.{Point}
 use Rattle.geo_kernel.specs.declared.unit.Unit.{Unit as LengthUnit}
 use Rattle.geo_kernel.specs.declared.unit.Unit.TheVariants.{Inch, Mil, Cm, Mm, Um}
 use Rattle.pcb_model.specs.declared.design.SesScale.{SesScale}
 use Rattle.ses_writer.specs.Words.{nearest, length_word, point_words, chain_words, area_words, directed}
 use Rattle.ses_writer.specs.Session.{unit_word, resolution_line}
-use Rattle.session_tree.specs.Shape.{word_tree, number_tree, point_trees, resolution_tree}
+use Rattle.session_tree.specs.Shape.{number_tree, point_trees, resolution_tree}
 use Rattle.session_tree.proofs.Plain.{IsSpelled, plainly, signed_plain, decimal_plain}
-use Rattle.session_tree.proofs.Saying.{Says, closes, end, blank, gap, word, last_word, group, constant, both, each, respell}
+use Rattle.session_tree.proofs.Saying.{Says, closes, end, blank, gap, word, last_word, group, constant, both, each}
+use Rattle.session_tree.proofs.Saying.{respell}
 
 -- ---- numbers and points
 -- a blank and a length
@@ -24,15 +24,18 @@ pub point_says : (room nm : ℕ) (p : Point) → Says room (point_trees nm p) (p
 point_says room nm p = both (number_says room nm p.x) (number_says room nm p.y)
 
 -- the points of a chain
-pub chain_says : (room nm : ℕ) (chain : List Point) → Says room (flat_map (point_trees nm) (directed chain)) (chain_words nm chain) []
+pub chain_says : (room nm : ℕ) (chain : List Point) → Says room (flat_map (point_trees nm) (directed chain))
+    (chain_words nm chain) []
 unfolding chain_words
 chain_says room nm chain = each (point_trees nm) (point_words nm) (point_says room nm) (directed chain)
 
 -- the points of loops
-pub area_says : (room nm : ℕ) (loops : List (List Point)) → Says room (flat_map (flat_map (point_trees nm)) loops) (area_words nm loops) []
+pub area_says : (room nm : ℕ) (loops : List (List Point)) → Says room (flat_map (flat_map (point_trees nm)) loops)
+    (area_words nm loops) []
 unfolding area_words
 area_says room nm loops =
-    each (flat_map (point_trees nm)) (flat_map (point_words nm)) (each (point_trees nm) (point_words nm) (point_says room nm)) loops
+    each (flat_map (point_trees nm)) (flat_map (point_words nm))
+    (each (point_trees nm) (point_words nm) (point_says room nm)) loops
 
 -- ---- the resolution
 -- a unit is a word

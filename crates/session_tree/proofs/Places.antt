@@ -1,16 +1,15 @@
 -- What the printed components of a session spell.
-use Rattle.std.proofs.Common.{◌≡◌, ℕ, zero, suc, Bool, true, false, List, [], ◌∷◌, ◌++◌, refl, ap, sym, ◌∙◌, subst, append_assoc}
-use Rattle.std.specs.Prelude.{codes, if◌then◌else◌, bytes_eq, All}
+use Rattle.std.proofs.Common.{◌≡◌, ℕ, suc, Bool, true, false, List, [], ◌∷◌, ◌++◌, refl, append_assoc}
+use Rattle.std.specs.Prelude.{codes, bytes_eq, All}
 use Rattle.std.proofs.lemmas.List.Elements.{All-head, All-tail}
-use Rattle.dsn_tree.specs.declared.tree.Tree.{Tree}
 use Rattle.pcb_model.specs.declared.design.Component.{Component}
-use Rattle.pcb_model.specs.declared.design.Design.{Design}
-use Rattle.pcb_model.specs.Sound.{IsPrintable, HasPrintableNames}
+use Rattle.pcb_model.specs.Sound.{IsPrintable}
 use Rattle.ses_writer.specs.Words.{spelled, point_words, degrees}
-use Rattle.ses_writer.specs.Session.{side_words, place_line, component_line, image_change, places_after, component_lines}
-use Rattle.session_tree.specs.Shape.{word_tree, group_tree, point_trees, side_tree, place_tree, places_on, component_tree, components_on, component_trees}
+use Rattle.ses_writer.specs.Session.{side_words, place_line, component_line, places_after, component_lines}
+use Rattle.session_tree.specs.Shape.{word_tree, group_tree, point_trees, side_tree, place_tree, places_on}
+use Rattle.session_tree.specs.Shape.{component_tree, components_on, component_trees}
 use Rattle.session_tree.proofs.Plain.{name_word, plainly, degrees_plain}
-use Rattle.session_tree.proofs.Saying.{Says, closes, end, blank, gap, word, group, constant, both, last, respell}
+use Rattle.session_tree.proofs.Saying.{Says, closes, end, blank, gap, word, group, constant, both, respell}
 use Rattle.session_tree.proofs.Numbers.{point_says}
 
 -- a component's name and its image's can be printed
@@ -22,8 +21,10 @@ place_says : (room nm : ℕ) (c : Component) → IsNamed c → Says (suc room) (
 unfolding place_tree place_line
 place_says room nm c h = by c.back
   where
-    by : (back : Bool) → Says (suc room) (group_tree (codes "place") (word_tree c.name ∷ point_trees nm c.at ++ side_tree back ∷ word_tree (degrees c.microdegrees) ∷ []) ∷ [])
-        (codes "      (place " ++ spelled c.name ++ point_words nm c.at ++ side_words back ++ degrees c.microdegrees ++ codes ")\n") []
+    by : (back : Bool) → Says (suc room) (group_tree (codes "place")
+        (word_tree c.name ∷ point_trees nm c.at ++ side_tree back ∷ word_tree (degrees c.microdegrees) ∷ []) ∷ [])
+        (codes "      (place " ++ spelled c.name ++ point_words nm c.at ++ side_words back ++ degrees c.microdegrees
+        ++ codes ")\n") []
     by true = respell
         (gap (codes "      ") refl (group (codes "place") refl
         (word (spelled c.name) (name_word c.name h.0) (both (point_says room nm c.at)
@@ -47,7 +48,8 @@ record After (room nm : ℕ) (b : Component) (cs : List Component) : Type 0 wher
 
 -- an image with its places, and the images behind it
 image_says : (room nm : ℕ) (c : Component) (cs : List Component) → IsNamed c → After room nm c cs
-    → Says (suc (suc room)) (component_tree nm c cs ∷ components_on nm c cs) (component_line c ++ (place_line nm c ++ places_after nm c cs)) []
+    → Says (suc (suc room)) (component_tree nm c cs ∷ components_on nm c cs)
+    (component_line c ++ (place_line nm c ++ places_after nm c cs)) []
 unfolding component_line
 image_says room nm c cs h a = respell
     (gap (codes "    ") refl (group (codes "component") refl
@@ -56,7 +58,8 @@ image_says room nm c cs h a = respell
     (simp (append_assoc) refl)
 
 -- one more place, of the same image or of another
-one_more : (room nm : ℕ) (b c : Component) (cs : List Component) (same : Bool) → bytes_eq b.image c.image ≡ same → IsNamed c
+one_more : (room nm : ℕ) (b c : Component) (cs : List Component) (same : Bool) → bytes_eq b.image c.image ≡ same
+    → IsNamed c
     → After room nm c cs → After room nm b (c ∷ cs)
 one_more room nm b c cs true e h a = record {
   behind = a.behind;

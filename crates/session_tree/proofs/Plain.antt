@@ -1,7 +1,7 @@
 -- How a word of a session is spelled: bare bytes from 42 on, or one quoted piece.
-use Rattle.std.proofs.Common.{◌≡◌, ◌≢◌, ◌⊎◌, inl, inr, ℕ, zero, suc, ◌+◌, ◌/◌, ◌%◌, ◌*◌, ◌≤◌, ◌<◌, ◌==◌, Bool, true, false}
-use Rattle.std.proofs.Common.{List, [], ◌∷◌, ◌++◌, length, map, refl, ap, sym, ◌∙◌, subst, arith, true≢false, ℤ, pos, negsuc}
-use Rattle.std.specs.Prelude.{not, ◌&&◌, ◌||◌, nat_lt, codes, decimal, if◌then◌else◌}
+use Rattle.std.proofs.Common.{◌≡◌, ◌≢◌, inl, inr, ℕ, zero, suc, ◌+◌, ◌/◌, ◌%◌, ◌*◌, ◌≤◌, ◌<◌, ◌==◌, Bool, true, false}
+use Rattle.std.proofs.Common.{List, [], ◌∷◌, ◌++◌, length, map, refl, ap, sym, ◌∙◌, arith, true≢false, ℤ, pos, negsuc}
+use Rattle.std.specs.Prelude.{not, nat_lt, codes, decimal, if◌then◌else◌}
 use Rattle.std.specs.List.{AllByRecursion, flat_map, list_all}
 use Rattle.std.specs.Fmt.{signed_decimal, digits, digits_onto, digit_glyph}
 use Rattle.std.proofs.lemmas.List.{append-nil, length-append}
@@ -150,17 +150,17 @@ in_front b bytes h p = record { some = omega arith; plain = (h, p) }
 more_digits : (k n : ℕ) (acc : List ℕ) → IsPlainWord acc → IsPlainWord (digits_onto k 10 false n acc)
 more_digits zero n acc w = w
 more_digits (suc k) n acc w =
+    let front = digit_glyph false (n % 10) ∷ acc in
     let v = in_front (digit_glyph false (n % 10)) acc (glyph_plain (n % 10)) w.plain in
-    choose (n / 10 == 0) (digit_glyph false (n % 10) ∷ acc) (digits_onto k 10 false (n / 10) (digit_glyph false (n % 10) ∷ acc))
-    v (more_digits k (n / 10) (digit_glyph false (n % 10) ∷ acc) v)
+    choose (n / 10 == 0) front (digits_onto k 10 false (n / 10) front) v (more_digits k (n / 10) front v)
 
 -- a decimal number is a word of digits
 pub decimal_plain : (n : ℕ) → IsPlainWord (decimal n)
 unfolding digits
 decimal_plain n =
+    let front = digit_glyph false (n % 10) ∷ [] in
     let v = in_front (digit_glyph false (n % 10)) [] (glyph_plain (n % 10)) tt in
-    choose (n / 10 == 0) (digit_glyph false (n % 10) ∷ []) (digits_onto 63 10 false (n / 10) (digit_glyph false (n % 10) ∷ []))
-    v (more_digits 63 (n / 10) (digit_glyph false (n % 10) ∷ []) v)
+    choose (n / 10 == 0) front (digits_onto 63 10 false (n / 10) front) v (more_digits 63 (n / 10) front v)
 
 -- so is one with its sign
 pub signed_plain : (z : ℤ) → IsPlainWord (signed_decimal z)

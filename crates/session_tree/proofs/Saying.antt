@@ -1,17 +1,16 @@
 -- Which trees a piece of a text spells.
-use Rattle.std.proofs.Common.{◌≡◌, ℕ, suc, ◌+◌, ◌≤◌, ◌<◌, Bool, true, false, List, [], ◌∷◌, ◌++◌, length, map}
+use Rattle.std.proofs.Common.{◌≡◌, ℕ, suc, ◌≤◌, Bool, true, false, List, [], ◌∷◌, ◌++◌, length, map}
 use Rattle.std.proofs.Common.{refl, ap, sym, ◌∙◌, subst, arith, append_assoc, true≢false}
-use Rattle.std.specs.Prelude.{IsTrue, codes, nat_le, not, ◌&&◌, ◌==◌, None}
+use Rattle.std.specs.Prelude.{codes, nat_le, not, ◌&&◌, ◌==◌}
 use Rattle.std.specs.Str.{str_eq_ignore_ascii_case}
 use Rattle.std.specs.List.{AllByRecursion, flat_map, list_all}
 use Rattle.std.proofs.lemmas.List.{append-nil, map-append}
 use Rattle.std.proofs.lemmas.Grind.{flat_map-append}
 use Rattle.std.proofs.lemmas.Bool.{and_parts}
 use Rattle.std.proofs.lemmas.Bool.Decides.{nat_tests}
-use Rattle.dsn_tokens.specs.Place.{Place, start}
-use Rattle.dsn_tokens.specs.Gaps.{is_blank, Ends}
-use Rattle.dsn_tokens.specs.Words.{ends_word, EndsWord, asks_quote}
-use Rattle.dsn_tokens.specs.Spelling.{Takes, Reading}
+use Rattle.dsn_tokens.specs.Place.{Place}
+use Rattle.dsn_tokens.specs.Gaps.{is_blank}
+use Rattle.dsn_tokens.specs.Words.{ends_word, EndsWord}
 use Rattle.dsn_tokens.specs.declared.token.Token.{Token}
 use Rattle.dsn_tokens.specs.declared.token.Mark.TheVariants.{Left, Right}
 use Rattle.dsn_tokens.specs.declared.token.Mark.TheVariants as mark
@@ -21,13 +20,13 @@ use Rattle.dsn_tree.specs.declared.tree.Tree.TheOpen as layer
 use Rattle.dsn_tree.specs.declared.tree.Tree.TheFolds.{fold-roll-Tree}
 use Rattle.dsn_tree.specs.Flat.{flat, depth, shown, shown_at}
 use Rattle.dsn_tree.specs.Groups.{Leads}
-use Rattle.dsn_tree.proofs.Flats.{right, flat_word, flat_group, depth_word, depth_group, greatest_le}
+use Rattle.dsn_tree.proofs.Flats.{right, depth_word, depth_group, greatest_le}
 use Rattle.dsn_tree.proofs.Steps.{shows_word, shows_group}
 use Rattle.session_tree.specs.Shape.{unplaced, unplaced_step, word_tree, group_tree}
 use Rattle.session_tree.proofs.Plain.{IsSpelled, ArePlain, plain_word}
-use Rattle.session_tree.proofs.Taken.{Stands, Past, past_blank, past_left, past_right, past_word, at_end}
+use Rattle.session_tree.proofs.Taken.{Stands, Past, past_blank, past_left, past_right, past_word}
 
--- From the place on come the tokens of such trees, but for their places, with so much room for depth; the bytes follow.
+-- From the place on come the tokens of such trees, but for their places, within so much room; the bytes follow.
 pub record Trip (room : ℕ) (p : Place) (trees : List Tree) (bytes : List ℕ) : Type 0 where
   pub q : Place
   pub ts : List Token
@@ -38,10 +37,12 @@ pub record Trip (room : ℕ) (p : Place) (trees : List Tree) (bytes : List ℕ) 
   pub is : map unplaced items ≡ trees
   pub deep : AllByRecursion (λ t. depth t ≤ room) items
 
--- The bytes are a text of these trees and then the rest, wherever a word may end behind them; it begins where a word may end.
+-- The bytes are a text of these trees and then the rest, wherever a word may end behind them.
+-- They begin with a blank or a bracket.
 pub record Says (room : ℕ) (trees : List Tree) (bytes rest : List ℕ) : Type 0 where
   pub starts : EndsWord bytes
-  pub trip : (p : Place) (more : List ℕ) → EndsWord more → Stands false p (bytes ++ more) → Trip room p trees (rest ++ more)
+  pub trip : (p : Place) (more : List ℕ) → EndsWord more → Stands false p (bytes ++ more)
+      → Trip room p trees (rest ++ more)
 
 -- ---- trees without places
 -- a word without its place
@@ -50,7 +51,8 @@ unplaced_word at text = ap unplaced (sym (rolls-Word at text)) ∙ fold-roll-Tre
 
 -- a group without places
 unplaced_group : (at : ℕ) (items : List Tree) → unplaced (Group at items) ≡ Group 0 (map unplaced items)
-unplaced_group at items = ap unplaced (sym (rolls-Group at items)) ∙ fold-roll-Tree Tree unplaced_step (layer.Group at items)
+unplaced_group at items =
+    ap unplaced (sym (rolls-Group at items)) ∙ fold-roll-Tree Tree unplaced_step (layer.Group at items)
 
 -- ---- lists of tokens
 -- one way after another
@@ -59,15 +61,18 @@ leads_both p m q [] us l r = rw l r
 leads_both p m q (t ∷ ts) us l r = (l.0, l.1, leads_both l.0 m q ts us l.2 r)
 
 -- one list of trees behind another
-deep_both : (room : ℕ) (ts us : List Tree) → AllByRecursion (λ t. depth t ≤ room) ts → AllByRecursion (λ t. depth t ≤ room) us
+deep_both : (room : ℕ) (ts us : List Tree) → AllByRecursion (λ t. depth t ≤ room) ts
+    → AllByRecursion (λ t. depth t ≤ room) us
     → AllByRecursion (λ t. depth t ≤ room) (ts ++ us)
 deep_both room [] us d e = e
 deep_both room (t ∷ ts) us d e = (d.0, deep_both room ts us d.1 e)
 
 -- their tokens
-shows_both : (ts us : List Token) (xs ys : List Tree) → map shown ts ≡ flat_map flat xs → map shown us ≡ flat_map flat ys
+shows_both : (ts us : List Token) (xs ys : List Tree) → map shown ts ≡ flat_map flat xs
+    → map shown us ≡ flat_map flat ys
     → map shown (ts ++ us) ≡ flat_map flat (xs ++ ys)
-shows_both ts us xs ys e f = map-append shown ts us ∙ ap (λ zs. zs ++ map shown us) e ∙ ap (λ zs. flat_map flat xs ++ zs) f
+shows_both ts us xs ys e f = map-append shown ts us ∙ ap (λ zs. zs ++ map shown us) e
+    ∙ ap (λ zs. flat_map flat xs ++ zs) f
     ∙ sym (flat_map-append flat xs ys)
 
 -- one way after another, with its trees
@@ -94,7 +99,16 @@ ends_more (b ∷ bytes) more e f = e
 nothing : (room : ℕ) (bytes : List ℕ) → EndsWord bytes → Says room [] bytes bytes
 nothing room bytes e = record {
   starts = e;
-  trip = λ p more f s. record { q = p; ts = []; items = []; leads = refl; stands = s; shows = refl; is = refl; deep = tt };
+  trip = λ p more f s. record {
+    q = p;
+    ts = [];
+    items = [];
+    leads = refl;
+    stands = s;
+    shows = refl;
+    is = refl;
+    deep = tt;
+  };
 }
 
 -- nothing up to a closing bracket
@@ -115,7 +129,8 @@ ends_blank : (b : ℕ) → is_blank b ≡ true → ends_word b ≡ true
 ends_blank b h = rw h refl
 
 -- a blank
-pub blank : {room : ℕ} {trees : List Tree} {bytes rest : List ℕ} (b : ℕ) → is_blank b ≡ true → Says room trees bytes rest
+pub blank : {room : ℕ} {trees : List Tree} {bytes rest : List ℕ} (b : ℕ) → is_blank b ≡ true
+    → Says room trees bytes rest
     → Says room trees (b ∷ bytes) rest
 blank {room} {trees} {bytes} {rest} b h a = record {
   starts = ends_blank b h;
@@ -123,7 +138,8 @@ blank {room} {trees} {bytes} {rest} b h a = record {
 }
 
 -- the trip over one word
-word_trip : (room : ℕ) (p : Place) (text bytes : List ℕ) → Past false p (mark.Word text) bytes → Trip room p (word_tree text ∷ []) bytes
+word_trip : (room : ℕ) (p : Place) (text bytes : List ℕ) → Past false p (mark.Word text) bytes
+    → Trip room p (word_tree text ∷ []) bytes
 word_trip room p text bytes a = record {
   q = a.q;
   ts = a.t ∷ [];
@@ -141,13 +157,16 @@ pub word : {room : ℕ} {trees : List Tree} {text bytes rest : List ℕ} (spelle
 word {room} {trees} {text} {bytes} {rest} spelled w a = record {
   starts = refl;
   trip = λ p more f s.
-      let b = word_trip room p text (bytes ++ more) (past_word false p text spelled (bytes ++ more) w refl (ends_more bytes more a.starts f)
-      (subst (Stands false p) (append_assoc spelled bytes more) (past_blank false p 32 ((spelled ++ bytes) ++ more) refl s))) in
+      let behind = past_blank false p 32 ((spelled ++ bytes) ++ more) refl s in
+      let past = past_word false p text spelled (bytes ++ more) w refl (ends_more bytes more a.starts f)
+      (subst (Stands false p) (append_assoc spelled bytes more) behind) in
+      let b = word_trip room p text (bytes ++ more) past in
       trip_both room p (word_tree text ∷ []) trees (bytes ++ more) (rest ++ more) b (a.trip b.q more f b.stands);
 }
 
 -- a blank and a word at the end
-pub last_word : {room : ℕ} {text : List ℕ} (spelled : List ℕ) → IsSpelled text spelled → Says room (word_tree text ∷ []) (32 ∷ spelled) []
+pub last_word : {room : ℕ} {text : List ℕ} (spelled : List ℕ) → IsSpelled text spelled
+    → Says room (word_tree text ∷ []) (32 ∷ spelled) []
 last_word {room} {text} spelled w = respell (word spelled w end) (ap (λ xs. 32 ∷ xs) (sym (append-nil spelled)))
 
 -- several blanks
@@ -191,7 +210,8 @@ not_true false h = refl
 
 -- ---- groups
 -- the tokens in a group
-shows_inside : (w r : Token) (ts : List Token) (head : List ℕ) (items : List Tree) → w.mark ≡ mark.Word head → r.mark ≡ Right
+shows_inside : (w r : Token) (ts : List Token) (head : List ℕ) (items : List Tree) → w.mark ≡ mark.Word head
+    → r.mark ≡ Right
     → map shown ts ≡ flat_map flat items
     → map shown (w ∷ ts ++ r ∷ []) ≡ flat_map flat (Word w.at head ∷ items) ++ right ∷ []
 shows_inside w r ts head items e f h =
@@ -228,33 +248,40 @@ group {room} {inside} {trees} {bytes} {behind} {rest} head h a b =
     let parts = and_parts (is_constant head) (not (str_eq_ignore_ascii_case head (codes "string_quote"))) h in record {
       starts = refl;
       trip = λ p more f s.
-          let l = past_left false p (head ++ (bytes ++ more)) (subst (λ xs. Stands false p (40 ∷ xs)) (append_assoc head bytes more) s) in
+          let l = past_left false p (head ++ (bytes ++ more))
+          (subst (λ xs. Stands false p (40 ∷ xs)) (append_assoc head bytes more) s) in
           let w = past_word true l.q head head (bytes ++ more) (constant head parts.0) (not_true _ parts.1)
           (ends_more bytes more a.starts f) l.stands in
           let t = a.trip w.q more f w.stands in
           let r = past_right false t.q (behind ++ more) t.stands in
           let g = group_trip room p head (head ++ (bytes ++ more)) (bytes ++ more) (behind ++ more) inside l w t r in
-          trip_both (suc room) p (group_tree head inside ∷ []) trees (behind ++ more) (rest ++ more) g (b.trip g.q more f g.stands);
+          trip_both (suc room) p (group_tree head inside ∷ []) trees (behind ++ more) (rest ++ more) g
+          (b.trip g.q more f g.stands);
     }
 
 -- ---- pieces
 -- a piece, with more behind
-pub both : {room : ℕ} {inside trees : List Tree} {piece bytes rest : List ℕ} → Says room inside piece [] → Says room trees bytes rest
+pub both : {room : ℕ} {inside trees : List Tree} {piece bytes rest : List ℕ} → Says room inside piece []
+    → Says room trees bytes rest
     → Says room (inside ++ trees) (piece ++ bytes) rest
 both {room} {inside} {trees} {piece} {bytes} {rest} a b = record {
   starts = ends_more piece bytes a.starts b.starts;
   trip = λ p more f s.
-      let t = a.trip p (bytes ++ more) (ends_more bytes more b.starts f) (subst (Stands false p) (append_assoc piece bytes more) s) in
+      let t = a.trip p (bytes ++ more) (ends_more bytes more b.starts f)
+      (subst (Stands false p) (append_assoc piece bytes more) s) in
       trip_both room p inside trees (bytes ++ more) (rest ++ more) t (b.trip t.q more f t.stands);
 }
 
 -- the last piece with trees
-pub last : {room : ℕ} {inside : List Tree} {piece bytes rest : List ℕ} → Says room inside piece [] → Says room [] bytes rest
+pub last : {room : ℕ} {inside : List Tree} {piece bytes rest : List ℕ} → Says room inside piece []
+    → Says room [] bytes rest
     → Says room inside (piece ++ bytes) rest
-last {room} {inside} {piece} {bytes} {rest} a b = subst (λ ts. Says room ts (piece ++ bytes) rest) (append-nil inside) (both a b)
+last {room} {inside} {piece} {bytes} {rest} a b =
+    subst (λ ts. Says room ts (piece ++ bytes) rest) (append-nil inside) (both a b)
 
 -- pieces one after another
-pub each : {A : Type 0} {room : ℕ} (f : A → List Tree) (g : A → List ℕ) → ((a : A) → Says room (f a) (g a) []) → (xs : List A)
+pub each : {A : Type 0} {room : ℕ} (f : A → List Tree) (g : A → List ℕ) → ((a : A) → Says room (f a) (g a) [])
+    → (xs : List A)
     → Says room (flat_map f xs) (flat_map g xs) []
 each {A} {room} f g h [] = end
 each {A} {room} f g h (x ∷ xs) = both (h x) (each f g h xs)

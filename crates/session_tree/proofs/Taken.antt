@@ -1,13 +1,12 @@
 -- Behind blanks the next token is taken.
-use Rattle.std.proofs.Common.{◌≡◌, ◌≢◌, ℕ, ◌+◌, ◌-◌, ◌≤◌, ◌<◌, ◌==◌, Bool, true, false, List, [], ◌∷◌, ◌++◌, length, map}
+use Rattle.std.proofs.Common.{◌≡◌, ℕ, ◌-◌, ◌≤◌, ◌==◌, Bool, true, false, List, [], ◌∷◌, ◌++◌, length, map}
 use Rattle.std.proofs.Common.{refl, ap, sym, ◌∙◌, subst, arith, true≢false, append_assoc}
-use Rattle.std.specs.Prelude.{IsTrue, ◌&&◌, if◌then◌else◌, codes}
-use Rattle.std.specs.Str.{str_eq_ignore_ascii_case}
-use Rattle.std.specs.List.{AllByRecursion, flat_map}
-use Rattle.std.proofs.lemmas.List.{append-nil, length-append}
+use Rattle.std.specs.Prelude.{if◌then◌else◌}
+use Rattle.std.specs.List.{AllByRecursion}
+use Rattle.std.proofs.lemmas.List.{length-append}
 use Rattle.dsn_tokens.specs.Place.{Place, end_of, behind_token}
-use Rattle.dsn_tokens.specs.Gaps.{is_blank, Space, blank, spaces_then, IsGap, behind_gap, behind_space, StartsToken, EndsText, IsBehindGap, Ends}
-use Rattle.dsn_tokens.specs.Words.{Piece, IsPiece, pieces_then, piece_text, ends_word, EndsWord, IsWord, behind_word, asks_quote}
+use Rattle.dsn_tokens.specs.Gaps.{is_blank, blank, spaces_then, IsGap, behind_gap, behind_space, StartsToken, Ends}
+use Rattle.dsn_tokens.specs.Words.{IsPiece, pieces_then, EndsWord, IsWord, behind_word, asks_quote}
 use Rattle.dsn_tokens.specs.Spelling.{IsMark, IsTokenAt, Takes}
 use Rattle.dsn_tokens.specs.declared.context.Context.{Context}
 use Rattle.dsn_tokens.specs.declared.context.Line.{Line}
@@ -75,13 +74,15 @@ abbrev pub place_at : Place → List ℕ → Context → Place
 place_at p rest d = record { at = end_of p - length rest; rest = rest; context = d }
 
 -- behind the blanks a mark is the next token
-pub token : (o : Bool) (p : Place) (bytes rest : List ℕ) (mark : Mark) (d : Context) → Stands o p bytes → StartsWord bytes
+pub token : (o : Bool) (p : Place) (bytes rest : List ℕ) (mark : Mark) (d : Context) → Stands o p bytes
+    → StartsWord bytes
     → IsMark mark p.context bytes rest d → length rest ≤ length bytes
     → Takes p (record { at = end_of p - length bytes; mark = mark }) (place_at p rest d)
 token o p bytes rest mark d s w k short =
     takes (omega (arith, ap length s.text, length-append s.gap bytes))
   where
-    takes : length bytes ≤ length p.rest → Takes p (record { at = end_of p - length bytes; mark = mark }) (place_at p rest d)
+    takes : length bytes ≤ length p.rest → Takes p (record { at = end_of p - length bytes; mark = mark })
+        (place_at p rest d)
     takes long = record {
       bytes = bytes;
       gap = record {
@@ -106,7 +107,8 @@ at_end o p s = record {
 }
 
 -- one more blank
-pub past_blank : (o : Bool) (p : Place) (b : ℕ) (bytes : List ℕ) → is_blank b ≡ true → Stands o p (b ∷ bytes) → Stands o p bytes
+pub past_blank : (o : Bool) (p : Place) (b : ℕ) (bytes : List ℕ) → is_blank b ≡ true → Stands o p (b ∷ bytes)
+    → Stands o p bytes
 past_blank o p b bytes h s = record {
   gap = s.gap ++ b ∷ [];
   blanks = last_blank s.gap s.blanks;
@@ -130,7 +132,8 @@ pub record Past (o : Bool) (p : Place) (mark : Mark) (rest : List ℕ) : Type 0 
   pub stands : Stands o q rest
 
 -- behind a token, where no quoting byte is due
-stands_at : (o : Bool) (p : Place) (rest : List ℕ) (d : Context) → IsCalm d.line → d.opened ≡ o → d.quote ≡ 34 → Stands o (place_at p rest d) rest
+stands_at : (o : Bool) (p : Place) (rest : List ℕ) (d : Context) → IsCalm d.line → d.opened ≡ o → d.quote ≡ 34
+    → Stands o (place_at p rest d) rest
 stands_at o p rest d c e f = record { gap = []; blanks = tt; text = refl; calm = c; opened_is = e; quote_is = f }
 
 -- an opening bracket
@@ -164,17 +167,22 @@ calm_word true e = absurd (true≢false e)
 calm_word false e = tt
 
 -- a word
-pub past_word : (o : Bool) (p : Place) (text word rest : List ℕ) → IsSpelled text word → asks_quote o word ≡ false → EndsWord rest
+pub past_word : (o : Bool) (p : Place) (text word rest : List ℕ) → IsSpelled text word → asks_quote o word ≡ false
+    → EndsWord rest
     → Stands o p (word ++ rest) → Past false p (Word text) rest
 past_word o p text word rest w a e s =
     let d = behind_word p.context word in record {
       t = record { at = end_of p - length (word ++ rest); mark = Word text };
       q = place_at p rest d;
-      takes = token o p (word ++ rest) rest (Word text) d s (starts_more word rest w.starts) is (omega (arith, length-append word rest));
+      takes = token o p (word ++ rest) rest (Word text) d s (starts_more word rest w.starts) is
+          (omega (arith, length-append word rest));
       mark_is = refl;
-      stands = stands_at false p rest d (calm_word (asks_quote p.context.opened word) (ap (λ x. asks_quote x word) s.opened_is ∙ a)) refl s.quote_is;
+      stands = stands_at false p rest d calm refl s.quote_is;
     }
   where
+    calm : IsCalm (if asks_quote p.context.opened word then Quoting else Begun)
+    calm = calm_word (asks_quote p.context.opened word) (ap (λ x. asks_quote x word) s.opened_is ∙ a)
+
     is : IsWord p.context (word ++ rest) text rest (behind_word p.context word)
     is = record {
       pieces = w.pieces;

@@ -1,5 +1,6 @@
 -- The text of a session has one tree, the session's.
-use Rattle.std.proofs.Common.{◌≡◌, ℕ, suc, ◌≤◌, Bool, false, List, [], ◌∷◌, ◌++◌, length, map, refl, ap, sym, ◌∙◌, subst, arith, append_assoc}
+use Rattle.std.proofs.Common.{◌≡◌, ℕ, suc, ◌≤◌, Bool, false, List, [], ◌∷◌, ◌++◌, length, map, refl, ap, sym, ◌∙◌}
+use Rattle.std.proofs.Common.{arith, append_assoc}
 use Rattle.std.specs.Prelude.{codes, flat_map, filter, None}
 use Rattle.std.specs.List.{AllByRecursion}
 use Rattle.std.proofs.lemmas.List.{append-nil}
@@ -23,11 +24,13 @@ use Rattle.pcb_model.specs.Scale.{scale_of}
 use Rattle.pcb_model.specs.Sound.{HasPrintableNames}
 use Rattle.ses_writer.specs.Words.{spelled}
 use Rattle.ses_writer.specs.Session.{is_printed, placement_part, routes_part, session_of}
-use Rattle.session_tree.specs.Shape.{unplaced, word_tree, group_tree, base_tree, placement_tree, library_tree, network_tree, routes_tree, session_tree}
+use Rattle.session_tree.specs.Shape.{unplaced, base_tree, placement_tree, library_tree, network_tree, routes_tree}
+use Rattle.session_tree.specs.Shape.{session_tree}
 use Rattle.session_tree.specs.Told.{HasSessionTree}
 use Rattle.session_tree.proofs.Plain.{name_word}
 use Rattle.session_tree.proofs.Taken.{Stands, at_end}
-use Rattle.session_tree.proofs.Saying.{Trip, Says, unplaced_word, closes, end, blank, gap, word, group, both, last, respell}
+use Rattle.session_tree.proofs.Saying.{Trip, Says, unplaced_word, closes, end, blank, gap, word, group, both, last}
+use Rattle.session_tree.proofs.Saying.{respell}
 use Rattle.session_tree.proofs.Numbers.{resolution_says}
 use Rattle.session_tree.proofs.Metals.{network_says}
 use Rattle.session_tree.proofs.Library.{library_says, parser_says}
@@ -51,7 +54,8 @@ routes_say room d s items h = respell
 
 -- the session
 session_says : (room : ℕ) (d : Design) (items : List Item) (omit_fixed : Bool) → HasPrintableNames d
-    → Says (suc (suc (suc (suc (suc (suc room)))))) (session_tree d items omit_fixed ∷ []) (session_of d items omit_fixed) []
+    → Says (suc (suc (suc (suc (suc (suc room)))))) (session_tree d items omit_fixed ∷ [])
+    (session_of d items omit_fixed) []
 unfolding session_of placement_part session_tree base_tree placement_tree
 session_says room d items omit_fixed h = respell
     (group (codes "session") refl
@@ -77,7 +81,8 @@ group_layer (layer.Word at text) inside e =
 group_layer (layer.Group at items) inside e = (at, items, rolls-Group at items)
 
 -- so a tree is a group
-group_is : (t : Tree) (inside : List Tree) → unplaced t ≡ Group 0 inside → (at : ℕ) × (items : List Tree) × (t ≡ Group at items)
+group_is : (t : Tree) (inside : List Tree) → unplaced t ≡ Group 0 inside
+    → (at : ℕ) × (items : List Tree) × (t ≡ Group at items)
 group_is t inside e =
     let r = group_layer (out-Tree t) inside (ap unplaced (roll-out-Tree t) ∙ e) in
     (r.0, r.1, sym (roll-out-Tree t) ∙ r.2)
@@ -94,7 +99,8 @@ record Treed (text : List ℕ) (shape : Tree) : Type 0 where
   is_shape : unplaced tree ≡ shape
 
 -- a text of one group has its tree
-one_tree : (text : List ℕ) (inside : List Tree) (a : Trip 64 (start text) (Group 0 inside ∷ []) []) → Treed text (Group 0 inside)
+one_tree : (text : List ℕ) (inside : List Tree) (a : Trip 64 (start text) (Group 0 inside ∷ []) [])
+    → Treed text (Group 0 inside)
 one_tree text inside a = by a.items a.is a.shows a.deep
   where
     by : (items : List Tree) → map unplaced items ≡ Group 0 inside ∷ [] → map shown a.ts ≡ flat_map flat items
@@ -119,10 +125,18 @@ one_tree text inside a = by a.items a.is a.shows a.deep
 
 -- where a text begins
 starts : (text : List ℕ) → Stands false (start text) (text ++ [])
-starts text = record { gap = []; blanks = tt; text = sym (append-nil text); calm = tt; opened_is = refl; quote_is = refl }
+starts text = record {
+  gap = [];
+  blanks = tt;
+  text = sym (append-nil text);
+  calm = tt;
+  opened_is = refl;
+  quote_is = refl;
+}
 
 -- the text of a session has the session's tree
-pub session_treed : (d : Design) (items : List Item) (omit_fixed : Bool) → HasPrintableNames d → HasSessionTree d items omit_fixed
+pub session_treed : (d : Design) (items : List Item) (omit_fixed : Bool) → HasPrintableNames d
+    → HasSessionTree d items omit_fixed
 unfolding session_tree
 session_treed d items omit_fixed h =
     let text = session_of d items omit_fixed in

@@ -89,7 +89,8 @@ component_tree nm c cs = group_tree (codes "component") (word_tree c.image ∷ p
 -- the images behind that of b, one for each change
 abbrev pub components_on : ℕ → Component → List Component → List Tree
 components_on nm b [] = []
-components_on nm b (c ∷ cs) = (if bytes_eq b.image c.image then [] else component_tree nm c cs ∷ []) ++ components_on nm c cs
+components_on nm b (c ∷ cs) =
+    (if bytes_eq b.image c.image then [] else component_tree nm c cs ∷ []) ++ components_on nm c cs
 
 abbrev pub component_trees : ℕ → List Component → List Tree
 component_trees nm [] = []
@@ -112,12 +113,14 @@ spine_trees nm (Area loops) = flat_map (flat_map (point_trees nm)) loops
 
 unfoldable pub shape_trees : Design → ℕ → Piece → List Tree
 shape_trees d nm c = group_tree (codes "shape")
-    (group_tree (shape_head c.spine) (layer_tree d c.layer ∷ number_tree nm (pos c.width) ∷ spine_trees nm c.spine) ∷ []) ∷ []
+    (group_tree (shape_head c.spine)
+    (layer_tree d c.layer ∷ number_tree nm (pos c.width) ∷ spine_trees nm c.spine) ∷ []) ∷ []
 
 -- a padstack of the library
 unfoldable pub stack_tree : Design → ℕ → Padstack → Tree
 stack_tree d nm s = group_tree (codes "padstack")
-    (word_tree s.name ∷ flat_map (shape_trees d nm) s.pieces ++ group_tree (codes "attach") (word_tree (codes "off") ∷ []) ∷ [])
+    (word_tree s.name ∷ flat_map (shape_trees d nm) s.pieces
+    ++ group_tree (codes "attach") (word_tree (codes "off") ∷ []) ∷ [])
 
 -- it is printed where an item names it
 abbrev pub stack_trees : Design → ℕ → List Item → (ℕ × Padstack) → List Tree

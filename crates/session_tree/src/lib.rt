@@ -7,7 +7,7 @@ ghost use Rattle.pcb_model.specs.declared.item.Item.{Item as OneItem};
 ghost use Rattle.pcb_model.specs.Sound.{HasPrintableNames};
 ghost use Rattle.session_tree.specs.Told.{HasSessionTree};
 
-/// The text of a session spells one tree, whose words and groups are those of the session's lists.
+/// The text of a session spells a tree, whose words and groups are those of the session's lists.
 pub fn sessions_have_trees()
     ensures { (d : TheDesign) (items : Seq OneItem) (omit_fixed : Bool) → HasPrintableNames d
         → HasSessionTree d items omit_fixed }

@@ -1,0 +1,12 @@
+pub mod Measured
+pub mod Places
+pub mod Values
+pub mod Refusals
+pub mod Numbers
+pub mod Groups
+pub mod Named
+pub mod Metals
+pub mod Nets
+pub mod Whole
+pub mod Boards
+pub mod Law

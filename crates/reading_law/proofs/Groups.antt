@@ -44,7 +44,8 @@ group_is_none : (head : List ℕ) (ts : List Tree) → is_word (group_tree head 
 group_is_none head ts = ap is_word_in (outs-Group 0 (word_tree head ∷ ts))
 
 -- its head
-pub headed : (head own : List ℕ) (ts : List Tree) → is_headed head (group_tree own ts) ≡ str_eq_ignore_ascii_case own head
+pub headed : (head own : List ℕ) (ts : List Tree)
+    → is_headed head (group_tree own ts) ≡ str_eq_ignore_ascii_case own head
 headed head own ts = ap (λ (us : List Tree). is_keyword head (heads.text_of (slice_get us 0))) (items_are own ts)
     ∙ ap (λ x. is_keyword head (heads.text_in x)) (outs-Word 0 own)
 
@@ -115,7 +116,8 @@ child_is head own ts = ap (λ (us : List Tree). find (is_headed head) us) (items
 -- behind a word
 pub not_word : (head text : List ℕ) (ts : List Tree)
     → find (is_headed head) (word_tree text ∷ ts) ≡ find (is_headed head) ts
-not_word head text ts = ap (λ (b : Bool). cond b (Some (word_tree text)) (find (is_headed head) ts)) (no_head head text)
+not_word head text ts = ap (λ (b : Bool). cond b (Some (word_tree text)) (find (is_headed head) ts))
+    (no_head head text)
 
 -- behind a list of another head
 pub not_here : (head : List ℕ) (t : Tree) (ts : List Tree) → is_headed head t ≡ false

@@ -10,7 +10,8 @@ use Rattle.pcb_board.specs.Boards.{BoardOf}
 use Rattle.pcb_board.specs.Keeping.{IsBoard}
 use Rattle.dsn_tree.specs.declared.tree.Tree.{Tree}
 use Rattle.dsn_tree.specs.declared.fault.TreeFault.{TreeFault}
-use Rattle.dsn_tree.specs.declared.fault.TreeFault.TheVariants.{BadQuoteByte, Empty, QuoteOpen, Surplus, TooDeep, Unclosed}
+use Rattle.dsn_tree.specs.declared.fault.TreeFault.TheVariants.{BadQuoteByte, Empty, QuoteOpen, Surplus, TooDeep}
+use Rattle.dsn_tree.specs.declared.fault.TreeFault.TheVariants.{Unclosed}
 use Rattle.dsn_tree.specs.declared.fault.TreeFault.TheVariants as tree
 use Rattle.dsn_tree.specs.Trees.{HasFault, HasTree, Unless}
 use Rattle.dsn_shapes.specs.Refusals.{least}
@@ -51,7 +52,8 @@ module _ (b : BoardOf) (omit_fixed : Bool) (board : IsBoard b) (legal : IsLegal 
       (scaled_of b.design board.sound.few_per) board.sound.distinct_names board.sound.parts
       (filter (is_printed omit_fixed) b.items)
       (All-filter (is_printed omit_fixed) (IsItemOf b.design) b.items serves.items_fit)
-      (All-filter (is_printed omit_fixed) (λ (a : Item). IsRouted a → IsMade b.design a) b.items legal.made) whole readable
+      (All-filter (is_printed omit_fixed) (λ (a : Item). IsRouted a → IsMade b.design a) b.items legal.made) whole
+      readable
 
   -- the tree tells the wiring
   pub tells : map told (session_items b.design t) ≡ printed_wiring b.design b.items omit_fixed
@@ -81,6 +83,6 @@ module _ (b : BoardOf) (omit_fixed : Bool) (board : IsBoard b) (legal : IsLegal 
   reads_back one there (Err (Spelling f)) reads = no_fault f (HasFault (session_of b.design b.items omit_fixed) f)
       (one.no_fault (session_of b.design b.items omit_fixed) b.design (session_items b.design t) f (has_session there))
       reads
-  reads_back one there (Err (Refused number at)) reads = one.no_refusal (session_of b.design b.items omit_fixed) b.design
-      (session_items b.design t) number at (has_session there) reads
+  reads_back one there (Err (Refused number at)) reads = one.no_refusal (session_of b.design b.items omit_fixed)
+      b.design (session_items b.design t) number at (has_session there) reads
   reads_back one there (Err (Memory e)) reads = tt

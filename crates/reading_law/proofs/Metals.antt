@@ -1,6 +1,7 @@
 -- The list of a printed wire or via reads as its copper, without a refusal.
 use Rattle.std.proofs.Common.{◌≡◌, ◌⊎◌, inl, inr, ◌∙◌, ap, ap₂, sym, subst, ℕ, ℤ, pos, suc, ◌+◌, ◌*◌, ◌^◌, ◌<◌, ◌≤◌}
-use Rattle.std.proofs.Common.{◌-◌, ◌/◌, Bool, true, false, cond, ◌||◌, List, [], ◌∷◌, ◌++◌, map, length, reverse, drop}
+use Rattle.std.proofs.Common.{◌-◌, ◌/◌, Bool, true, false, cond, ◌||◌, List, [], ◌∷◌, ◌++◌, map, length, reverse}
+use Rattle.std.proofs.Common.{drop}
 use Rattle.std.proofs.Common.{refl, arith, Some, None}
 use Rattle.std.specs.Prelude.{◌+ℤ◌, All, Option, codes, filter, is_some, min, not, slice_get, unsigned_abs}
 use Rattle.std.specs.Prelude.{unwrap_or}
@@ -113,7 +114,8 @@ module _ (m : Measure) (nm : ℕ) (scaled : IsScaled m nm) where
   number_back : (x : ℤ) → IsExact nm x → word_coord m (number_tree nm x) ≡ Some x
   number_back x h =
       let n = near nm x scaled.some_nm h.whole in
-      ap (λ (text : List ℕ). number_by (coord_of m) (decimal_of text)) (text_is (signed_decimal (printing.nearest nm x)))
+      ap (λ (text : List ℕ). number_by (coord_of m) (decimal_of text))
+      (text_is (signed_decimal (printing.nearest nm x)))
       ∙ coord_back m nm scaled (printing.nearest nm x) x n.small n.back h.small
 
   -- a point's coordinates are exact
@@ -145,7 +147,8 @@ module _ (m : Measure) (nm : ℕ) (scaled : IsScaled m nm) where
   all_words : (ps : List Point) → filter is_word (words nm ps) ≡ words nm ps
   all_words [] = refl
   all_words (p ∷ ps) = word_first (signed_decimal (printing.nearest nm p.x)) (number_tree nm p.y ∷ words nm ps)
-      ∙ ap (λ (ts : List Tree). number_tree nm p.x ∷ ts) (word_first (signed_decimal (printing.nearest nm p.y)) (words nm ps)
+      ∙ ap (λ (ts : List Tree). number_tree nm p.x ∷ ts)
+      (word_first (signed_decimal (printing.nearest nm p.y)) (words nm ps)
       ∙ ap (λ (ts : List Tree). number_tree nm p.y ∷ ts) (all_words ps))
 
   -- two for each
@@ -323,7 +326,8 @@ module _ (d : Design) (m : Measure) (nm : ℕ) (scaled : IsScaled m nm) (differ 
   wire_none l w ps h =
       let t = group_tree (codes "wire") (path_tree l w ps ∷ []) in
       ap (λ (b : Bool). cond b (via_refusals d m t) (wire_refusals d m t)) (no_via (path_tree l w ps ∷ []))
-      ∙ ap (λ (ts : List Tree). option_map_or (path_refusals d m) (only ts) (refused 6 (at_of t) ∷ [])) (wire_path l w ps)
+      ∙ ap (λ (ts : List Tree). option_map_or (path_refusals d m) (only ts) (refused 6 (at_of t) ∷ []))
+      (wire_path l w ps)
       ∙ path_none l w ps h.within h.exact h.small h.long h.points
 
   -- ---- a via
@@ -347,7 +351,8 @@ module _ (d : Design) (m : Measure) (nm : ℕ) (scaled : IsScaled m nm) (differ 
   -- its padstack
   via_stack : (k : ℕ) (at : Point) → IsVia k at → padstack_place d (the_via k at) ≡ Some k
   via_stack k at h = ap (λ (name : List ℕ). first_place name (padstack_names d))
-      (name_is (codes "via") (option_map_or (λ (s : Padstack). s.name) (slice_get d.padstacks k) []) (point_trees nm at))
+      (name_is (codes "via") (option_map_or (λ (s : Padstack). s.name) (slice_get d.padstacks k) [])
+      (point_trees nm at))
       ∙ name_at (λ (s : Padstack). s.name) d.padstacks k differ.padstacks h.within
 
   -- its coordinates

@@ -49,7 +49,8 @@ module _ {X : Type 0} (name : X → List ℕ) where
   pub found_name : (xs : List X) (i : ℕ) (x : X) → AllPairs (λ (a b : X). name a ≢ name b) xs → slice_get xs i ≡ Some x
       → first_place (name x) (map name xs) ≡ Some i
   unfolding first_place
-  found_name xs i x h there = found_from xs 0 i x h there ∙ ap (λ (n : ℕ). Some n) (let e : 0 + i ≡ i = omega arith in e)
+  found_name xs i x h there = found_from xs 0 i x h there
+      ∙ ap (λ (n : ℕ). Some n) (let e : 0 + i ≡ i = omega arith in e)
 
   -- the name at a place is found there
   pub name_at : (xs : List X) (i : ℕ) → AllPairs (λ (a b : X). name a ≢ name b) xs → i < length xs

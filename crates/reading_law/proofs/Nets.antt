@@ -1,5 +1,6 @@
 -- The lists of printed nets read as their copper, without a refusal.
-use Rattle.std.proofs.Common.{◌≡◌, ◌∙◌, ap, sym, subst, ℕ, zero, suc, ◌+◌, ◌-◌, ◌^◌, Bool, true, false, cond, List, [], ◌∷◌}
+use Rattle.std.proofs.Common.{◌≡◌, ◌∙◌, ap, sym, subst, ℕ, zero, suc, ◌+◌, ◌-◌, ◌^◌, Bool, true, false, cond, List}
+use Rattle.std.proofs.Common.{[], ◌∷◌}
 use Rattle.std.proofs.Common.{◌++◌, map, length, refl, arith, Some}
 use Rattle.std.specs.Prelude.{◌==◌, All, codes, filter, is_some, min, slice_get, unwrap_or, flat_map}
 use Rattle.std.specs.List.{enumerate_from, range_with_len}
@@ -26,8 +27,8 @@ use Rattle.ses_reader.specs.Measures.{refused_unless}
 use Rattle.ses_reader.specs.Copper.{metal_refusals}
 use Rattle.ses_reader.specs.Session.{copper_in, item_of, net_items, net_place, net_refusals, network_items}
 use Rattle.ses_reader.specs.Session.{network_refusals, nets_in}
-use Rattle.session_tree.specs.Shape.{copper_trees, group_tree, metal_trees, net_trees, net_with, network_tree, via_tree}
-use Rattle.session_tree.specs.Shape.{wire_tree, word_tree}
+use Rattle.session_tree.specs.Shape.{copper_trees, group_tree, metal_trees, net_trees, net_with, network_tree}
+use Rattle.session_tree.specs.Shape.{via_tree, wire_tree, word_tree}
 use Rattle.reading_law.specs.Back.{net_wiring, printed_metal, told}
 use Rattle.reading_law.proofs.Numbers.{IsScaled}
 use Rattle.reading_law.proofs.Groups.{here, lists_are, name_is, passed}
@@ -115,7 +116,8 @@ module _ (d : Design) (m : Measure) (nm : ℕ) (scaled : IsScaled m nm) (differ 
   -- its place
   net_is : (k : ℕ) (n : Net) (copper : List Tree) → slice_get d.nets k ≡ Some n
       → net_place d (net_tree n.name copper) ≡ Some k
-  net_is k n copper there = ap (λ (name : List ℕ). first_place name (net_names d)) (name_is (codes "net") n.name copper)
+  net_is k n copper there = ap (λ (name : List ℕ). first_place name (net_names d))
+      (name_is (codes "net") n.name copper)
       ∙ found_name (λ (x : Net). x.name) d.nets k n differ.nets there
 
   -- it tells its copper
@@ -157,7 +159,8 @@ module _ (d : Design) (m : Measure) (nm : ℕ) (scaled : IsScaled m nm) (differ 
       → flat_map (net_refusals d m) (net_with n.name copper) ≡ []
   net_clear k n [] there e none = refl
   net_clear k n (c ∷ cs) there e none =
-      ap (λ (b : Bool). flat_map (net_refusals d m) (cond b [] (net_tree n.name (c ∷ cs) ∷ []))) (eqb-suc-zero (length cs))
+      ap (λ (b : Bool). flat_map (net_refusals d m) (cond b [] (net_tree n.name (c ∷ cs) ∷ [])))
+      (eqb-suc-zero (length cs))
       ∙ append-nil (net_refusals d m (net_tree n.name (c ∷ cs))) ∙ net_none k n (c ∷ cs) there e none
 
   -- its head

@@ -12,7 +12,8 @@ use Rattle.dsn_tree.specs.declared.tree.Tree.TheViews.{out-Tree, roll-Tree, roll
 use Rattle.dsn_tree.specs.declared.tree.Tree.TheFolds.{fold-roll-Tree}
 use Rattle.dsn_tree.specs.Heads.{items_of, items_in, is_headed, is_keyword, child}
 use Rattle.dsn_tree.specs.Heads as heads
-use Rattle.dsn_shapes.specs.Lists.{is_word, is_word_in, text_of, text_in, has_head, lists, words_of, nth_word, name_of}
+use Rattle.dsn_shapes.specs.Lists.{is_word, is_word_in, text_of, text_in, has_head, lists, words_of, nth_word}
+use Rattle.dsn_shapes.specs.Lists.{name_of}
 use Rattle.session_tree.specs.Shape.{unplaced, unplaced_step}
 
 -- ---- one layer

@@ -1,5 +1,6 @@
 -- What a session's lists say doesn't depend on the places of their words.
-use Rattle.std.proofs.Common.{◌≡◌, ◌∙◌, ap, sym, ℕ, zero, suc, Bool, true, false, cond, List, [], ◌∷◌, ◌++◌, map, length, drop}
+use Rattle.std.proofs.Common.{◌≡◌, ◌∙◌, ap, sym, ℕ, zero, suc, Bool, true, false, cond, List, [], ◌∷◌, ◌++◌, map}
+use Rattle.std.proofs.Common.{length, drop}
 use Rattle.std.proofs.Common.{refl, Some, None}
 use Rattle.std.specs.Prelude.{◌==◌, Option, slice_get, codes, unwrap_or}
 use Rattle.std.specs.List.{flat_map}
@@ -194,5 +195,6 @@ module _ (d : Design) where
   -- the items of a session
   pub session_told : (t : Tree) → map told (session_items d (unplaced t)) ≡ map told (session_items d t)
   unfolding session_items
-  session_told t = ap (λ (o : Option Tree). map told (option_map_or (routes_items d) o [])) (child_kept t (codes "routes"))
+  session_told t = ap (λ (o : Option Tree). map told (option_map_or (routes_items d) o []))
+      (child_kept t (codes "routes"))
       ∙ told_of (routes_items d) routes_told (child t (codes "routes"))

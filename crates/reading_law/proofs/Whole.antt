@@ -1,5 +1,6 @@
 -- The tree of a written session reads as its printed wiring, without a refusal.
-use Rattle.std.proofs.Common.{◌≡◌, ◌∙◌, ap, sym, ℕ, zero, suc, ◌*◌, ◌/◌, ◌<◌, ◌≤◌, Bool, true, false, cond, ◌&&◌, List, [], ◌∷◌, map}
+use Rattle.std.proofs.Common.{◌≡◌, ◌∙◌, ap, sym, ℕ, zero, suc, ◌*◌, ◌/◌, ◌<◌, ◌≤◌, Bool, true, false, cond, ◌&&◌}
+use Rattle.std.proofs.Common.{List, [], ◌∷◌, map}
 use Rattle.std.proofs.Common.{refl, arith, Some, lit<}
 use Rattle.std.specs.Prelude.{All, Option, codes, decimal, filter, is_some, nat_lt, unwrap_or}
 use Rattle.std.specs.Option.{option_map_or}
@@ -63,7 +64,8 @@ scale_by d keeps = cond keeps (record { unit = d.unit; per = d.per; nm = unit_nm
 scaled_by : (d : Design) → d.per ≤ 1000000 → (b : Bool) → keeps_resolution d ≡ b
     → IsScaled (measure_of (scale_by d b)) (scale_by d b).nm
 scaled_by d few true e =
-    let parts = and_parts (nat_lt 0 d.per && is_whole d.per (unit_nm d.unit)) (is_on_scale d (unit_nm d.unit / d.per)) e in
+    let parts = and_parts (nat_lt 0 d.per && is_whole d.per (unit_nm d.unit))
+    (is_on_scale d (unit_nm d.unit / d.per)) e in
     let both = and_parts (nat_lt 0 d.per) (is_whole d.per (unit_nm d.unit)) parts.0 in
     let unit = sym (multiple d.per (unit_nm d.unit) both.1) in
     record {
@@ -234,8 +236,8 @@ module _ (d : Design) (items : List Item) (omit_fixed : Bool) where
   session_headed = headed (codes "session") (codes "session") _
 
   module _ (few_per : d.per ≤ 1000000) (differ : HasDistinctNames d) (few : HasFewParts d)
-      (back : All (λ (a : Item). IsReadBack d (measure_of (scale_of d)) (scale_of d).nm (scaled_of d few_per) differ few
-      a.metal) printed) where
+      (back : All (λ (a : Item). IsReadBack d (measure_of (scale_of d)) (scale_of d).nm (scaled_of d few_per)
+      differ few a.metal) printed) where
     -- the tree tells the wiring
     tree_told : map told (session_items d (session_tree d items omit_fixed)) ≡ printed_wiring d items omit_fixed
     unfolding session_items printed_wiring

@@ -38,7 +38,8 @@ HasTwoPoints (Via padstack at) = Unit {0}
 HasTwoPoints (Pad pin) = Unit {0}
 HasTwoPoints (Ban wires vias) = Unit {0}
 
--- so has that of the item, and fixed copper has the pieces that its metal makes
+-- The item's wire has two points or more, as the reader wants of a path; fixed copper has the pieces that its metal
+-- makes, as routed copper has on each legal board.
 pub record IsReadable (d : Design) (a : Item) : Type 0 where
   pub points : HasTwoPoints a.metal
   pub pieces : a.fixed ≡ true → is_copper a.metal ≡ true → a.pieces ≡ pieces_of d a.metal

@@ -17,8 +17,9 @@ use pcb_board::boards_serve;
 use ses_reader::one_session;
 use session_tree::sessions_have_trees;
 
-/// Reading the session of a board whose printed copper is on scale and can be read answers the printed wiring, or want
-/// of memory.
+/// Reading the session of a board answers the printed wiring, item by item in the printed order, or want of memory:
+/// where all printed copper is on scale, each printed wire has two points or more, and fixed copper has the pieces that
+/// its metal makes.
 pub fn sessions_read_back()
     ensures { (b : BoardOf) (omit_fixed : Bool) (result : Result (Seq OneSesItem) OneSesFault) → IsBoard b
         → All (λ (a : OneItem). is_whole_copper (scale_of b.design).nm a.metal ≡ true)

@@ -8,8 +8,9 @@ ghost use Rattle.board_picture.specs.Picture.{keepout_group, layer_name, layer_g
 ghost use Rattle.board_picture.specs.Picture.{through_group, hole_group, copper_part};
 
 use crate::paint::{put_paint, put_through_paint};
-use crate::shapes::{is_keepout, is_land, is_through, is_wire};
-use crate::shapes::{put_broad_pieces, put_hole, put_pieces, put_pieces_on};
+use crate::shapes::{
+    is_keepout, is_land, is_through, is_wire, put_broad_pieces, put_hole, put_pieces, put_pieces_on,
+};
 use crate::words::put_escaped;
 use pcb_model::{Design, Item};
 use ses_writer::put;

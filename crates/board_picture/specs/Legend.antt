@@ -1,7 +1,7 @@
 -- The colours of layers, and the legend, whose rows are one unit high.
-use Rattle.std.specs.Prelude.{ℕ, ◌+◌, ◌/◌, ◌%◌, ◌==◌, if◌then◌else◌, List, [], ◌++◌, length, count_by}
+use Rattle.std.specs.Prelude.{ℕ, ◌+◌, ◌/◌, ◌%◌, ◌==◌, Bool, ◌&&◌, if◌then◌else◌, List, [], ◌++◌, length, count_by}
 use Rattle.std.specs.Prelude.{flat_map, codes, decimal}
-use Rattle.std.specs.List.{enumerate_from}
+use Rattle.std.specs.List.{enumerate_from, list_any}
 use Rattle.pcb_model.specs.declared.item.Item.{Item}
 use Rattle.pcb_model.specs.declared.design.BoardLayer.{BoardLayer}
 use Rattle.pcb_model.specs.declared.design.Design.{Design}
@@ -9,7 +9,7 @@ use Rattle.board_picture.specs.declared.open.OpenLine.{OpenLine}
 use Rattle.board_picture.specs.declared.sheet.Sheet.{Sheet}
 use Rattle.board_picture.specs.Words.{length_word, escaped}
 use Rattle.board_picture.specs.Sheet.{legend_left}
-use Rattle.board_picture.specs.Shapes.{is_wire, is_via}
+use Rattle.board_picture.specs.Shapes.{is_wire, is_via, is_through, is_keepout, have_breadth}
 
 -- ---- colours
 
@@ -29,6 +29,10 @@ unfoldable pub paint_words : ℕ → List ℕ
 paint_words layer = codes " fill=\"" ++ colour_word (layer % 8) ++ codes "\" stroke=\"" ++ colour_word (layer % 8)
     ++ codes "\" opacity=\"0.85\"" ++ dash_words (layer / 8)
 
+-- what goes through the board
+abbrev pub through_paint : List ℕ
+through_paint = codes " fill=\"#000\" stroke=\"#000\" opacity=\"0.85\""
+
 -- ---- rows
 
 unfoldable pub row_head : ℕ → List ℕ
@@ -46,6 +50,10 @@ unfoldable pub layer_row : (ℕ × BoardLayer) → List ℕ
 layer_row (i, layer) = swatch_head i ++ codes "0.6\"" ++ paint_words i ++ codes "/>"
     ++ row_head i ++ escaped layer.name ++ codes "</text>\n"
 
+unfoldable pub through_row : ℕ → List ℕ
+through_row row = swatch_head row ++ codes "0.6\"" ++ through_paint ++ codes "/>" ++ row_head row
+    ++ codes "through pads and vias</text>\n"
+
 -- the hatching of keepouts
 unfoldable pub keepout_row : ℕ → List ℕ
 keepout_row row = swatch_head row ++ codes "0.6\" stroke=\"url(#hatch)\"/>" ++ row_head row
@@ -59,6 +67,35 @@ open_row row count = swatch_head row ++ codes "0.06\" stroke=\"#E0007A\" stroke-
 -- how wide and high the board is
 unfoldable pub size_row : ℕ → Sheet → List ℕ
 size_row row s = row_head row ++ length_word s.wide ++ codes " x " ++ length_word s.high ++ codes " mm</text>\n"
+
+-- ---- rows of what is there
+
+abbrev pub has_through : List Item → Bool
+has_through items = list_any is_through items
+
+-- hatched copper has a breadth, unlike the board's edge
+abbrev pub is_hatched : Item → Bool
+is_hatched a = is_keepout a.metal && have_breadth a.pieces
+
+abbrev pub has_keepout : List Item → Bool
+has_keepout items = list_any is_hatched items
+
+abbrev pub through_rows : Bool → ℕ → List ℕ
+through_rows there row = if there then through_row row else []
+
+abbrev pub keepout_rows : Bool → ℕ → List ℕ
+keepout_rows there row = if there then keepout_row row else []
+
+abbrev pub row_if : Bool → ℕ
+row_if there = if there then 1 else 0
+
+-- how many there are, and their rows from this one on
+abbrev pub mark_count : List Item → ℕ
+mark_count items = row_if (has_through items) + row_if (has_keepout items)
+
+unfoldable pub mark_rows : ℕ → List Item → List ℕ
+mark_rows row items = through_rows (has_through items) row
+    ++ keepout_rows (has_keepout items) (row + row_if (has_through items))
 
 -- ---- the whole
 
@@ -83,6 +120,6 @@ layer_rows d = flat_map layer_row (enumerate_from 0 d.layers)
 
 unfoldable pub legend_part : Sheet → Design → List Item → List OpenLine → List ℕ
 legend_part s d items lines =
-    let row = length d.layers in
-    legend_head s ++ layer_rows d ++ keepout_row row ++ open_row (row + 1) (length lines)
-    ++ count_rows (row + 2) d items ++ size_row (row + 5) s ++ codes "</g>\n"
+    let row = length d.layers + mark_count items in
+    legend_head s ++ layer_rows d ++ mark_rows (length d.layers) items ++ open_row row (length lines)
+    ++ count_rows (row + 1) d items ++ size_row (row + 4) s ++ codes "</g>\n"

@@ -12,8 +12,8 @@ use Rattle.board_picture.specs.declared.open.OpenLine.{OpenLine}
 use Rattle.board_picture.specs.declared.sheet.Sheet.{Sheet}
 use Rattle.board_picture.specs.Words.{length_word, mm_word, point_words, escaped}
 use Rattle.board_picture.specs.Sheet.{sheet_of, sheet_width, sheet_height, rows_of, shift_x, shift_y}
-use Rattle.board_picture.specs.Shapes.{loop_words, wire_on, land_on, keepout_shapes, hole_of}
-use Rattle.board_picture.specs.Legend.{paint_words, legend_part}
+use Rattle.board_picture.specs.Shapes.{loop_words, wire_on, land_on, through_shapes, keepout_shapes, hole_of}
+use Rattle.board_picture.specs.Legend.{paint_words, through_paint, legend_part}
 
 -- ---- the head
 
@@ -28,7 +28,7 @@ head_part s d = codes "<svg xmlns=\"http://www.w3.org/2000/svg\" viewBox=\"0 0 "
     ++ codes " " ++ length_word (sheet_height s (rows_of d)) ++ codes "\" font-family=\"sans-serif\">\n<title>"
     ++ escaped d.name ++ codes "</title>\n" ++ ground_words
 
--- the board's left upper corner comes to a unit from the sheet's, and y turns upwards
+-- the board's left upper corner comes to its place on the sheet, and y turns upwards
 unfoldable pub board_head : Sheet → List ℕ
 board_head s = codes "<g transform=\"translate(" ++ mm_word (shift_x s) ++ codes " " ++ mm_word (shift_y s)
     ++ codes ") scale(1 -1)\" fill-rule=\"evenodd\"" ++ codes " stroke-linecap=\"round\" stroke-linejoin=\"round\">\n"
@@ -42,7 +42,7 @@ keepout_group items = codes "<g class=\"keepouts\" fill=\"url(#hatch)\" stroke=\
 abbrev pub layer_name : Design → ℕ → List ℕ
 layer_name d layer = option_map_or (λ (l : BoardLayer). l.name) (slice_get d.layers layer) []
 
--- pads and vias over wires
+-- pads and vias of this layer alone lie over its wires
 unfoldable pub layer_group : Design → List Item → ℕ → List ℕ
 layer_group d items layer =
     codes "<g id=\"" ++ escaped (layer_name d layer) ++ codes "\"" ++ paint_words layer ++ codes ">\n"
@@ -53,9 +53,13 @@ abbrev pub layer_groups : Design → List Item → ℕ → List ℕ
 layer_groups d items zero = []
 layer_groups d items (suc layer) = layer_group d items layer ++ layer_groups d items layer
 
+-- black, over all layers
+unfoldable pub through_group : List Item → List ℕ
+through_group items = codes "<g class=\"through\"" ++ through_paint ++ codes ">\n" ++ flat_map through_shapes items
+    ++ codes "</g>\n"
+
 unfoldable pub hole_group : Design → List Item → List ℕ
-hole_group d items = codes "<g class=\"holes\" fill=\"#fff\" stroke=\"#000\" stroke-width=\"0.05\">\n"
-    ++ flat_map (λ (a : Item). hole_of d a.metal) items ++ codes "</g>\n"
+hole_group d items = codes "<g class=\"holes\" fill=\"#fff\">\n" ++ flat_map (hole_of d) items ++ codes "</g>\n"
 
 -- ---- edge, names and open connections
 
@@ -66,14 +70,16 @@ unfoldable pub edge_group : Sheet → Design → List ℕ
 edge_group s d = codes "<g class=\"edge\" fill=\"none\" stroke=\"#000\" stroke-width=\""
     ++ length_word (s.unit / 10) ++ codes "\">\n" ++ flat_map bound_shape d.bounds ++ codes "</g>\n"
 
--- a name at its component's place, turned back so that it can be read
+-- turned back so that it can be read
 unfoldable pub name_text : Component → List ℕ
 name_text c = codes "<text transform=\"matrix(1 0 0 -1" ++ point_words c.at ++ codes ")\">" ++ escaped c.name
     ++ codes "</text>\n"
 
+-- names end to the left of and above their components' places, where the first pad often lies
 unfoldable pub name_group : Sheet → Design → List ℕ
-name_group s d = codes "<g class=\"names\" font-size=\"" ++ length_word (s.unit / 2)
-    ++ codes "\" text-anchor=\"middle\" stroke=\"#fff\" stroke-width=\"" ++ length_word (s.unit / 10)
+name_group s d = codes "<g class=\"names\" transform=\"translate(-" ++ length_word (s.unit / 3)
+    ++ codes " " ++ length_word (s.unit / 3) ++ codes ")\" font-size=\"" ++ length_word (s.unit / 2)
+    ++ codes "\" text-anchor=\"end\" stroke=\"#fff\" stroke-width=\"" ++ length_word (s.unit / 10)
     ++ codes "\" paint-order=\"stroke\">\n" ++ flat_map name_text d.components ++ codes "</g>\n"
 
 unfoldable pub open_shape : OpenLine → List ℕ
@@ -87,7 +93,8 @@ open_group s lines = codes "<g class=\"open\" fill=\"none\" stroke=\"#E0007A\" s
 -- ---- the whole
 
 unfoldable pub copper_part : Design → List Item → List ℕ
-copper_part d items = keepout_group items ++ layer_groups d items (length d.layers) ++ hole_group d items
+copper_part d items = keepout_group items ++ layer_groups d items (length d.layers) ++ through_group items
+    ++ hole_group d items
 
 unfoldable pub board_part : Sheet → Design → List Item → List OpenLine → List ℕ
 board_part s d items lines = board_head s ++ copper_part d items ++ edge_group s d ++ name_group s d

@@ -1,6 +1,7 @@
 -- What is drawn of the pieces of copper: their spines, with the widths that they have and round ends.
-use Rattle.std.specs.Prelude.{ℕ, ◌==◌, Bool, true, false, not, ◌&&◌, if◌then◌else◌, List, [], ◌++◌, flat_map}
-use Rattle.std.specs.Prelude.{codes, slice_get}
+use Rattle.std.specs.Prelude.{ℕ, ◌/◌, ◌==◌, Bool, true, false, not, ◌&&◌, ◌||◌, if◌then◌else◌, List, [], ◌∷◌, ◌++◌}
+use Rattle.std.specs.Prelude.{flat_map, codes, slice_get}
+use Rattle.std.specs.List.{list_any}
 use Rattle.std.specs.Option.{option_map_or}
 use Rattle.geo_kernel.specs.declared.point.Point.{Point}
 use Rattle.geo_kernel.specs.declared.spine.Spine.{Spine}
@@ -12,6 +13,7 @@ use Rattle.pcb_model.specs.declared.item.Item.{Item}
 use Rattle.pcb_model.specs.declared.design.Pin.{Pin}
 use Rattle.pcb_model.specs.declared.design.Design.{Design}
 use Rattle.board_picture.specs.Words.{length_word, point_words}
+use Rattle.board_picture.specs.Sheet.{narrow_side}
 
 -- ---- pieces
 
@@ -50,6 +52,32 @@ is_keepout (Ban wires vias) = true
 abbrev pub is_land : Metal → Bool
 is_land metal = not (is_wire metal) && not (is_keepout metal)
 
+-- some piece lies on another layer
+abbrev pub leaves_layer : ℕ → List Piece → Bool
+leaves_layer layer pieces = list_any (λ (p : Piece). not (p.layer == layer)) pieces
+
+-- copper on two layers or more
+abbrev pub spans_layers : List Piece → Bool
+spans_layers [] = false
+spans_layers (c ∷ rest) = leaves_layer c.layer rest
+
+-- a via or pad that goes through the board
+abbrev pub is_through : Item → Bool
+is_through a = is_land a.metal && spans_layers a.pieces
+
+abbrev pub is_area : Spine → Bool
+is_area (Chain points) = false
+is_area (Area loops) = true
+
+-- but for a line of no width, as along the board's edge
+abbrev pub has_breadth : Piece → Bool
+has_breadth c = is_area c.spine || not (c.width == 0)
+
+abbrev pub have_breadth : List Piece → Bool
+have_breadth pieces = list_any has_breadth pieces
+
+-- ---- what is drawn of an item
+
 -- the piece, if it lies on the layer
 abbrev pub shape_on : ℕ → Piece → List ℕ
 shape_on layer c = if c.layer == layer then piece_shape c else []
@@ -60,25 +88,42 @@ shapes_on layer pieces = flat_map (shape_on layer) pieces
 abbrev pub wire_on : ℕ → Item → List ℕ
 wire_on layer a = if is_wire a.metal then shapes_on layer a.pieces else []
 
+-- of a pad or via on one layer alone
 abbrev pub land_on : ℕ → Item → List ℕ
-land_on layer a = if is_land a.metal then shapes_on layer a.pieces else []
+land_on layer a = if is_land a.metal && not (is_through a) then shapes_on layer a.pieces else []
+
+-- of one that goes through, its pieces on all layers
+abbrev pub through_shapes : Item → List ℕ
+through_shapes a = if is_through a then flat_map piece_shape a.pieces else []
+
+abbrev pub broad_shape : Piece → List ℕ
+broad_shape c = if has_breadth c then piece_shape c else []
 
 abbrev pub keepout_shapes : Item → List ℕ
-keepout_shapes a = if is_keepout a.metal then flat_map piece_shape a.pieces else []
+keepout_shapes a = if is_keepout a.metal then flat_map broad_shape a.pieces else []
 
 -- ---- holes
 
--- a small dot
-unfoldable pub hole_dot : Point → List ℕ
-hole_dot p = codes "<circle r=\"0.15\" transform=\"translate(" ++ point_words p ++ codes ")\"/>\n"
+-- how wide a chain is, or the shorter side of an area's box
+abbrev pub breadth : ℕ → Spine → ℕ
+breadth width (Chain points) = width
+breadth width (Area loops) = narrow_side loops
 
--- a surface-mounted pin has no hole
-abbrev pub hole_of_pin : Pin → List ℕ
-hole_of_pin p = if p.smd then [] else hole_dot p.centre
+-- two fifths of the first piece's breadth are between a hole's sides
+abbrev pub hole_radius : List Piece → ℕ
+hole_radius [] = 0
+hole_radius (c ∷ rest) = breadth c.width c.spine / 5
 
--- the place of the hole of a via, or of a pin's pad
-abbrev pub hole_of : Design → Metal → List ℕ
-hole_of d (Wire layer width chain) = []
-hole_of d (Via padstack at) = hole_dot at
-hole_of d (Pad pin) = option_map_or hole_of_pin (slice_get d.pins pin) []
-hole_of d (Ban wires vias) = []
+unfoldable pub hole_dot : ℕ → Point → List ℕ
+hole_dot radius p = codes "<circle r=\"" ++ length_word radius ++ codes "\" transform=\"translate(" ++ point_words p
+    ++ codes ")\"/>\n"
+
+-- at the place of a via, or the centre of a pin
+abbrev pub hole_at : Design → ℕ → Metal → List ℕ
+hole_at d radius (Wire layer width chain) = []
+hole_at d radius (Via padstack at) = hole_dot radius at
+hole_at d radius (Pad pin) = option_map_or (λ (p : Pin). hole_dot radius p.centre) (slice_get d.pins pin) []
+hole_at d radius (Ban wires vias) = []
+
+abbrev pub hole_of : Design → Item → List ℕ
+hole_of d a = if is_through a then hole_at d (hole_radius a.pieces) a.metal else []

@@ -1,15 +1,16 @@
 //! Keepouts, the copper of each layer, and holes.
 
 ghost use Rattle.std.specs.Prelude.{◌≡◌, OnOk, flat_map, length};
-ghost use Rattle.pcb_model.specs.declared.item.Item.{Item as OneItem};
 ghost use Rattle.ses_writer.specs.Words.{Appends};
 ghost use Rattle.board_picture.specs.Words.{escaped};
-ghost use Rattle.board_picture.specs.Shapes.{wire_on, land_on, keepout_shapes, hole_of};
+ghost use Rattle.board_picture.specs.Shapes.{wire_on, land_on, through_shapes, keepout_shapes, hole_of};
 ghost use Rattle.board_picture.specs.Picture.{keepout_group, layer_name, layer_group, layer_groups};
-ghost use Rattle.board_picture.specs.Picture.{hole_group, copper_part};
+ghost use Rattle.board_picture.specs.Picture.{through_group, hole_group, copper_part};
 
-use crate::paint::put_paint;
-use crate::shapes::{is_keepout, is_land, is_wire, put_hole, put_pieces, put_pieces_on};
+use crate::paint::{put_paint, put_through_paint};
+use crate::shapes::{
+    is_keepout, is_land, is_through, is_wire, put_broad_pieces, put_hole, put_pieces, put_pieces_on,
+};
 use crate::words::put_escaped;
 use pcb_model::{Design, Item};
 use ses_writer::put;
@@ -21,7 +22,7 @@ fn put_keepout(out: &mut Vec<u8>, a: &Item) -> Result<(), AllocError>
     ensures { OnOk result (Appends out.old.items out.new.items (keepout_shapes a.now)) }
 {
     if is_keepout(&a.metal) {
-        return put_pieces(out, a.pieces.as_slice());
+        return put_broad_pieces(out, a.pieces.as_slice());
     }
     Ok(())
 }
@@ -71,7 +72,7 @@ fn put_wires(out: &mut Vec<u8>, layer: usize, items: &[Item]) -> Result<(), Allo
 fn put_land(out: &mut Vec<u8>, layer: usize, a: &Item) -> Result<(), AllocError>
     ensures { OnOk result (Appends out.old.items out.new.items (land_on layer a.now)) }
 {
-    if is_land(&a.metal) {
+    if is_land(&a.metal) && !is_through(a) {
         return put_pieces_on(out, layer, a.pieces.as_slice());
     }
     Ok(())
@@ -126,14 +127,43 @@ fn put_layer_groups(out: &mut Vec<u8>, d: &Design, items: &[Item]) -> Result<(),
     Ok(())
 }
 
-// ---- holes
+// ---- what goes through, and holes
 
-fn put_holes(out: &mut Vec<u8>, d: &Design, items: &[Item]) -> Result<(), AllocError>
-    ensures { OnOk result (Appends out.old.items out.new.items
-        (flat_map (λ (a : OneItem). hole_of d.now a.metal) items.now)) }
+fn put_through(out: &mut Vec<u8>, a: &Item) -> Result<(), AllocError>
+    ensures { OnOk result (Appends out.old.items out.new.items (through_shapes a.now)) }
+{
+    if is_through(a) {
+        return put_pieces(out, a.pieces.as_slice());
+    }
+    Ok(())
+}
+
+fn put_throughs(out: &mut Vec<u8>, items: &[Item]) -> Result<(), AllocError>
+    ensures { OnOk result (Appends out.old.items out.new.items (flat_map through_shapes items.now)) }
 {
     for a in items {
-        put_hole(out, d, &a.metal)?;
+        put_through(out, a)?;
+    }
+    Ok(())
+}
+
+#[tactic(auto, unfolding(crate::specs::Picture::through_group))]
+fn put_through_group(out: &mut Vec<u8>, items: &[Item]) -> Result<(), AllocError>
+    ensures { OnOk result (Appends out.old.items out.new.items (through_group items.now)) }
+{
+    put(out, b"<g class=\"through\"")?;
+    put_through_paint(out)?;
+    put(out, b">\n")?;
+    put_throughs(out, items)?;
+    put(out, b"</g>\n")?;
+    Ok(())
+}
+
+fn put_holes(out: &mut Vec<u8>, d: &Design, items: &[Item]) -> Result<(), AllocError>
+    ensures { OnOk result (Appends out.old.items out.new.items (flat_map (hole_of d.now) items.now)) }
+{
+    for a in items {
+        put_hole(out, d, a)?;
     }
     Ok(())
 }
@@ -142,22 +172,20 @@ fn put_holes(out: &mut Vec<u8>, d: &Design, items: &[Item]) -> Result<(), AllocE
 fn put_hole_group(out: &mut Vec<u8>, d: &Design, items: &[Item]) -> Result<(), AllocError>
     ensures { OnOk result (Appends out.old.items out.new.items (hole_group d.now items.now)) }
 {
-    put(
-        out,
-        b"<g class=\"holes\" fill=\"#fff\" stroke=\"#000\" stroke-width=\"0.05\">\n",
-    )?;
+    put(out, b"<g class=\"holes\" fill=\"#fff\">\n")?;
     put_holes(out, d, items)?;
     put(out, b"</g>\n")?;
     Ok(())
 }
 
-/// Keepouts, then the layers, and then the holes.
+/// Keepouts, the layers, what goes through all of them, and then the holes.
 #[tactic(auto, unfolding(crate::specs::Picture::copper_part))]
 pub(crate) fn put_copper(out: &mut Vec<u8>, d: &Design, items: &[Item]) -> Result<(), AllocError>
     ensures { OnOk result (Appends out.old.items out.new.items (copper_part d.now items.now)) }
 {
     put_keepout_group(out, items)?;
     put_layer_groups(out, d, items)?;
+    put_through_group(out, items)?;
     put_hole_group(out, d, items)?;
     Ok(())
 }

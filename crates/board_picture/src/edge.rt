@@ -72,16 +72,20 @@ fn put_name_texts(out: &mut Vec<u8>, components: &[Component]) -> Result<(), All
     Ok(())
 }
 
-/// The names of components.
+/// The names of components, to the left and above.
 #[tactic(auto, unfolding(crate::specs::Picture::name_group))]
 pub(crate) fn put_names(out: &mut Vec<u8>, s: Sheet, d: &Design) -> Result<(), AllocError>
     ensures { OnOk result (Appends out.old.items out.new.items (name_group s d.now)) }
 {
-    put(out, b"<g class=\"names\" font-size=\"")?;
+    put(out, b"<g class=\"names\" transform=\"translate(-")?;
+    put_length(out, s.unit / 3)?;
+    put(out, b" ")?;
+    put_length(out, s.unit / 3)?;
+    put(out, b")\" font-size=\"")?;
     put_length(out, s.unit / 2)?;
     put(
         out,
-        b"\" text-anchor=\"middle\" stroke=\"#fff\" stroke-width=\"",
+        b"\" text-anchor=\"end\" stroke=\"#fff\" stroke-width=\"",
     )?;
     put_length(out, s.unit / 10)?;
     put(out, b"\" paint-order=\"stroke\">\n")?;

@@ -3,13 +3,15 @@
 
 ghost use Rattle.std.specs.Prelude.{◌≡◌, ◌≤◌, ◌^◌, OnOk, length};
 ghost use Rattle.ses_writer.specs.Words.{Appends};
-ghost use Rattle.board_picture.specs.Legend.{row_head, count_row, swatch_head, layer_row, layer_rows, keepout_row};
-ghost use Rattle.board_picture.specs.Legend.{open_row, size_row, wire_count, via_count, count_rows};
+ghost use Rattle.board_picture.specs.Legend.{row_head, count_row, swatch_head, layer_row, layer_rows, through_row};
+ghost use Rattle.board_picture.specs.Legend.{keepout_row, open_row, size_row, has_through, is_hatched, has_keepout};
+ghost use Rattle.board_picture.specs.Legend.{through_rows, keepout_rows, row_if, mark_count, mark_rows};
+ghost use Rattle.board_picture.specs.Legend.{wire_count, via_count, count_rows};
 ghost use Rattle.board_picture.specs.Legend.{legend_head, legend_part};
 
 use crate::open::OpenLine;
-use crate::paint::put_paint;
-use crate::shapes::{is_via, is_wire};
+use crate::paint::{put_paint, put_through_paint};
+use crate::shapes::{have_breadth, is_keepout, is_through, is_via, is_wire};
 use crate::sheet::{Sheet, legend_left};
 use crate::words::{put_escaped, put_length, put_wide, put_wide_length};
 use pcb_model::{BoardLayer, Design, Item};
@@ -70,6 +72,19 @@ fn put_layer_rows(out: &mut Vec<u8>, d: &Design) -> Result<(), AllocError>
     Ok(())
 }
 
+#[tactic(auto, unfolding(crate::specs::Legend::through_row))]
+fn put_through_row(out: &mut Vec<u8>, row: u128) -> Result<(), AllocError>
+    ensures { OnOk result (Appends out.old.items out.new.items (through_row row)) }
+{
+    put_swatch_head(out, row)?;
+    put(out, b"0.6\"")?;
+    put_through_paint(out)?;
+    put(out, b"/>")?;
+    put_row_head(out, row)?;
+    put(out, b"through pads and vias</text>\n")?;
+    Ok(())
+}
+
 #[tactic(auto, unfolding(crate::specs::Legend::keepout_row))]
 fn put_keepout_row(out: &mut Vec<u8>, row: u128) -> Result<(), AllocError>
     ensures { OnOk result (Appends out.old.items out.new.items (keepout_row row)) }
@@ -100,6 +115,68 @@ fn put_size_row(out: &mut Vec<u8>, row: u128, s: Sheet) -> Result<(), AllocError
     put_length(out, s.high)?;
     put(out, b" mm</text>\n")?;
     Ok(())
+}
+
+// ---- rows of what is there
+
+fn has_through(items: &[Item]) -> bool
+    ensures { result ≡ has_through items.now }
+{
+    items.iter().any(is_through)
+}
+
+fn is_hatched(a: &Item) -> bool
+    ensures { result ≡ is_hatched a.now }
+{
+    is_keepout(&a.metal) && have_breadth(a.pieces.as_slice())
+}
+
+fn has_keepout(items: &[Item]) -> bool
+    ensures { result ≡ has_keepout items.now }
+{
+    items.iter().any(is_hatched)
+}
+
+fn put_through_rows(out: &mut Vec<u8>, there: bool, row: u128) -> Result<(), AllocError>
+    ensures { OnOk result (Appends out.old.items out.new.items (through_rows there row)) }
+{
+    if there {
+        return put_through_row(out, row);
+    }
+    Ok(())
+}
+
+fn put_keepout_rows(out: &mut Vec<u8>, there: bool, row: u128) -> Result<(), AllocError>
+    ensures { OnOk result (Appends out.old.items out.new.items (keepout_rows there row)) }
+{
+    if there {
+        return put_keepout_row(out, row);
+    }
+    Ok(())
+}
+
+fn row_if(there: bool) -> u128
+    ensures value { result ≡ row_if there }
+    ensures small { result ≤ 1 }
+{
+    if there { 1 } else { 0 }
+}
+
+fn mark_count(items: &[Item]) -> u128
+    ensures value { result ≡ mark_count items.now }
+    ensures small { result ≤ 2 }
+{
+    row_if(has_through(items)) + row_if(has_keepout(items))
+}
+
+#[tactic(auto, unfolding(crate::specs::Legend::mark_rows))]
+fn put_mark_rows(out: &mut Vec<u8>, row: u128, items: &[Item]) -> Result<(), AllocError>
+    requires { row ≤ 2 ^ 65 }
+    ensures { OnOk result (Appends out.old.items out.new.items (mark_rows row items.now)) }
+{
+    let through = has_through(items);
+    put_through_rows(out, through, row)?;
+    put_keepout_rows(out, has_keepout(items), row + row_if(through))
 }
 
 // ---- counts
@@ -158,13 +235,14 @@ pub(crate) fn put_legend(
 ) -> Result<(), AllocError>
     ensures { OnOk result (Appends out.old.items out.new.items (legend_part s d.now items.now lines.now)) }
 {
-    let row = d.layers.len() as u128;
+    let layers = d.layers.len() as u128;
+    let row = layers + mark_count(items);
     put_head(out, s)?;
     put_layer_rows(out, d)?;
-    put_keepout_row(out, row)?;
-    put_open_row(out, row + 1, lines.len() as u64)?;
-    put_count_rows(out, row + 2, d, items)?;
-    put_size_row(out, row + 5, s)?;
+    put_mark_rows(out, layers, items)?;
+    put_open_row(out, row, lines.len() as u64)?;
+    put_count_rows(out, row + 1, d, items)?;
+    put_size_row(out, row + 4, s)?;
     put(out, b"</g>\n")?;
     Ok(())
 }

@@ -3,7 +3,7 @@
 
 ghost use Rattle.std.specs.Prelude.{◌≡◌, OnOk};
 ghost use Rattle.ses_writer.specs.Words.{Appends};
-ghost use Rattle.board_picture.specs.Legend.{colour_word, dash_words, paint_words};
+ghost use Rattle.board_picture.specs.Legend.{colour_word, dash_words, paint_words, through_paint};
 
 use ses_writer::{put, put_whole};
 use std::alloc::AllocError;
@@ -45,4 +45,11 @@ pub(crate) fn put_paint(out: &mut Vec<u8>, layer: usize) -> Result<(), AllocErro
     put_colour(out, layer % 8)?;
     put(out, b"\" opacity=\"0.85\"")?;
     put_dash(out, layer / 8)
+}
+
+/// The attributes of what goes through the board.
+pub(crate) fn put_through_paint(out: &mut Vec<u8>) -> Result<(), AllocError>
+    ensures { OnOk result (Appends out.old.items out.new.items through_paint) }
+{
+    put(out, b" fill=\"#000\" stroke=\"#000\" opacity=\"0.85\"")
 }

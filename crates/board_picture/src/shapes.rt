@@ -3,12 +3,15 @@
 
 ghost use Rattle.std.specs.Prelude.{◌≡◌, OnOk, flat_map};
 ghost use Rattle.ses_writer.specs.Words.{Appends};
-ghost use Rattle.board_picture.specs.Shapes.{loop_words, spine_words, piece_shape, shape_on, shapes_on};
-ghost use Rattle.board_picture.specs.Shapes.{is_wire, is_via, is_keepout, is_land, hole_dot, hole_of_pin, hole_of};
+ghost use Rattle.board_picture.specs.Shapes.{loop_words, spine_words, piece_shape, shape_on, shapes_on, broad_shape};
+ghost use Rattle.board_picture.specs.Shapes.{is_wire, is_via, is_keepout, is_land, leaves_layer, spans_layers};
+ghost use Rattle.board_picture.specs.Shapes.{is_through, is_area, has_breadth, have_breadth, breadth, hole_radius};
+ghost use Rattle.board_picture.specs.Shapes.{hole_dot, hole_at, hole_of};
 
+use crate::sheet::narrow_side;
 use crate::words::{put_length, put_point, put_points};
 use geo_kernel::{List, Point, Spine};
-use pcb_model::{Design, Metal, Piece, Pin};
+use pcb_model::{Design, Item, Metal, Piece};
 use ses_writer::put;
 use std::alloc::AllocError;
 
@@ -69,6 +72,44 @@ pub(crate) fn put_pieces(out: &mut Vec<u8>, pieces: &[Piece]) -> Result<(), Allo
     Ok(())
 }
 
+fn is_area(spine: &Spine) -> bool
+    ensures { result ≡ is_area spine.now }
+{
+    matches!(spine, Spine::Area(_))
+}
+
+fn has_breadth(c: &Piece) -> bool
+    ensures { result ≡ has_breadth c.now }
+{
+    is_area(&c.spine) || c.width != 0
+}
+
+/// Whether they aren't all lines without width.
+pub(crate) fn have_breadth(pieces: &[Piece]) -> bool
+    ensures { result ≡ have_breadth pieces.now }
+{
+    pieces.iter().any(has_breadth)
+}
+
+fn put_broad_piece(out: &mut Vec<u8>, c: &Piece) -> Result<(), AllocError>
+    ensures { OnOk result (Appends out.old.items out.new.items (broad_shape c.now)) }
+{
+    if has_breadth(c) {
+        return put_piece(out, c);
+    }
+    Ok(())
+}
+
+/// All pieces but lines without width.
+pub(crate) fn put_broad_pieces(out: &mut Vec<u8>, pieces: &[Piece]) -> Result<(), AllocError>
+    ensures { OnOk result (Appends out.old.items out.new.items (flat_map broad_shape pieces.now)) }
+{
+    for c in pieces {
+        put_broad_piece(out, c)?;
+    }
+    Ok(())
+}
+
 fn put_piece_on(out: &mut Vec<u8>, layer: usize, c: &Piece) -> Result<(), AllocError>
     ensures { OnOk result (Appends out.old.items out.new.items (shape_on layer c.now)) }
 {
@@ -117,36 +158,80 @@ pub(crate) fn is_land(metal: &Metal) -> bool
     !is_wire(metal) && !is_keepout(metal)
 }
 
-#[tactic(auto, unfolding(crate::specs::Shapes::hole_dot))]
-fn put_dot(out: &mut Vec<u8>, p: &Point) -> Result<(), AllocError>
-    ensures { OnOk result (Appends out.old.items out.new.items (hole_dot p.now)) }
+fn leaves_layer(layer: u8, pieces: &[Piece]) -> bool
+    ensures { result ≡ leaves_layer layer pieces.now }
 {
-    put(out, b"<circle r=\"0.15\" transform=\"translate(")?;
+    pieces.iter().any(|p| p.layer != layer)
+}
+
+fn spans_layers(pieces: &[Piece]) -> bool
+    ensures { result ≡ spans_layers pieces.now }
+{
+    match pieces {
+        [] => false,
+        [c, rest @ ..] => leaves_layer(c.layer, rest),
+    }
+}
+
+/// Whether it is a via or pad with copper on two layers or more.
+pub(crate) fn is_through(a: &Item) -> bool
+    ensures { result ≡ is_through a.now }
+{
+    is_land(&a.metal) && spans_layers(a.pieces.as_slice())
+}
+
+// ---- holes
+
+fn breadth(width: u64, spine: &Spine) -> u64
+    ensures { result ≡ breadth width spine.now }
+{
+    match spine {
+        Spine::Chain(_) => width,
+        Spine::Area(loops) => narrow_side(loops.as_slice()),
+    }
+}
+
+fn hole_radius(pieces: &[Piece]) -> u64
+    ensures { result ≡ hole_radius pieces.now }
+{
+    match pieces {
+        [] => 0,
+        [c, ..] => breadth(c.width, &c.spine) / 5,
+    }
+}
+
+#[tactic(auto, unfolding(crate::specs::Shapes::hole_dot))]
+fn put_dot(out: &mut Vec<u8>, radius: u64, p: &Point) -> Result<(), AllocError>
+    ensures { OnOk result (Appends out.old.items out.new.items (hole_dot radius p.now)) }
+{
+    put(out, b"<circle r=\"")?;
+    put_length(out, radius)?;
+    put(out, b"\" transform=\"translate(")?;
     put_point(out, p)?;
     put(out, b")\"/>\n")?;
     Ok(())
 }
 
-fn put_hole_of_pin(out: &mut Vec<u8>, p: &Pin) -> Result<(), AllocError>
-    ensures { OnOk result (Appends out.old.items out.new.items (hole_of_pin p.now)) }
-{
-    if p.smd {
-        return Ok(());
-    }
-    put_dot(out, &p.centre)
-}
-
-/// The place of the hole of a via, or of a pin's pad.
-pub(crate) fn put_hole(out: &mut Vec<u8>, d: &Design, metal: &Metal) -> Result<(), AllocError>
-    ensures { OnOk result (Appends out.old.items out.new.items (hole_of d.now metal.now)) }
+fn put_hole_at(out: &mut Vec<u8>, d: &Design, radius: u64, metal: &Metal) -> Result<(), AllocError>
+    ensures { OnOk result (Appends out.old.items out.new.items (hole_at d.now radius metal.now)) }
 {
     match metal {
         Metal::Wire { .. } => Ok(()),
-        Metal::Via { at, .. } => put_dot(out, at),
+        Metal::Via { at, .. } => put_dot(out, radius, at),
         Metal::Pad { pin } => match d.pins.as_slice().get(*pin as usize) {
-            Some(p) => put_hole_of_pin(out, p),
+            Some(p) => put_dot(out, radius, &p.centre),
             None => Ok(()),
         },
         Metal::Ban { .. } => Ok(()),
     }
+}
+
+/// The hole of a via or pad that goes through.
+pub(crate) fn put_hole(out: &mut Vec<u8>, d: &Design, a: &Item) -> Result<(), AllocError>
+    ensures { OnOk result (Appends out.old.items out.new.items (hole_of d.now a.now)) }
+{
+    if is_through(a) {
+        return put_hole_at(out, d, hole_radius(a.pieces.as_slice()), &a.metal);
+    }
+    Ok(())
 }

@@ -4,7 +4,7 @@ ghost use Rattle.std.specs.Prelude.{◌≡◌, ◌≤◌, ◌^◌, slice_index_o
 ghost use Rattle.std.specs.Int.{int_min, int_max};
 ghost use Rattle.board_picture.specs.Sheet.{grown_by_loop, grown_by_bound, box_at, first_point, box_of};
 ghost use Rattle.board_picture.specs.Sheet.{sheet_in, sheet_of, sheet_width, sheet_height, rows_of, origin};
-ghost use Rattle.board_picture.specs.Sheet.{legend_left, shift_x, shift_y};
+ghost use Rattle.board_picture.specs.Sheet.{narrow_side, legend_left, shift_x, shift_y};
 
 use geo_kernel::{List, Point, Rect4};
 use pcb_model::Design;
@@ -101,6 +101,14 @@ fn box_of(bounds: &[List<List<Point>>]) -> Rect4
     all
 }
 
+/// The shorter side of the least box of the points of an area.
+pub(crate) fn narrow_side(loops: &[List<Point>]) -> u64
+    ensures { result ≡ narrow_side loops.now }
+{
+    let b = grown_by_bound(box_at(first_in_loops(loops)), loops);
+    b.x1.abs_diff(b.x0).min(b.y1.abs_diff(b.y0))
+}
+
 fn sheet_in(b: Rect4) -> Sheet
     ensures value { result ≡ sheet_in b }
     ensures small { result.unit ≤ 2 ^ 59 }
@@ -129,14 +137,14 @@ pub(crate) fn sheet_of(d: &Design) -> Sheet
 pub(crate) fn legend_left(s: Sheet) -> u128
     ensures { result ≡ legend_left s }
 {
-    u128::from(s.wide) + 2 * u128::from(s.unit)
+    u128::from(s.wide) + 3 * u128::from(s.unit)
 }
 
 /// How far the board is moved to the right.
 pub(crate) fn shift_x(s: Sheet) -> i128
     ensures { result ≡ shift_x s }
 {
-    i128::from(s.unit) - i128::from(s.left)
+    2 * i128::from(s.unit) - i128::from(s.left)
 }
 
 /// How far it is moved downwards, with y turned.
@@ -150,7 +158,7 @@ pub(crate) fn shift_y(s: Sheet) -> i128
 pub(crate) fn sheet_width(s: Sheet) -> u128
     ensures { result ≡ sheet_width s }
 {
-    u128::from(s.wide) + 16 * u128::from(s.unit)
+    u128::from(s.wide) + 17 * u128::from(s.unit)
 }
 
 /// How high the sheet is, with its legend.
@@ -158,7 +166,7 @@ pub(crate) fn sheet_height(s: Sheet, d: &Design) -> u128
     requires { s.unit ≤ 2 ^ 59 }
     ensures { result ≡ sheet_height s (rows_of d.now) }
 {
-    let rows = d.layers.len() as u128 + 6;
+    let rows = d.layers.len() as u128 + 7;
     let legend = rows * u128::from(s.unit);
     u128::from(s.high).max(legend) + 2 * u128::from(s.unit)
 }

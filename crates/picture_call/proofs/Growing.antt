@@ -1,5 +1,5 @@
 -- Wires behind a design's fixed items, one by one.
-use Rattle.std.proofs.Common.{◌≡◌, inl, inr, ℕ, ◌+◌, ◌<◌, zero, suc, Bool, false, Some, cond, refl, sym, ◌∙◌, ap, subst}
+use Rattle.std.proofs.Common.{◌≡◌, inl, inr, ℕ, ◌<◌, zero, suc, false, Some, refl, sym, ◌∙◌, ap, subst}
 use Rattle.std.proofs.Common.{List, [], ◌∷◌, ◌++◌, length, get_or, arith}
 use Rattle.std.proofs.Common.{Result, Ok, Err}
 use Rattle.std.specs.Prelude.{All, OnOk, slice_get}
@@ -12,7 +12,7 @@ use Rattle.pcb_model.specs.declared.design.FreeWire.{FreeWire}
 use Rattle.pcb_model.specs.declared.design.Design.{Design}
 use Rattle.pcb_model.specs.Board.{is_fixed}
 use Rattle.pcb_model.specs.Sound.{IsSound, IsFreeSound, IsFixedSound, IsItemOf, Serves}
-use Rattle.board_offers.specs.Given.{IsGiven, AreGiven}
+use Rattle.board_offers.specs.Given.{IsGiven}
 use Rattle.board_offers.proofs.Lists.{look_cases, found_at, all_from, none_pass}
 use Rattle.pcb_board.specs.Boards.{free_item}
 use Rattle.pcb_board.proofs.Starting.{free_given, fixed_loaded}

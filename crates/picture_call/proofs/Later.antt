@@ -1,5 +1,5 @@
 -- An outcome counts from an earlier moment, between which and its start the files stayed.
-use Rattle.std.proofs.Common.{◌≡◌, ℕ, ◌≤◌, Bool, Option, IsTrue, sym, subst, arith}
+use Rattle.std.proofs.Common.{◌≡◌, ℕ, ◌≤◌, Bool, Option, IsTrue, subst, arith}
 use Rattle.desk_io.specs.States.{Files, DeskState}
 use Rattle.desk_io.specs.Answers.{DeskFaulted}
 use Rattle.picture_call.specs.declared.outcome.PictureCall.{PictureCall}

@@ -1,18 +1,16 @@
 -- A session's wires and vias are wiring of the design.
-use Rattle.std.proofs.Common.{◌≡◌, ℕ, ◌<◌, ◌≤◌, ◌^◌, zero, suc, Option, Some, None, List, [], ◌∷◌, length, map}
+use Rattle.std.proofs.Common.{◌≡◌, ℕ, ◌<◌, ◌≤◌, zero, suc, Option, Some, None, List, [], ◌∷◌, length, map}
 use Rattle.std.proofs.Common.{sym, subst}
 use Rattle.std.proofs.Common.{arith}
 use Rattle.std.specs.Prelude.{All, IfSome, slice_get}
 use Rattle.std.specs.Option.{IsSomeAnd}
 use Rattle.std.proofs.lemmas.List.{length-map}
-use Rattle.std.proofs.lemmas.List.Elements.{All-cons, All-nil, All-head, All-tail, All-map, All-weaker}
-use Rattle.std.proofs.lemmas.Option.{slice_get_within}
+use Rattle.std.proofs.lemmas.List.Elements.{All-cons, All-nil, All-map, All-weaker}
 use Rattle.geo_kernel.specs.declared.point.Point.{Point}
 use Rattle.geo_kernel.specs.declared.spine.Spine.{Spine}
 use Rattle.geo_kernel.specs.declared.spine.Spine.TheVariants.{Chain, Area}
 use Rattle.geo_kernel.specs.Spine.{IsWellFormed}
 use Rattle.geo_kernel.specs.Moved.{moved, moved_spine}
-use Rattle.pcb_model.specs.declared.item.Piece.{Piece}
 use Rattle.pcb_model.specs.declared.item.Metal.{Metal}
 use Rattle.pcb_model.specs.declared.item.Metal.TheVariants.{Wire, Via, Pad, Ban}
 use Rattle.pcb_model.specs.declared.design.Padstack.{Padstack}
@@ -20,7 +18,7 @@ use Rattle.pcb_model.specs.declared.design.FreeWire.{FreeWire}
 use Rattle.pcb_model.specs.declared.design.Design.{Design}
 use Rattle.pcb_model.specs.Pieces.{pieces_in, pieces_of, wire_piece, moved_piece}
 use Rattle.pcb_model.specs.Bounds.{IsFit, IsMetalFit, IsDesignFit}
-use Rattle.pcb_model.specs.Sound.{IsCopper, IsFreeSound, IsMetalInRange, IsNetOf}
+use Rattle.pcb_model.specs.Sound.{IsCopper, IsFreeSound, IsMetalInRange}
 use Rattle.board_offers.proofs.Lists.{at_place}
 use Rattle.ses_reader.specs.declared.item.SesItem.{SesItem}
 use Rattle.ses_reader.specs.Sound.{IsCopperSound, IsItemSound, IsStackNear}

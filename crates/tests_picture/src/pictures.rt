@@ -37,40 +37,41 @@ const DESIGN: &str = r#"(pcb "P&Q"
     (via V 4000 2000 (net A) (type fix))
     (wire (path B.Cu 200.5 4000 2000 5000 3000 7000 2000) (net A) (type fix))))"#;
 
-/// The text, worked by hand. As a picture it shows the names C<1>, C2 and C3 upright, C3 above the others.
+/// The text, worked by hand. As a picture it shows the names C<1>, C2 and C3 upright, C3 above the others, and in
+/// black the pads of C<1> and C2 and the via.
 const PICTURE: &str =
-    r##"<svg xmlns="http://www.w3.org/2000/svg" viewBox="0 0 14 8.5" font-family="sans-serif">
+    r##"<svg xmlns="http://www.w3.org/2000/svg" viewBox="0 0 14.25 8.5" font-family="sans-serif">
 <title>P&amp;Q</title>
 <pattern id="hatch" width="0.8" height="0.8" patternUnits="userSpaceOnUse" patternTransform="rotate(45)"><path d="M0 0v1" stroke="#777" stroke-width="0.5"/></pattern>
 <rect width="100%" height="100%" fill="#fff"/>
-<g transform="translate(1.25 6.25) scale(1 -1)" fill-rule="evenodd" stroke-linecap="round" stroke-linejoin="round">
+<g transform="translate(1.5 6.25) scale(1 -1)" fill-rule="evenodd" stroke-linecap="round" stroke-linejoin="round">
 <g class="keepouts" fill="url(#hatch)" stroke="url(#hatch)">
-<path stroke-width="0" fill="none" d="M -1 -2 9 -2 9 6 -1 6 -1 -2h0"/>
-<path stroke-width="0" fill="none" d="M -1 -2 9 -2 9 6 -1 6 -1 -2h0"/>
 <path stroke-width="0" d="M 6 -1 8 -1 8 0.5z"/>
 </g>
 <g id="B.Cu" fill="#56B4E9" stroke="#56B4E9" opacity="0.85">
 <path stroke-width="0.2005" fill="none" d="M 4 2 5 3 7 2h0"/>
-<path stroke-width="1" fill="none" d="M 1 2h0"/>
-<path stroke-width="1" fill="none" d="M 7 2h0"/>
-<path stroke-width="0.6" fill="none" d="M 4 2h0"/>
 </g>
 <g id="F.Cu" fill="#BE4B00" stroke="#BE4B00" opacity="0.85">
 <path stroke-width="0.25" fill="none" d="M 1 2 4 2h0"/>
+<path stroke-width="0" d="M 3.5 4.2505 4.5 4.2505 4.5 4.7505 3.5 4.7505z"/>
+</g>
+<g class="through" fill="#000" stroke="#000" opacity="0.85">
+<path stroke-width="1" fill="none" d="M 1 2h0"/>
 <path stroke-width="1" fill="none" d="M 1 2h0"/>
 <path stroke-width="1" fill="none" d="M 7 2h0"/>
-<path stroke-width="0" d="M 3.5 4.2505 4.5 4.2505 4.5 4.7505 3.5 4.7505z"/>
+<path stroke-width="1" fill="none" d="M 7 2h0"/>
+<path stroke-width="0.6" fill="none" d="M 4 2h0"/>
 <path stroke-width="0.6" fill="none" d="M 4 2h0"/>
 </g>
-<g class="holes" fill="#fff" stroke="#000" stroke-width="0.05">
-<circle r="0.15" transform="translate( 1 2)"/>
-<circle r="0.15" transform="translate( 7 2)"/>
-<circle r="0.15" transform="translate( 4 2)"/>
+<g class="holes" fill="#fff">
+<circle r="0.2" transform="translate( 1 2)"/>
+<circle r="0.2" transform="translate( 7 2)"/>
+<circle r="0.12" transform="translate( 4 2)"/>
 </g>
 <g class="edge" fill="none" stroke="#000" stroke-width="0.025">
 <path d="M -1 -2 9 -2 9 6 -1 6z"/>
 </g>
-<g class="names" font-size="0.125" text-anchor="middle" stroke="#fff" stroke-width="0.025" paint-order="stroke">
+<g class="names" transform="translate(-0.083333 0.083333)" font-size="0.125" text-anchor="end" stroke="#fff" stroke-width="0.025" paint-order="stroke">
 <text transform="matrix(1 0 0 -1 1 2)">C&lt;1&gt;</text>
 <text transform="matrix(1 0 0 -1 7 2)">C2</text>
 <text transform="matrix(1 0 0 -1 4 4.5005)">C3</text>
@@ -79,15 +80,16 @@ const PICTURE: &str =
 <path d="M 1 2 4 4.5005"/>
 </g>
 </g>
-<g transform="translate(10.5 0.25) scale(0.25)" font-size="0.8">
+<g transform="translate(10.75 0.25) scale(0.25)" font-size="0.8">
 <path d="M0 0.5h2" stroke-width="0.6" fill="#BE4B00" stroke="#BE4B00" opacity="0.85"/><text x="2.5" y="0.8">F.Cu</text>
 <path d="M0 1.5h2" stroke-width="0.6" fill="#56B4E9" stroke="#56B4E9" opacity="0.85"/><text x="2.5" y="1.8">B.Cu</text>
-<path d="M0 2.5h2" stroke-width="0.6" stroke="url(#hatch)"/><text x="2.5" y="2.8">keepouts</text>
-<path d="M0 3.5h2" stroke-width="0.06" stroke="#E0007A" stroke-dasharray="0.5"/><text x="2.5" y="3.8">open 1</text>
-<text x="2.5" y="4.8">nets 1</text>
-<text x="2.5" y="5.8">wires 2</text>
-<text x="2.5" y="6.8">vias 1</text>
-<text x="2.5" y="7.8">10 x 8 mm</text>
+<path d="M0 2.5h2" stroke-width="0.6" fill="#000" stroke="#000" opacity="0.85"/><text x="2.5" y="2.8">through pads and vias</text>
+<path d="M0 3.5h2" stroke-width="0.6" stroke="url(#hatch)"/><text x="2.5" y="3.8">keepouts</text>
+<path d="M0 4.5h2" stroke-width="0.06" stroke="#E0007A" stroke-dasharray="0.5"/><text x="2.5" y="4.8">open 1</text>
+<text x="2.5" y="5.8">nets 1</text>
+<text x="2.5" y="6.8">wires 2</text>
+<text x="2.5" y="7.8">vias 1</text>
+<text x="2.5" y="8.8">10 x 8 mm</text>
 </g>
 </svg>
 "##;

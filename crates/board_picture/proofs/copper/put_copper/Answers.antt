@@ -6,4 +6,5 @@ pub returns : goal.returns
 unfolding copper_part
 returns c =
     let two = then_put c.in_ok-put_keepout_group.ensures c.in_ok-put_layer_groups.ensures in
-    then_put two c.in_ok-put_hole_group.ensures
+    let three = then_put two c.in_ok-put_through_group.ensures in
+    then_put three c.in_ok-put_hole_group.ensures

@@ -1,10 +1,9 @@
 use Rattle.std.proofs.Common.{◌++◌, drop, flat_map}
-use Rattle.pcb_model.specs.declared.item.Item.{Item}
 use Rattle.ses_writer.proofs.Puts.{Leads}
 use Rattle.board_picture.specs.Shapes.{hole_of}
 use Rattle.board_picture.proofs.copper.put_holes.Given as goal
 
 abbrev pub invariant-loop-a : goal.invariant-loop-a
 invariant-loop-a l =
-    let holes = λ (a : Item). hole_of l.d a.metal in
-    Leads l.out.items (flat_map holes (drop l.a-index l.items)) (l.fn.out.items ++ flat_map holes l.items)
+    Leads l.out.items (flat_map (hole_of l.d) (drop l.a-index l.items))
+    (l.fn.out.items ++ flat_map (hole_of l.d) l.items)

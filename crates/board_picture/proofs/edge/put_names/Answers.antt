@@ -10,5 +10,9 @@ returns c =
     let three = then_put two c.in_ok-put-2.ensures in
     let four = then_put three c.in_ok-put_length-2.ensures in
     let five = then_put four c.in_ok-put-3.ensures in
-    let six = then_put five texts in
-    then_put six c.in_ok-put-4.ensures
+    let six = then_put five c.in_ok-put_length-3.ensures in
+    let seven = then_put six c.in_ok-put-4.ensures in
+    let eight = then_put seven c.in_ok-put_length-4.ensures in
+    let nine = then_put eight c.in_ok-put-5.ensures in
+    let ten = then_put nine texts in
+    then_put ten c.in_ok-put-6.ensures

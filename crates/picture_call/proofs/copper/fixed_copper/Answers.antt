@@ -1,5 +1,4 @@
 use Rattle.std.proofs.Common.{◌≡◌, ◌<◌, sym, ◌∙◌, ap, subst, length, get_or, arith}
-use Rattle.std.proofs.lemmas.List.{take_all}
 use Rattle.pcb_model.specs.Bounds.{IsItemFit}
 use Rattle.picture_call.proofs.Growing.{fixed_at}
 use Rattle.picture_call.proofs.copper.fixed_copper.Goals as goal

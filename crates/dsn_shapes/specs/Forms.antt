@@ -58,7 +58,7 @@ vertices_of Rect cs = cs
 vertices_of Polygon cs = cs
 vertices_of Path cs = cs
 
--- what a form says: its layers, its width and the coordinates of its vertices; nothing where its count of words is wrong
+-- what a form says: its layers, its width and its vertices' coordinates; nothing where its count of words is wrong
 unfoldable pub outline_of : ℕ → List Layer → Form → Tree → Outline
 outline_of nm layers form t = if has_count form (length (words_of t))
     then record { layers = layers_of layers (name_of t 1); width = width_of nm form t; coords = vertices_of form (map (word_coord nm) (coord_words form t)) }

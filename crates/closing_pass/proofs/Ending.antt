@@ -1,7 +1,7 @@
 -- How nets end, one after another, and island by island.
 use Rattle.std.proofs.Common.{◌≡◌, ℕ, ◌+◌, ◌≤◌, List, [], ◌∷◌, ◌++◌, length, Some, sym, ap, ◌∙◌, subst, inl, inr}
-use Rattle.std.proofs.Common.{arith, length-append}
-use Rattle.std.specs.Prelude.{slice_get, remove}
+use Rattle.std.proofs.Common.{◌<◌, Result, refl, arith, length-append}
+use Rattle.std.specs.Prelude.{slice_get, remove, IfOk}
 use Rattle.pcb_model.specs.declared.item.Item.{Item}
 use Rattle.pcb_model.specs.declared.design.Design.{Design}
 use Rattle.pcb_islands.specs.declared.net.Island.{Island}
@@ -10,7 +10,11 @@ use Rattle.route_lattice.specs.Mesh.{Mesh}
 use Rattle.cut_certificate.specs.declared.cut.Cut.{Cut}
 use Rattle.cut_certificate.specs.Cuts.{Cuts}
 use Rattle.closing_pass.specs.Closing.{Ends, AreEnds}
-use Rattle.closing_pass.specs.Steps.{IsShutAt, IsClosedOn}
+use Rattle.pcb_model.specs.Sound.{Serves}
+use Rattle.pcb_board.specs.Boards.{BoardOf, SnapOf}
+use Rattle.pcb_board.specs.Answers.{snap_of}
+use Rattle.pcb_board.specs.Keeping.{IsBoard}
+use Rattle.closing_pass.specs.Steps.{CanClose, CanCut, IsShutAt, IsClosed, IsClosedOn}
 
 -- ---- islands of a net
 -- the first n islands have their cuts
@@ -65,3 +69,31 @@ ends_more d m via_cost items n ends more cuts have ending is = record {
             (subst (Ends d m via_cost items n) last.1 ending)
       ];
 }
+
+-- ---- a snapshot of the board
+module _ (m : Mesh) (via_cost : ℕ) (b : BoardOf) (s : SnapOf) (is : s ≡ snap_of b) where
+  -- its islands and cuts may be asked for
+  pub can_cut : CanClose m via_cost b.design → IsBoard b → Serves b.items b.design → CanCut s.design m via_cost s
+  can_cut can kept serves =
+      let here : CanCut b.design m via_cost (snap_of b) = record {
+        sound = kept.sound;
+        fits = can.fits;
+        small_cost = can.small_cost;
+        own = refl;
+        serves = serves;
+      } in
+      subst (λ (x : SnapOf). CanCut x.design m via_cost x) (sym is) here
+
+  -- what is closed on the board is closed there
+  pub closed_there : ((net : ℕ) → net < length b.design.nets → IsClosed m via_cost b net) → (net : ℕ)
+      → net < length s.design.nets → IsClosedOn s.design m via_cost s.items net
+  closed_there closed =
+      subst (λ (x : SnapOf). (net : ℕ) → net < length x.design.nets → IsClosedOn x.design m via_cost x.items net)
+      (sym is) closed
+
+  -- and how nets end there they end on the board
+  pub ends_here : {E : Type 0} (r : Result (List (List Cut)) E)
+      → IfOk r (AreEnds s.design m via_cost s.items (length s.design.nets))
+      → IfOk r (AreEnds b.design m via_cost b.items (length b.design.nets))
+  ends_here r h =
+      subst (λ (x : SnapOf). IfOk r (AreEnds x.design m via_cost x.items (length x.design.nets))) is h

@@ -1,7 +1,7 @@
 -- A join of the closing pass: what the board is afterwards.
 use Rattle.std.proofs.Common.{◌≡◌, ◌≢◌, ℕ, ◌+◌, ◌<◌, ◌≤◌, List, [], ◌∷◌, ◌++◌, map, length, Some, None, refl, sym, ap}
-use Rattle.std.proofs.Common.{◌∙◌, subst, inl, inr, arith, All}
-use Rattle.std.specs.Prelude.{Contains, slice_get, remove}
+use Rattle.std.proofs.Common.{◌∙◌, subst, inl, inr, arith, All, Result, Ok, Err}
+use Rattle.std.specs.Prelude.{Contains, slice_get, remove, IfOk}
 use Rattle.std.proofs.Math.Seq.{take-length}
 use Rattle.std.proofs.lemmas.List.{take-append-le, append-nil}
 use Rattle.std.proofs.lemmas.List.Elements.{All-nil, All-cons, All-append, All-contains, Contains-get_or}
@@ -257,22 +257,32 @@ can_plan b m via_cost net n d s can kept serves there s_is d_is n_is =
     (subst (λ (x : ℕ). CanPlan b.design m (snap_of b) x via_cost None) (sym n_is) here))
 
 -- what it answers of the board
-pub led_on : (b : BoardOf) (m : Mesh) (via_cost net place : ℕ) (s : SnapOf) (found others : List Island)
-    (island : Island) (led : Led) → IsBoard b → s ≡ snap_of b
-    → AreIslands b.design b.items net found → slice_get found place ≡ Some island → others ≡ remove found place
-    → ((c : BoardOf) (k : ℕ) → IsSnapOf s c → StandsAt c.design c.items island.net k island others → (16 < 16
-    → k ≡ 0) → LeadsFrom m via_cost c 16 island others led)
+pub leads_there : {E : Type 0} (b : BoardOf) (m : Mesh) (via_cost : ℕ) (s : SnapOf) (others : List Island)
+    (island : Island) (r : Result Led E) → IsBoard b → s ≡ snap_of b
+    → IfOk r (λ (led : Led). (c : BoardOf) (k : ℕ) → IsSnapOf s c
+    → StandsAt c.design c.items island.net k island others → (16 < 16 → k ≡ 0)
+    → LeadsFrom m via_cost c 16 island others led)
+    → IfOk r (λ (led : Led). (k : ℕ) → StandsAt b.design b.items island.net k island others
+    → LeadsFrom m via_cost b 16 island others led)
+leads_there b m via_cost s others island (Ok led) kept s_is leads = λ k stands.
+    leads b k (record { board = kept; is = sym s_is; plain = kept.plain }) stands
+    (λ never. absurd (omega (arith, never)))
+leads_there b m via_cost s others island (Err e) kept s_is leads = leads
+
+-- for the island at a place
+pub led_on : (b : BoardOf) (m : Mesh) (via_cost net place : ℕ) (found others : List Island) (island : Island)
+    (led : Led) → AreIslands b.design b.items net found → slice_get found place ≡ Some island
+    → others ≡ remove found place
+    → ((k : ℕ) → StandsAt b.design b.items island.net k island others → LeadsFrom m via_cost b 16 island others led)
     → LeadsFrom m via_cost b 16 island others led
-led_on b m via_cost net place s found others island led kept s_is islands at rest leads =
-    leads b place (record { board = kept; is = sym s_is; plain = kept.plain })
-    (record {
+led_on b m via_cost net place found others island led islands at rest leads =
+    leads place (record {
       found = found;
       islands = subst (λ (n : ℕ). AreIslands b.design b.items n found)
           (sym (net_at b.design b.items net found place island islands at)) islands;
       island_is = at;
       others_are = rest;
     })
-    (λ never. absurd (omega (arith, never)))
 
 -- where no walk leads on, the island is shut
 pub shut_at : (b : BoardOf) (m : Mesh) (via_cost place : ℕ) (found others : List Island) (island : Island)

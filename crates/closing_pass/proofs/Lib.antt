@@ -3,3 +3,4 @@ pub mod Joining
 pub mod Staying
 pub mod Closings
 pub mod Ending
+pub mod Readiness

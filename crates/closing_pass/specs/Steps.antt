@@ -1,15 +1,17 @@
 -- What the private functions of a closing pass keep and answer.
 use Rattle.std.specs.Prelude.{◌≡◌, ◌⊎◌, ℕ, ◌<◌, ◌≤◌, ◌^◌, Bool, true, false, List, ◌++◌, length, remove, All, Some}
-use Rattle.std.specs.Prelude.{slice_get}
+use Rattle.std.specs.Prelude.{IfSome, slice_get}
 use Rattle.pcb_model.specs.declared.item.Item.{Item}
 use Rattle.pcb_model.specs.declared.design.Design.{Design}
 use Rattle.pcb_model.specs.Sound.{IsSound, Serves}
 use Rattle.pcb_islands.specs.declared.net.Island.{Island}
 use Rattle.pcb_islands.specs.Islands.{AreIslands}
-use Rattle.route_lattice.specs.Mesh.{Mesh}
+use Rattle.route_lattice.specs.Mesh.{Mesh, node_count}
 use Rattle.route_lattice.specs.Fits.{FitsDesign}
 use Rattle.cut_certificate.specs.Cuts.{LeadsOn}
 use Rattle.pcb_board.specs.Boards.{BoardOf, SnapOf}
+use Rattle.board_sight.specs.Sights.{IsSeenOn}
+use Rattle.closing_pass.specs.declared.join.Means.{Means}
 use Rattle.closing_pass.specs.Closing.{Closes}
 
 -- the lattice fits the design of the board, and the price of a via is small
@@ -24,6 +26,11 @@ pub record CanCut (d : Design) (m : Mesh) (via_cost : ℕ) (s : SnapOf) : Type 0
   pub small_cost : via_cost ≤ 2 ^ 30
   pub own : s.design ≡ d
   pub serves : Serves s.items d
+
+-- memory for searches over the lattice, and maps of the moves on a board that has grown into this one, if there are any
+pub record AreReady (m : Mesh) (b : BoardOf) (means : Means) : Type 0 where
+  pub size : means.search ≡ node_count m
+  pub seen : IfSome means.sight (IsSeenOn m b)
 
 -- no legal walk leads from the island at a place to another
 abbrev pub IsShutAt : Design → Mesh → ℕ → List Item → List Island → ℕ → Type 0

@@ -3,16 +3,14 @@
 
 ghost use Rattle.std.specs.Prelude.{◌≡◌, ◌<◌, ◌≤◌, ℕ, IfOk, OnOk, OnErr, IsTrue, length};
 ghost use Rattle.pcb_islands.specs.Islands.{AreIslands};
-ghost use Rattle.route_lattice.specs.Mesh.{node_count};
 ghost use Rattle.closing_pass.specs.Closing.{Closes};
-ghost use Rattle.closing_pass.specs.Steps.{CanClose, TriesSome, HasFewer, JoinsNet, IsClosed};
+ghost use Rattle.closing_pass.specs.Steps.{CanClose, AreReady, TriesSome, HasFewer, JoinsNet, IsClosed};
 
-use crate::join::Task;
+use crate::join::{Means, Task};
 use geo_kernel::List;
 use pcb_board::{Board, boards_serve};
 use pcb_islands::{Island, islands, others_change_nothing};
 use std::alloc::{AllocError, Global};
-use wave_search::Search;
 
 // The islands of a net of a board.
 fn islands_on(alloc: Global, board: &Board, net: u32) -> Result<List<Island>, AllocError>
@@ -30,24 +28,24 @@ impl Task<'_> {
     fn join_some(
         &self,
         alloc: Global,
-        search: &mut Search,
+        means: &mut Means,
         board: &mut Board,
         net: u32,
         found: List<Island>,
     ) -> Result<bool, AllocError>
         requires can { CanClose self.now.lat.now self.now.via_cost board.old.design }
-        requires size { search.old ≡ node_count self.now.lat.now }
+        requires ready { AreReady self.now.lat.now board.old means.old }
         requires net { net < length board.old.design.nets }
         requires islands { AreIslands board.old.design board.old.items net found }
         ensures tries { IfOk result (TriesSome self.now.lat.now self.now.via_cost found board.old board.new) }
         ensures fewer { IfOk result (λ t. IsTrue t → HasFewer net board.new found) }
         ensures joins { OnOk result (JoinsNet self.now.lat.now self.now.via_cost net board.old board.new) }
         ensures err { OnErr result (board.new ≡ board.old) }
-        ensures size { search.new ≡ search.old }
+        ensures ready { AreReady self.now.lat.now board.new means.new }
     {
         let mut found = found;
         for place in 0..found.len() {
-            let (same, joined) = self.join_at(alloc, search, board, net, found, place)?;
+            let (same, joined) = self.join_at(alloc, means, board, net, found, place)?;
             if joined {
                 return Ok(true);
             }
@@ -60,20 +58,20 @@ impl Task<'_> {
     fn close(
         &self,
         alloc: Global,
-        search: &mut Search,
+        means: &mut Means,
         board: &mut Board,
         net: u32,
     ) -> Result<(), AllocError>
         requires can { CanClose self.now.lat.now self.now.via_cost board.old.design }
-        requires size { search.old ≡ node_count self.now.lat.now }
+        requires ready { AreReady self.now.lat.now board.old means.old }
         requires net { net < length board.old.design.nets }
         ensures closed { OnOk result (IsClosed self.now.lat.now self.now.via_cost board.new net) }
         ensures joins { JoinsNet self.now.lat.now self.now.via_cost net board.old board.new }
-        ensures size { search.new ≡ search.old }
+        ensures ready { AreReady self.now.lat.now board.new means.new }
     {
         let mut found = islands_on(alloc, board, net)?;
         while found.len() > 1 {
-            if !self.join_some(alloc, search, board, net, found)? {
+            if !self.join_some(alloc, means, board, net, found)? {
                 return Ok(());
             }
             found = islands_on(alloc, board, net)?;
@@ -85,21 +83,21 @@ impl Task<'_> {
     pub(crate) fn close_all(
         &self,
         alloc: Global,
-        search: &mut Search,
+        means: &mut Means,
         board: &mut Board,
     ) -> Result<(), AllocError>
         requires can { CanClose self.now.lat.now self.now.via_cost board.old.design }
-        requires size { search.old ≡ node_count self.now.lat.now }
+        requires ready { AreReady self.now.lat.now board.old means.old }
         ensures closed { OnOk result ((net : ℕ) → net < length board.new.design.nets
             → IsClosed self.now.lat.now self.now.via_cost board.new net) }
         ensures closes { Closes self.now.lat.now self.now.via_cost board.old board.new }
-        ensures size { search.new ≡ search.old }
+        ensures ready { AreReady self.now.lat.now board.new means.new }
     {
         others_change_nothing();
         boards_serve();
         board.keeps();
         for net in 0..board.design().nets.len() as u32 {
-            self.close(alloc, search, board, net)?;
+            self.close(alloc, means, board, net)?;
             board.keeps();
         }
         Ok(())

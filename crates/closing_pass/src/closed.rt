@@ -1,16 +1,20 @@
 //! The closing pass over a board.
 //! Where memory is wanting the board comes back with what was joined.
 
-ghost use Rattle.std.specs.Prelude.{◌≤◌, ◌^◌, length, IfOk, IfErr};
+ghost use Rattle.std.specs.Prelude.{◌≤◌, ◌<◌, ◌^◌, ℕ, length, IfOk, IfErr, IfSome};
 ghost use Rattle.route_lattice.specs.Fits.{FitsDesign};
 ghost use Rattle.closing_pass.specs.Closing.{Closes, IsClosedOut, AreEnds};
-ghost use Rattle.closing_pass.specs.Steps.{CanClose};
+ghost use Rattle.move_maps.specs.Maps.{AreMapsOf};
+ghost use Rattle.board_sight.specs.Sights.{IsSeenOn};
+ghost use Rattle.closing_pass.specs.Steps.{CanClose, CanCut, IsClosed, IsClosedOn};
 
 use crate::ends::Shut;
-use crate::join::Task;
+use crate::join::{Means, Task};
+use board_sight::{Sight, see};
 use cut_certificate::Cut;
 use geo_kernel::List;
-use pcb_board::{Board, PassBack, boards_serve};
+use move_maps::MoveMaps;
+use pcb_board::{Board, PassBack, Snap, boards_serve, ids_stay};
 use route_lattice::Lattice;
 use std::alloc::{AllocError, Global};
 use wave_search::Search;
@@ -22,6 +26,59 @@ pub struct Closed {
     pub board: Board,
     pub ends: List<List<Cut>>,
     pub joins: u64,
+}
+
+// How each net ends on a snapshot of a board on which nothing leads on.
+fn ends_on(
+    alloc: Global,
+    lat: &Lattice,
+    via_cost: u64,
+    snap: &Snap,
+    maps: Option<&MoveMaps>,
+) -> Result<List<List<Cut>>, AllocError>
+    requires can { CanCut snap.now.design lat.now via_cost snap.now }
+    requires maps { IfSome maps (λ o. AreMapsOf snap.now.design lat.now snap.now.items o.now) }
+    requires closed { (net : ℕ) → net < length snap.now.design.nets
+        → IsClosedOn snap.now.design lat.now via_cost snap.now.items net }
+    ensures { IfOk result
+        (AreEnds snap.now.design lat.now via_cost snap.now.items (length snap.now.design.nets)) }
+{
+    let shut = Shut {
+        lat,
+        d: snap.design(),
+        snap,
+        via_cost,
+        maps,
+    };
+    shut.all_ends(alloc)
+}
+
+// How each net ends on a board on which nothing leads on. Where maps were made for the joins, the cuts are searched
+// by them.
+fn ends_of(
+    alloc: Global,
+    board: &Board,
+    lat: &Lattice,
+    via_cost: u64,
+    sight: Option<Sight>,
+) -> Result<List<List<Cut>>, AllocError>
+    requires can { CanClose lat.now via_cost board.now.design }
+    requires seen { IfSome sight (IsSeenOn lat.now board.now) }
+    requires closed { (net : ℕ) → net < length board.now.design.nets → IsClosed lat.now via_cost board.now net }
+    ensures { IfOk result
+        (AreEnds board.now.design lat.now via_cost board.now.items (length board.now.design.nets)) }
+{
+    board.keeps();
+    boards_serve();
+    ids_stay();
+    let snap = board.snap()?;
+    match sight {
+        None => ends_on(alloc, lat, via_cost, &snap, None),
+        Some(last) => {
+            let seen = see(alloc, lat, Some(last), snap)?;
+            ends_on(alloc, lat, via_cost, &seen.snap, Some(&seen.maps))
+        }
+    }
 }
 
 // Joins what can be joined, and tells how each net ends.
@@ -37,18 +94,13 @@ fn close_board(
         (AreEnds board.new.design lat.now via_cost board.new.items (length board.new.design.nets)) }
 {
     let task = Task { lat, via_cost };
-    let mut search = Search::new(alloc, lat.count())?;
-    task.close_all(alloc, &mut search, board)?;
-    board.keeps();
-    boards_serve();
-    let snap = board.snap()?;
-    let shut = Shut {
-        lat,
-        d: snap.design(),
-        snap: &snap,
-        via_cost,
+    let search = Search::new(alloc, lat.count())?;
+    let mut means = Means {
+        search,
+        sight: None,
     };
-    shut.all_ends(alloc)
+    task.close_all(alloc, &mut means, board)?;
+    ends_of(alloc, board, lat, via_cost, means.sight.take())
 }
 
 /// Joins islands by least legal walks, as the worker of the closing pass, until no legal walk leads from any island of

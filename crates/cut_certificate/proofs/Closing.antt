@@ -1,8 +1,9 @@
 -- What is reached is closed, and a walk doesn't leave a cut.
-use Rattle.std.proofs.Common.{ℕ, ◌<◌, List, [], ◌∷◌, ◌++◌, get_or, sym, refl, subst, All}
+use Rattle.std.proofs.Common.{ℕ, ◌<◌, List, [], ◌∷◌, ◌++◌, get_or, sym, subst, All}
 use Rattle.std.specs.Prelude.{Contains}
 use Rattle.std.proofs.lemmas.List.Elements.{All-contains, All-contains_itself}
-use Rattle.route_lattice.specs.Walks.{MoveGraph, IsSound, Hop, Opens, Leads, Reaches, IsReach}
+use Rattle.route_lattice.specs.Walks.{MoveGraph, IsSound, Hop, Leads, Reaches, IsReach}
+use Rattle.move_flood.proofs.Flooding.{leads_on}
 use Rattle.cut_certificate.specs.declared.cut.Blocker.{Blocker}
 use Rattle.cut_certificate.specs.declared.cut.Block.{Block}
 use Rattle.cut_certificate.specs.Border.{IsListed, IsBlock, AreBlocks, IsClosed}
@@ -18,11 +19,6 @@ module _ (graph : MoveGraph) where
       let w : Reaches graph starts (get_or nodes k d) = r.reached (get_or nodes k d) (All-contains_itself nodes k d h) in
       in_range sound w.1 w.0 (get_or nodes k d) (All-contains (λ x. x < graph.count) starts w.0 s w.2) w.3
 
-  -- a walk goes on by one move
-  on : (hs : List Hop) (a b : ℕ) (h : Hop) → Leads graph a hs b → Opens graph b h → Leads graph a (hs ++ h ∷ []) h.to
-  on [] a b h p o = (subst (λ (x : ℕ). Opens graph x h) (sym p) o, refl)
-  on (k ∷ hs) a b h p o = (p.0, on hs k.to b h p.1 o)
-
   -- no open move leads out of what is reached
   pub reach_is_closed : (priced : (node i : ℕ) → node < graph.count → i < graph.arity → (p : ℕ) × graph.priced node i p) (starts nodes : List ℕ) → IsSound graph → All (λ s. s < graph.count) starts → IsReach graph starts nodes
       → IsClosed graph.at graph.arity graph.open_at nodes
@@ -32,7 +28,7 @@ module _ (graph : MoveGraph) where
         let there : node < graph.count = in_range sound w.1 w.0 node (All-contains (λ x. x < graph.count) starts w.0 s w.2) w.3 in
         let cost = priced node index there lt in
         let hop : Hop = record { index = index; move = out.move; to = out.to; price = cost.0 } in
-        out.outside (r.complete out.to (w.0, w.1 ++ hop ∷ [], w.2, on w.1 w.0 node hop w.3 (record { listed = lt; leads = out.leads; is_open = is_open; costs = cost.1 })));
+        out.outside (r.complete out.to (w.0, w.1 ++ hop ∷ [], w.2, leads_on graph w.1 w.0 node hop w.3 (record { listed = lt; leads = out.leads; is_open = is_open; costs = cost.1 })));
   }
 
   -- a walk from a node of the set meets no goal, where what leads out is shut

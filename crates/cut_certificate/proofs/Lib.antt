@@ -1,4 +1,5 @@
 pub mod Each
+pub mod Same
 pub mod Search
 pub mod Blocks
 pub mod Shutting

@@ -6,13 +6,15 @@ ghost use Rattle.std.specs.List.{AllAdjacentBelow};
 ghost use Rattle.std.specs.List.Sorted.{IsStrictlyIncreasing};
 ghost use Rattle.cut_certificate.specs.declared.cut.Blocker.{Blocker as OneBlocker};
 ghost use Rattle.cut_certificate.specs.Border.{LeadsOut, IsBefore, AreInOrder, IsListed, IsBlock, AreBlocks, AllListed, Extends, IsClosed, Closes};
+ghost use Rattle.cut_certificate.specs.Same.{SameMoves};
+ghost use Rattle.move_flood.specs.Goals.{Meets};
 ghost use Rattle.route_lattice.specs.Walks.{IsSound};
 
 use crate::cut::{Block, Blocker};
 use geo_kernel::List;
-use route_lattice::{Found, Moves, Reach};
+use move_flood::{flood, reach_tells_goals};
+use route_lattice::{Moves, Reach};
 use std::alloc::{AllocError, Global};
-use wave_search::least_walk;
 
 /// All nodes that moves reach, and the moves that lead out of them.
 #[derive(Drop)]
@@ -243,27 +245,44 @@ pub(crate) fn blocks_of<M: Shuts>(
     Ok(blocked)
 }
 
-/// The border of all that open moves reach from the starts, or None where they reach a goal.
-pub(crate) fn close<M: Shuts>(
+/// Whether one of the nodes is a goal.
+fn meets(nodes: &[u32], goals: &[u32]) -> bool
+    requires { IsStrictlyIncreasing nodes.now }
+    ensures { IsTrue result ↔ Meets nodes.now goals.now }
+{
+    for goal in goals {
+        if has(nodes, *goal) {
+            return true;
+        }
+    }
+    false
+}
+
+/// The border of all that open moves reach from the starts, or None where they reach a goal. The flood goes over
+/// `legal`, which has the same moves; `m` tells what shuts those that lead out.
+pub(crate) fn close<M: Shuts, L: Moves>(
     alloc: Global,
     m: &M,
+    legal: &L,
     starts: &List<u32>,
     goals: &List<u32>,
 ) -> Result<Option<Border>, AllocError>
     requires ready { M.ready m.now }
+    requires legal_ready { L.ready legal.now }
+    requires same { SameMoves (L.graph legal.now) (M.graph m.now) }
     requires sound { IsSound (M.graph m.now) }
     requires starts { All (λ s. s < (M.graph m.now).count) starts.now }
     ensures { IfOk result (Closes (M.graph m.now) (M.shut_by m.now) starts.now goals.now) }
 {
-    match least_walk(alloc, m, starts, goals)? {
-        Found::Walk(_) => Ok(None),
-        Found::Closed(reach) => {
-            m.has_prices();
-            let blocked = blocks_of(alloc, m, reach.nodes.as_slice())?;
-            Ok(Some(Border {
-                reach,
-                blocked: List::from_vec(blocked),
-            }))
-        }
+    let reach = flood(alloc, legal, starts)?;
+    reach_tells_goals(m);
+    if meets(reach.nodes.as_slice(), goals.as_slice()) {
+        return Ok(None);
     }
+    m.has_prices();
+    let blocked = blocks_of(alloc, m, reach.nodes.as_slice())?;
+    Ok(Some(Border {
+        reach,
+        blocked: List::from_vec(blocked),
+    }))
 }

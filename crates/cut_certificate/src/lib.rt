@@ -10,4 +10,4 @@ mod shut;
 
 pub use check::{check_cut, cut_closes};
 pub use cut::{Block, Blocker, Cut};
-pub use make::{goals_of, make_cut, make_cut_among, starts_of};
+pub use make::{goals_of, make_cut, make_cut_among, make_cut_with, starts_of};

@@ -8,6 +8,7 @@ ghost use Rattle.route_lattice.specs.Mesh.{node_count};
 ghost use Rattle.route_lattice.specs.Fits.{FitsDesign};
 ghost use Rattle.route_lattice.specs.Legal.{CanMove, legal_graph};
 ghost use Rattle.cut_certificate.specs.Border.{Closes};
+ghost use Rattle.cut_certificate.specs.Same.{SameMoves};
 ghost use Rattle.cut_certificate.specs.Cuts.{Cuts, CutsOff, IsShutBy, AreIdsOf, AreStarts, AreGoals, others_of};
 
 use crate::border::{Border, close};
@@ -15,7 +16,7 @@ use crate::cut::Cut;
 use geo_kernel::List;
 use pcb_islands::{Island, islands};
 use pcb_model::{Copper, Design};
-use route_lattice::{Lattice, LegalMoves, anchors_among, legal_among, legal_graph_sound};
+use route_lattice::{Lattice, LegalMoves, Moves, anchors_among, legal_among, legal_graph_sound};
 use std::alloc::{AllocError, Global};
 
 /// The ids of the items of the islands.
@@ -66,12 +67,14 @@ pub fn goals_of<C: Copper>(
     Ok(goals)
 }
 
-/// The border of all that legal moves reach from the starts, or None where they reach a goal.
-fn close_legal<C: Copper>(
+/// The border of all that legal moves reach from the starts, or None where they reach a goal. `legal` has the legal
+/// moves.
+fn close_legal<C: Copper, M: Moves>(
     alloc: Global,
     lat: &Lattice,
     d: &Design,
     c: &C,
+    legal: &M,
     net: u32,
     via_cost: u64,
     starts: &List<u32>,
@@ -79,12 +82,14 @@ fn close_legal<C: Copper>(
 ) -> Result<Option<Border>, AllocError>
     requires can_move { CanMove d.now lat.now net via_cost }
     requires serves { C.serves c.now d.now }
+    requires ready { M.ready legal.now }
+    requires legal { SameMoves (M.graph legal.now) (legal_graph d.now lat.now (C.items c.now) net via_cost) }
     requires starts { All (λ v. v < node_count lat.now) starts.now }
     ensures { IfOk result (Closes (legal_graph d.now lat.now (C.items c.now) net via_cost) (IsShutBy d.now lat.now (C.items c.now) net) starts.now goals.now) }
 {
     legal_graph_sound();
     let moves = LegalMoves::of(lat, d, c, net, via_cost);
-    let border = close(alloc, &moves, starts, goals)?;
+    let border = close(alloc, &moves, legal, starts, goals)?;
     Ok(border)
 }
 
@@ -94,6 +99,40 @@ fn first_pin(island: &Island) -> u32
     match island.pins.get(0) {
         None => 0,
         Some(pin) => *pin,
+    }
+}
+
+/// `make_cut_among` by moves that are the legal ones: the flood goes over them, and the copper is asked only what
+/// shuts the moves that lead out.
+pub fn make_cut_with<C: Copper, M: Moves>(
+    alloc: Global,
+    lat: &Lattice,
+    d: &Design,
+    c: &C,
+    legal: &M,
+    island: &Island,
+    others: &List<Island>,
+    via_cost: u64,
+) -> Result<Option<Cut>, AllocError>
+    requires can_move { CanMove d.now lat.now island.now.net via_cost }
+    requires pins { 0 < length island.now.pins }
+    requires serves { C.serves c.now d.now }
+    requires ready { M.ready legal.now }
+    requires legal { SameMoves (M.graph legal.now) (legal_graph d.now lat.now (C.items c.now) island.now.net via_cost) }
+    ensures { IfOk result (Cuts d.now lat.now (C.items c.now) via_cost island.now others.now) }
+{
+    let starts = starts_of(alloc, lat, d, c, island)?;
+    let goals = goals_of(alloc, lat, d, c, others)?;
+    let net = island.net;
+    legal_graph_sound();
+    match close_legal(alloc, lat, d, c, legal, net, via_cost, &starts, &goals)? {
+        None => Ok(None),
+        Some(Border { reach, blocked }) => Ok(Some(Cut {
+            net,
+            pin: first_pin(island),
+            reach,
+            blocked,
+        })),
     }
 }
 
@@ -113,19 +152,8 @@ pub fn make_cut_among<C: Copper>(
     requires serves { C.serves c.now d.now }
     ensures { IfOk result (Cuts d.now lat.now (C.items c.now) via_cost island.now others.now) }
 {
-    let starts = starts_of(alloc, lat, d, c, island)?;
-    let goals = goals_of(alloc, lat, d, c, others)?;
-    let net = island.net;
-    legal_graph_sound();
-    match close_legal(alloc, lat, d, c, net, via_cost, &starts, &goals)? {
-        None => Ok(None),
-        Some(Border { reach, blocked }) => Ok(Some(Cut {
-            net,
-            pin: first_pin(island),
-            reach,
-            blocked,
-        })),
-    }
+    let legal = LegalMoves::of(lat, d, c, island.net, via_cost);
+    make_cut_with(alloc, lat, d, c, &legal, island, others, via_cost)
 }
 
 fn has_pin(s: &Island, pin: u32) -> bool

@@ -18,3 +18,4 @@ pub mod Turns
 pub mod Prefix
 pub mod Returning
 pub mod Ticks
+pub mod Staying

@@ -11,7 +11,7 @@ use Rattle.pcb_board.specs.declared.answer.Entry.{Entry}
 use Rattle.pcb_board.specs.declared.answer.Entry.TheVariants.{Join, Back}
 use Rattle.pcb_board.specs.Boards.{Past, opening, next, past_from, past, replay}
 
-past_on : (d : Design) (p : Past) (xs ys : List Entry) → past_from d p (xs ++ ys) ≡ past_from d (past_from d p xs) ys
+pub past_on : (d : Design) (p : Past) (xs ys : List Entry) → past_from d p (xs ++ ys) ≡ past_from d (past_from d p xs) ys
 past_on d p [] ys = refl
 past_on d p (x ∷ xs) ys = past_on d (next d p x) xs ys
 
@@ -51,7 +51,7 @@ next_begins : (d : Design) (p : Past) (e : Entry) → BeginsWith p.given (next d
 next_begins d p (Join o first after) = record { more = new_items d p.given o; is = refl }
 next_begins d p (Back to) = record { more = []; is = refl }
 
-from_begins : (d : Design) (p : Past) (es : List Entry) → BeginsWith p.given (past_from d p es).given
+pub from_begins : (d : Design) (p : Past) (es : List Entry) → BeginsWith p.given (past_from d p es).given
 from_begins d p [] = record { more = []; is = sym (append-nil p.given) }
 from_begins d p (e ∷ es) =
     begins_on p.given (next d p e).given (past_from d p (e ∷ es)).given (next_begins d p e)

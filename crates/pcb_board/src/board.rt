@@ -128,6 +128,7 @@ impl Board {
         ensures { IfOk result (λ s. s ≡ snap_of self.now) }
     {
         Ok(Snap {
+            alloc: self.alloc,
             design: self.design.share()?,
             tiles: self.tiles.share()?,
             number: self.history.len() as u64,

@@ -8,6 +8,7 @@ ghost use Rattle.pcb_model.specs.Board.{IsLegal};
 ghost use Rattle.pcb_model.specs.Copper.{Ascends};
 ghost use Rattle.pcb_model.specs.Plain.{IsPlainCopper};
 ghost use Rattle.pcb_model.specs.Sound.{IsSound, Serves};
+ghost use Rattle.copper_change.specs.Changes.{AreOneById};
 ghost use Rattle.board_offers.specs.declared.offer.Offer.{Offer as OneOffer};
 ghost use Rattle.board_offers.specs.Offers.{IsWellFormed};
 ghost use Rattle.board_offers.specs.Troubles.{FailsLeast};
@@ -66,4 +67,9 @@ pub fn boards_serve()
     ensures legal { (b : BoardOf) → IsBoard b → IsLegal b.design b.items }
     ensures ascends { (b : BoardOf) → IsBoard b → Ascends b.items }
     ensures serves { (b : BoardOf) → IsBoard b → Serves b.items b.design }
+{}
+
+/// An id is given once: boards of which one has grown from the other have one item for an id that both have.
+pub fn ids_stay()
+    ensures { (b c : BoardOf) → IsBoard b → IsBoard c → Grows b c → AreOneById b.items c.items }
 {}

@@ -1,18 +1,22 @@
 //! Snapshots of a board: its items after some entries, which stay while the board goes on.
 //! A snapshot shares the board's design and tiles, and answers what copper is asked as the tiles do.
 
-ghost use Rattle.std.specs.Prelude.{◌≡◌, ◌*◌, ◌^◌, length};
+ghost use Rattle.std.specs.Prelude.{◌≡◌, ◌*◌, ◌^◌, length, IfOk};
 ghost use Rattle.pcb_model.specs.Sound.{Serves};
+ghost use Rattle.copper_change.specs.Changes.{IsSince};
 
+use copper_change::{Since, changes_between};
 use pcb_model::{Copper, Design, Item, Probe, Steps};
 use pcb_tiles::Tiles;
 use shared_value::Shared;
+use std::alloc::{AllocError, Global};
 use std::marker::Model;
 use std::sync::ledger::Ledger;
 
 /// The items of a board after a number of entries, and its design.
 #[derive(Drop)]
 pub struct Snap {
+    pub(crate) alloc: Global,
     pub(crate) design: Shared<Design>,
     pub(crate) tiles: Tiles,
     pub(crate) number: u64,
@@ -42,6 +46,14 @@ impl Snap {
         ensures { result.now ≡ self.now.design }
     {
         self.design.get()
+    }
+
+    /// What changed since an earlier snapshot: the items that it alone has, by id, and those that this one alone has.
+    /// `AllocError` comes only for want of memory.
+    pub fn since(&self, old: &Snap) -> Result<Since, AllocError>
+        ensures { IfOk result (λ s. IsSince old.now.items self.now.items s.gone s.come) }
+    {
+        changes_between(self.alloc, old, self)
     }
 }
 

@@ -1,6 +1,6 @@
 -- The printed copper of a board can be read.
-use Rattle.std.proofs.Common.{◌≡◌, inl, inr, ap, subst, ℕ, ◌<◌, ◌^◌, true, List, [], ◌∷◌}
-use Rattle.std.proofs.Common.{map, length, refl, arith, Some, None}
+use Rattle.std.proofs.Common.{◌≡◌, inl, inr, ap, subst, ℕ, ◌<◌, ◌^◌, true, List, [], ◌∷◌, map, length, refl, arith}
+use Rattle.std.proofs.Common.{Some, None}
 use Rattle.std.specs.Prelude.{All, Option, slice_get}
 use Rattle.std.specs.List.{list_all}
 use Rattle.std.specs.Option.{IsSomeAnd}
@@ -22,33 +22,34 @@ use Rattle.pcb_model.specs.Pieces.{moved_piece, pieces_in, pieces_of}
 use Rattle.pcb_model.specs.Scale.{is_whole, is_whole_point}
 use Rattle.pcb_model.specs.Sound.{HasDistinctNames, HasFewParts, IsItemOf, IsMetalInRange}
 use Rattle.session_law.specs.Told.{is_copper, is_whole_copper}
-use Rattle.session_law.proofs.Points.{IsExactPoint}
+use Rattle.session_law.proofs.Metals.{exact_points}
+use Rattle.session_law.proofs.Points.{IsExactPoint, all_directed}
 use Rattle.reading_law.proofs.Measured.{Measure}
 use Rattle.ses_reader.specs.Sound.{IsStackNear}
 use Rattle.reading_law.specs.Back.{HasTwoPoints, IsReadable}
 use Rattle.reading_law.proofs.Numbers.{IsScaled}
-use Rattle.reading_law.proofs.Metals.{all_directed, directed_long, exact_points}
+use Rattle.reading_law.proofs.Metals.{directed_long}
 use Rattle.reading_law.proofs.Nets.{IsReadBack}
 
 -- pieces that fit where they are moved to have vertices within the limit there
-pieces_near : (at : Point) (cs : List Piece) → All IsFit (map (moved_piece at) cs)
+pieces_within : (at : Point) (cs : List Piece) → All IsFit (map (moved_piece at) cs)
     → All (λ (c : Piece). IsSpineWithin (2 ^ 29) (moved_spine at c.spine)) cs
-pieces_near at [] h = All-nil (λ (c : Piece). IsSpineWithin (2 ^ 29) (moved_spine at c.spine))
-pieces_near at (c ∷ cs) h = All-cons (λ (x : Piece). IsSpineWithin (2 ^ 29) (moved_spine at x.spine)) c cs
+pieces_within at [] h = All-nil (λ (c : Piece). IsSpineWithin (2 ^ 29) (moved_spine at c.spine))
+pieces_within at (c ∷ cs) h = All-cons (λ (x : Piece). IsSpineWithin (2 ^ 29) (moved_spine at x.spine)) c cs
     (All-head IsFit (moved_piece at c) (map (moved_piece at) cs) h).within
-    (pieces_near at cs (All-tail IsFit (moved_piece at c) (map (moved_piece at) cs) h))
+    (pieces_within at cs (All-tail IsFit (moved_piece at c) (map (moved_piece at) cs) h))
 
 -- so have those of a padstack that is there
-stack_near : (at : Point) (stacks : List Padstack) (k : ℕ) → k < length stacks
+stack_within : (at : Point) (stacks : List Padstack) (k : ℕ) → k < length stacks
     → All IsFit (map (moved_piece at) (pieces_in (slice_get stacks k)))
     → IsSomeAnd (slice_get stacks k) (IsStackNear at)
-stack_near at [] k within h = absurd (omega (arith, within))
-stack_near at (s ∷ stacks) k within h = by (slice_get (s ∷ stacks) k) (slice_get-get_or (s ∷ stacks) k s within) h
+stack_within at [] k within h = absurd (omega (arith, within))
+stack_within at (s ∷ stacks) k within h = by (slice_get (s ∷ stacks) k) (slice_get-get_or (s ∷ stacks) k s within) h
   where
     by : {x : Padstack} (o : Option Padstack) → o ≡ Some x → All IsFit (map (moved_piece at) (pieces_in o))
         → IsSomeAnd o (IsStackNear at)
     by None e all = cc
-    by (Some y) e all = pieces_near at y.pieces all
+    by (Some y) e all = pieces_within at y.pieces all
 
 -- the pieces of copper are those of its metal
 pieces_are : (d : Design) (a : Item) → (IsRouted a → IsMade d a) → IsReadable d a → is_copper a.metal ≡ true
@@ -75,7 +76,7 @@ module _ (d : Design) (m : Measure) (nm : ℕ) (scaled : IsScaled m nm) (differ 
   metal_back (Via padstack at) fits within whole two pieces = record {
     within = within;
     exact = record { whole = whole; within = fits };
-    near = stack_near at d.padstacks padstack within (pieces refl);
+    near = stack_within at d.padstacks padstack within (pieces refl);
   }
   metal_back (Pad pin) fits within whole two pieces = tt
   metal_back (Ban wires vias) fits within whole two pieces = tt

@@ -1,5 +1,5 @@
 -- The law: of a written session reading answers the printed wiring, or want of memory.
-use Rattle.std.proofs.Common.{◌≡◌, ◌∙◌, ap, Bool, true, List, map, refl}
+use Rattle.std.proofs.Common.{◌≡◌, ◌∙◌, ap, Bool, List, map, refl}
 use Rattle.std.specs.Prelude.{All, Result, Ok, Err, filter}
 use Rattle.std.proofs.lemmas.List.Elements.{All-filter}
 use Rattle.pcb_model.specs.declared.item.Item.{Item}
@@ -16,7 +16,8 @@ use Rattle.dsn_tree.specs.declared.fault.TreeFault.TheVariants as tree
 use Rattle.dsn_tree.specs.Trees.{HasFault, HasTree, Unless}
 use Rattle.dsn_shapes.specs.Refusals.{least}
 use Rattle.ses_writer.specs.Session.{is_printed, session_of}
-use Rattle.session_law.specs.Told.{is_whole_copper}
+use Rattle.session_law.specs.Told.{IsOnScale}
+use Rattle.session_law.proofs.Designs.{IsWholeMetal, copper_on_scale}
 use Rattle.ses_reader.specs.declared.item.SesItem.{SesItem}
 use Rattle.ses_reader.specs.declared.item.SesFault.{SesFault}
 use Rattle.ses_reader.specs.declared.item.SesFault.TheVariants.{Memory, Refused, Spelling}
@@ -40,8 +41,7 @@ no_fault Empty P h u = h u
 
 module _ (b : BoardOf) (omit_fixed : Bool) (board : IsBoard b) (legal : IsLegal b.design b.items)
     (serves : Serves b.items b.design)
-    (whole : All (λ (a : Item). is_whole_copper (scale_of b.design).nm a.metal ≡ true)
-    (filter (is_printed omit_fixed) b.items))
+    (routed_whole : IsOnScale (scale_of b.design).nm b.items)
     (readable : All (IsReadable b.design) (filter (is_printed omit_fixed) b.items))
     (t : Tree) (shape : unplaced t ≡ session_tree b.design b.items omit_fixed) where
   -- the printed copper is read back
@@ -52,7 +52,9 @@ module _ (b : BoardOf) (omit_fixed : Bool) (board : IsBoard b) (legal : IsLegal 
       (scaled_of b.design board.sound.few_per) board.sound.distinct_names board.sound.parts
       (filter (is_printed omit_fixed) b.items)
       (All-filter (is_printed omit_fixed) (IsItemOf b.design) b.items serves.items_fit)
-      (All-filter (is_printed omit_fixed) (λ (a : Item). IsRouted a → IsMade b.design a) b.items legal.made) whole
+      (All-filter (is_printed omit_fixed) (λ (a : Item). IsRouted a → IsMade b.design a) b.items legal.made)
+      (All-filter (is_printed omit_fixed) (λ (a : Item). IsWholeMetal (scale_of b.design).nm a.metal) b.items
+      (copper_on_scale b.design b.items serves.fixed_there routed_whole))
       readable
 
   -- the tree tells the wiring

@@ -1,17 +1,14 @@
 -- The list of a printed wire or via reads as its copper, without a refusal.
-use Rattle.std.proofs.Common.{◌≡◌, ◌⊎◌, inl, inr, ◌∙◌, ap, ap₂, sym, subst, ℕ, ℤ, pos, suc, ◌+◌, ◌*◌, ◌^◌, ◌<◌, ◌≤◌}
-use Rattle.std.proofs.Common.{◌-◌, ◌/◌, Bool, true, false, cond, ◌||◌, List, [], ◌∷◌, ◌++◌, map, length, reverse}
-use Rattle.std.proofs.Common.{drop}
-use Rattle.std.proofs.Common.{refl, arith, Some, None}
-use Rattle.std.specs.Prelude.{◌+ℤ◌, All, Option, codes, filter, is_some, min, not, slice_get, unsigned_abs}
-use Rattle.std.specs.Prelude.{unwrap_or}
+use Rattle.std.proofs.Common.{◌≡◌, inl, inr, ◌∙◌, ap, ap₂, ℕ, ℤ, pos, suc, ◌+◌, ◌*◌, ◌^◌, ◌<◌, ◌≤◌, ◌-◌, ◌/◌, Bool}
+use Rattle.std.proofs.Common.{true, false, cond, ◌||◌, List, [], ◌∷◌, ◌++◌, map, length, drop, refl, arith, Some, None}
+use Rattle.std.specs.Prelude.{◌+ℤ◌, All, Option, codes, filter, is_some, min, not, slice_get, unsigned_abs, unwrap_or}
 use Rattle.std.specs.Fmt.{signed_decimal}
-use Rattle.std.specs.List.{flat_map, list_all, list_any}
+use Rattle.std.specs.List.{flat_map, list_any}
 use Rattle.std.specs.Option.{IsSomeAnd, option_map_or}
-use Rattle.std.proofs.lemmas.Bool.{and_parts, le-ltb}
+use Rattle.std.proofs.lemmas.Bool.{le-ltb}
 use Rattle.std.proofs.lemmas.Bool.Decides.{nat_tests}
-use Rattle.std.proofs.lemmas.List.{get_or-reverse, length-reverse}
-use Rattle.std.proofs.lemmas.List.Elements.{All-head, All-tail, All-nil, All-cons}
+use Rattle.std.proofs.lemmas.List.{length-reverse}
+use Rattle.std.proofs.lemmas.List.Elements.{All-head, All-tail}
 use Rattle.geo_kernel.specs.declared.point.Point.{Point}
 use Rattle.geo_kernel.specs.declared.spine.Spine.{Spine}
 use Rattle.geo_kernel.specs.declared.spine.Spine.TheVariants.{Chain, Area}
@@ -23,7 +20,6 @@ use Rattle.pcb_model.specs.declared.item.Piece.{Piece}
 use Rattle.pcb_model.specs.declared.design.BoardLayer.{BoardLayer}
 use Rattle.pcb_model.specs.declared.design.Padstack.{Padstack}
 use Rattle.pcb_model.specs.declared.design.Design.{Design}
-use Rattle.pcb_model.specs.Scale.{is_whole, is_whole_point}
 use Rattle.pcb_model.specs.Sound.{HasDistinctNames, HasFewParts, origin}
 use Rattle.dsn_tree.specs.declared.tree.Tree.{Tree}
 use Rattle.dsn_tree.specs.Heads.{is_headed}
@@ -36,10 +32,10 @@ use Rattle.dsn_shapes.specs.Names.{first_place, place_index}
 use Rattle.dsn_shapes.specs.Numbers.{number_by}
 use Rattle.dsn_wiring.specs.Vias.{is_past, point_by, spine_past}
 use Rattle.dsn_wiring.specs.Wires.{no_wire, paths_in}
-use Rattle.ses_writer.specs.Words.{directed, is_lesser}
+use Rattle.ses_writer.specs.Words.{directed}
 use Rattle.ses_writer.specs.Words as printing
 use Rattle.session_law.proofs.Numbers.{IsExact, near}
-use Rattle.session_law.proofs.Points.{IsExactPoint}
+use Rattle.session_law.proofs.Points.{IsExactPoint, directed_is, exact_x, exact_y}
 use Rattle.reading_law.proofs.Measured.{Measure}
 use Rattle.ses_reader.specs.Names.{layer_names, padstack_names}
 use Rattle.ses_reader.specs.Measures.{coord_at, coord_of, coord_refusal, extent_at, extent_of, extent_refusal}
@@ -49,8 +45,7 @@ use Rattle.ses_reader.specs.Copper.{metal_of, metal_refusals, number_refusals, n
 use Rattle.ses_reader.specs.Copper.{padstack_place, path_metal, path_refusals, via_metal, via_point, via_refusals}
 use Rattle.ses_reader.specs.Copper.{wire_metal, wire_refusals}
 use Rattle.ses_reader.specs.Sound.{IsStackNear}
-use Rattle.session_tree.specs.Shape.{group_tree, layer_tree, number_tree, padstack_tree, point_trees}
-use Rattle.session_tree.specs.Shape.{word_tree}
+use Rattle.session_tree.specs.Shape.{group_tree, layer_tree, number_tree, padstack_tree, point_trees, word_tree}
 use Rattle.reading_law.proofs.Numbers.{IsScaled, coord_back, extent_back}
 use Rattle.reading_law.proofs.Groups.{headed, here, lists_are, name_is, text_is, word_first, words_are}
 use Rattle.reading_law.proofs.Named.{name_at}
@@ -65,44 +60,12 @@ pub both_none : (xs ys : List Refusal) → xs ≡ [] → ys ≡ [] → xs ++ ys 
 both_none xs ys e f = λ i. e i ++ f i
 
 -- ---- chains in their printed direction
--- the same or backwards
-one_way : (b : Bool) (ps : List Point) → (cond b (reverse ps) ps ≡ ps) ⊎ (cond b (reverse ps) ps ≡ reverse ps)
-one_way true ps = inr refl
-one_way false ps = inl refl
-
--- a printed chain is one of both
-directed_is : (ps : List Point) → (directed ps ≡ ps) ⊎ (directed ps ≡ reverse ps)
-directed_is ps = one_way (is_lesser (reverse ps) ps) ps
-
--- it is as long
+-- one is as long as the chain
 pub directed_long : (ps : List Point) → length (directed ps) ≡ length ps
 directed_long ps = elim (directed_is ps) [
   | inl e ↦ ap length e
   | inr e ↦ ap length e ∙ length-reverse ps
 ]
-
--- what holds of each point holds backwards
-all_reversed : (P : Point → Type 0) (ps : List Point) → All P ps → All P (reverse ps)
-all_reversed P ps h k d within =
-    let all = length-reverse ps in
-    let less : k < length ps = omega (arith, within, all) in
-    subst P (sym (get_or-reverse ps k d less)) (h (length ps - 1 - k) d (omega (arith, less)))
-
--- and in the printed direction
-pub all_directed : (P : Point → Type 0) (ps : List Point) → All P ps → All P (directed ps)
-all_directed P ps h = elim (directed_is ps) [
-  | inl e ↦ subst (All P) (sym e) h
-  | inr e ↦ subst (All P) (sym e) (all_reversed P ps h)
-]
-
--- points that are whole and within the limit
-pub exact_points : (nm : ℕ) (ps : List Point) → list_all (is_whole_point nm) ps ≡ true → All (IsWithin (2 ^ 29)) ps
-    → All (IsExactPoint nm) ps
-exact_points nm [] w h = All-nil (IsExactPoint nm)
-exact_points nm (p ∷ ps) w h =
-    let parts = and_parts (is_whole_point nm p) (list_all (is_whole_point nm) ps) w in
-    All-cons (IsExactPoint nm) p ps (record { whole = parts.0; within = All-head (IsWithin (2 ^ 29)) p ps h })
-    (exact_points nm ps parts.1 (All-tail (IsWithin (2 ^ 29)) p ps h))
 
 -- the words of some points
 abbrev words : ℕ → List Point → List Tree
@@ -117,20 +80,6 @@ module _ (m : Measure) (nm : ℕ) (scaled : IsScaled m nm) where
       ap (λ (text : List ℕ). number_by (coord_of m) (decimal_of text))
       (text_is (signed_decimal (printing.nearest nm x)))
       ∙ coord_back m nm scaled (printing.nearest nm x) x n.small n.back h.small
-
-  -- a point's coordinates are exact
-  exact_x : (p : Point) → IsExactPoint nm p → IsExact nm p.x
-  exact_x p h = record {
-    whole = (and_parts (is_whole nm (unsigned_abs p.x)) (is_whole nm (unsigned_abs p.y)) h.whole).0;
-    small = h.within.0;
-  }
-
-  -- both of them
-  exact_y : (p : Point) → IsExactPoint nm p → IsExact nm p.y
-  exact_y p h = record {
-    whole = (and_parts (is_whole nm (unsigned_abs p.x)) (is_whole nm (unsigned_abs p.y)) h.whole).1;
-    small = h.within.1;
-  }
 
   -- a printed width is read
   width_back : (w : ℕ) → IsExact nm (pos w) → w ≤ 2 ^ 28 → word_extent m (number_tree nm (pos w)) ≡ Some w
@@ -161,8 +110,8 @@ module _ (m : Measure) (nm : ℕ) (scaled : IsScaled m nm) where
   points_back [] h = refl
   points_back (p ∷ ps) h =
       let exact = All-head (IsExactPoint nm) p ps h in
-      let x = number_back p.x (exact_x p exact) in
-      let y = number_back p.y (exact_y p exact) in
+      let x = number_back p.x (exact_x nm p exact) in
+      let y = number_back p.y (exact_y nm p exact) in
       let rest = points_back ps (All-tail (IsExactPoint nm) p ps h) in
       λ i. record { x = unwrap_or (x i) (pos 0); y = unwrap_or (y i) (pos 0) } ∷ rest i
 
@@ -176,8 +125,8 @@ module _ (m : Measure) (nm : ℕ) (scaled : IsScaled m nm) where
   points_kept [] h = refl
   points_kept (p ∷ ps) h =
       let exact = All-head (IsExactPoint nm) p ps h in
-      let x = number_kept p.x (exact_x p exact) in
-      let y = number_kept p.y (exact_y p exact) in
+      let x = number_kept p.x (exact_x nm p exact) in
+      let y = number_kept p.y (exact_y nm p exact) in
       let rest = points_kept ps (All-tail (IsExactPoint nm) p ps h) in
       λ i. x i ++ (y i ++ rest i)
 
@@ -355,15 +304,15 @@ module _ (d : Design) (m : Measure) (nm : ℕ) (scaled : IsScaled m nm) (differ 
       (point_trees nm at))
       ∙ name_at (λ (s : Padstack). s.name) d.padstacks k differ.padstacks h.within
 
-  -- its coordinates
+  -- its x
   via_x : (k : ℕ) (at : Point) → IsVia k at → coord_at m (the_via k at) 2 ≡ Some at.x
   via_x k at h = ap (λ (ts : List Tree). option_map_or (word_coord m) (slice_get ts 2) None) (via_words k at)
-      ∙ number_back m nm scaled at.x (exact_x m nm scaled at h.exact)
+      ∙ number_back m nm scaled at.x (exact_x nm at h.exact)
 
-  -- both
+  -- its y
   via_y : (k : ℕ) (at : Point) → IsVia k at → coord_at m (the_via k at) 3 ≡ Some at.y
   via_y k at h = ap (λ (ts : List Tree). option_map_or (word_coord m) (slice_get ts 3) None) (via_words k at)
-      ∙ number_back m nm scaled at.y (exact_y m nm scaled at h.exact)
+      ∙ number_back m nm scaled at.y (exact_y nm at h.exact)
 
   -- its place
   via_at : (k : ℕ) (at : Point) → IsVia k at → via_point m (the_via k at) ≡ Some at

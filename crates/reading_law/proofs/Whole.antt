@@ -1,18 +1,15 @@
 -- The tree of a written session reads as its printed wiring, without a refusal.
-use Rattle.std.proofs.Common.{◌≡◌, ◌∙◌, ap, sym, ℕ, zero, suc, ◌*◌, ◌/◌, ◌<◌, ◌≤◌, Bool, true, false, cond, ◌&&◌}
-use Rattle.std.proofs.Common.{List, [], ◌∷◌, map}
-use Rattle.std.proofs.Common.{refl, arith, Some, lit<}
-use Rattle.std.specs.Prelude.{All, Option, codes, decimal, filter, is_some, nat_lt, unwrap_or}
+use Rattle.std.proofs.Common.{◌≡◌, ◌∙◌, ap, sym, ℕ, ◌<◌, ◌≤◌, Bool, true, false, List, [], ◌∷◌, map, refl, Some, lit<}
+use Rattle.std.specs.Prelude.{All, Option, codes, decimal, filter, is_some, unwrap_or}
 use Rattle.std.specs.Option.{option_map_or}
 use Rattle.std.specs.Str.{str_eq_ignore_ascii_case}
-use Rattle.std.proofs.lemmas.Bool.{and_parts, ltb-true}
+use Rattle.std.proofs.lemmas.Bool.{ltb-true}
 use Rattle.geo_kernel.specs.declared.unit.Unit.{Unit as LengthUnit}
 use Rattle.geo_kernel.specs.declared.unit.Unit.TheVariants.{Inch, Mil, Cm, Mm, Um}
-use Rattle.geo_kernel.specs.Units.{unit_nm}
 use Rattle.pcb_model.specs.declared.item.Item.{Item}
 use Rattle.pcb_model.specs.declared.design.Design.{Design}
 use Rattle.pcb_model.specs.declared.design.SesScale.{SesScale}
-use Rattle.pcb_model.specs.Scale.{is_on_scale, is_whole, keeps_resolution, scale_of}
+use Rattle.pcb_model.specs.Scale.{keeps_resolution, scale_of}
 use Rattle.pcb_model.specs.Sound.{HasDistinctNames, HasFewParts}
 use Rattle.dsn_tree.specs.declared.tree.Tree.{Tree}
 use Rattle.dsn_tree.specs.Heads.{child, is_headed}
@@ -21,7 +18,7 @@ use Rattle.dsn_structure.specs.Header.{count_by, count_of, unit_of}
 use Rattle.dsn_shapes.specs.Refusals.{refused}
 use Rattle.dsn_shapes.specs.Lists.{at_of, name_of, place_of}
 use Rattle.ses_writer.specs.Session.{is_printed, unit_word}
-use Rattle.session_law.proofs.Numbers.{multiple}
+use Rattle.session_law.proofs.Scales.{is_kept, of_scale, scale_if, some_if}
 use Rattle.reading_law.proofs.Measured.{Measure}
 use Rattle.ses_reader.specs.Measures.{measure_by, measure_in, plain_measure, refused_unless, resolution_refusal}
 use Rattle.ses_reader.specs.Measures.{resolution_refusals}
@@ -42,44 +39,22 @@ use Rattle.reading_law.proofs.Values.{session_told}
 abbrev pub measure_of : SesScale → Measure
 measure_of s = record { unit = s.unit; per = s.per }
 
--- a unit of length is some nm
-some_unit : (u : LengthUnit) → 0 < unit_nm u
-some_unit Inch = lit< tt
-some_unit Mil = lit< tt
-some_unit Cm = lit< tt
-some_unit Mm = lit< tt
-some_unit Um = lit< tt
-
--- what is made of some parts has some
-some_part : (a b n : ℕ) → n ≡ a * b → 0 < n → 0 < a
-some_part zero b n e h = absurd (omega (arith, e, h))
-some_part (suc a) b n e h = omega arith
-
--- a scale by whether the design's resolution is kept
-abbrev scale_by : Design → Bool → SesScale
-scale_by d keeps = cond keeps (record { unit = d.unit; per = d.per; nm = unit_nm d.unit / d.per })
-    (record { unit = Um; per = 1000; nm = 1 })
-
 -- the scale of a session is one of nm
-scaled_by : (d : Design) → d.per ≤ 1000000 → (b : Bool) → keeps_resolution d ≡ b
-    → IsScaled (measure_of (scale_by d b)) (scale_by d b).nm
-scaled_by d few true e =
-    let parts = and_parts (nat_lt 0 d.per && is_whole d.per (unit_nm d.unit))
-    (is_on_scale d (unit_nm d.unit / d.per)) e in
-    let both = and_parts (nat_lt 0 d.per) (is_whole d.per (unit_nm d.unit)) parts.0 in
-    let unit = sym (multiple d.per (unit_nm d.unit) both.1) in
+scaled_if : (d : Design) → d.per ≤ 1000000 → (b : Bool) → keeps_resolution d ≡ b
+    → IsScaled (measure_of (scale_if b d)) (scale_if b d).nm
+scaled_if d few true e =
+    let kept = is_kept d e in
     record {
-      some_per = ltb-true 0 d.per both.0;
+      some_per = ltb-true 0 d.per kept.some_per;
       few_per = few;
-      some_nm = some_part (unit_nm d.unit / d.per) d.per (unit_nm d.unit) unit (some_unit d.unit);
-      unit_is = unit;
+      some_nm = some_if d true e;
+      unit_is = sym kept.unit_is;
     }
-scaled_by d few false e = record { some_per = lit< tt; few_per = lit< tt; some_nm = lit< tt; unit_is = refl }
+scaled_if d few false e = record { some_per = lit< tt; few_per = lit< tt; some_nm = lit< tt; unit_is = refl }
 
 -- of each design
 pub scaled_of : (d : Design) → d.per ≤ 1000000 → IsScaled (measure_of (scale_of d)) (scale_of d).nm
-unfolding scale_of
-scaled_of d few = scaled_by d few (keeps_resolution d) refl
+scaled_of d few = of_scale (λ (s : SesScale). IsScaled (measure_of s) s.nm) d (scaled_if d few)
 
 -- ---- the resolution
 -- a printed unit is read
@@ -198,7 +173,7 @@ module _ (s : SesScale) (some : 0 < s.per) (few : s.per ≤ 1000000) where
     unfolding routes_items
     routes_are = λ i. option_map_or (network_items d (measure_there i)) (network_there i) []
 
-    -- so are their refusals
+    -- they have no refusal where the network has none
     routes_none : network_refusals d (measure_of s) (network_tree d s.nm items) ≡ []
         → routes_refusals d (routes_tree d s items) ≡ []
     unfolding routes_refusals

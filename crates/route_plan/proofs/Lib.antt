@@ -3,4 +3,6 @@ pub mod Offering
 pub mod Anchoring
 pub mod Routing
 pub mod Planning
+pub mod Alike
+pub mod Searching
 pub mod Clearing

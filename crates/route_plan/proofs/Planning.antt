@@ -23,6 +23,13 @@ pub can_move : (d : Design) (m : Mesh) (s : SnapOf) (net via_cost : ℕ) (penalt
     → CanPlan d m s net via_cost penalty → CanMove d m net via_cost
 can_move d m s net via_cost penalty can = record { sound = can.sound; fits = can.fits; net_there = can.net_there; small_cost = can.small_cost }
 
+-- the first island of a net has that net
+pub first_net : (d : Design) (items : List Item) (net : ℕ) (found others : List Island) (island : Island)
+    → AreIslands d items net found → slice_get found 0 ≡ Some island → others ≡ remove found 0 → island.net ≡ net
+first_net d items net found others island islands first rest =
+    net_at d items net 0 island others
+    (record { found = found; islands = islands; island_is = first; others_are = rest })
+
 module _ (d : Design) (m : Mesh) (s : SnapOf) (net via_cost : ℕ) (b : BoardOf) where
   -- what holds of the design and the snapshot's items holds of the board's
   pub on_board : (F : Design → List Item → Type 0) → s.design ≡ d → IsSnapOf s b → F d s.items → F b.design b.items

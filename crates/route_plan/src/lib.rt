@@ -6,7 +6,11 @@ mod laws;
 mod passing;
 mod plans;
 mod route;
+mod searches;
 
 pub use laws::rip_bound_sound;
-pub use passing::{plan, plan_in, plan_passing_in};
-pub use plans::{Led, Planned, offer_from, plan_legal_in};
+pub use plans::{Led, Planned};
+pub use searches::{
+    offer_by_maps, offer_from, plan, plan_by_maps, plan_in, plan_legal_in, plan_passing_in,
+    plan_with,
+};

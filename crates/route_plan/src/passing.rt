@@ -1,12 +1,14 @@
-//! Plans by moves that pass routed items, each of which costs a penalty, and plans of either kind.
+//! Plans by moves that pass routed items, each of which costs a penalty.
 //! What is in the way of the new copper is shoved, or else all of it is ripped.
 
 ghost use Rattle.std.specs.Prelude.{◌≡◌, ◌≤◌, ◌<◌, Some, IfOk};
 ghost use Rattle.route_lattice.specs.Mesh.{node_count};
+ghost use Rattle.cut_certificate.specs.Same.{SameMoves};
+ghost use Rattle.ripup.specs.Rips.{rip_graph};
 ghost use Rattle.pcb_board.specs.Boards.{BoardOf};
 ghost use Rattle.route_plan.specs.Plans.{IsSnapOf, CanPlan, IsPassingOffer, FindsPassing, Plans};
 
-use crate::plans::{Led, Planned, plan_legal_in};
+use crate::plans::{Led, Planned};
 use crate::route::{Route, Routed, Task};
 use clear_way::{Way, make_way};
 use geo_kernel::List;
@@ -17,7 +19,7 @@ use path_wire::copper_well_laid;
 use pcb_board::{Offer, Snap};
 use pcb_islands::{Island, islands};
 use pcb_model::{Copper, Design};
-use route_lattice::Lattice;
+use route_lattice::{Lattice, Moves};
 use std::alloc::{AllocError, Global};
 use wave_search::Search;
 
@@ -39,12 +41,13 @@ fn passing_offer(base: u64, worker: u32, net: u32, penalty: u64, route: Route, w
 }
 
 /// What a worker offers to join an island of a net to one of the others by moves that pass routed items.
-fn passing_route(
+fn passing_route<M: Moves>(
     alloc: Global,
     search: &mut Search,
     lat: &Lattice,
     d: &Design,
     snap: &Snap,
+    moves: &M,
     via_cost: u64,
     worker: u32,
     penalty: u64,
@@ -52,6 +55,9 @@ fn passing_route(
     others: &List<Island>,
 ) -> Result<Led, AllocError>
     requires can_plan { CanPlan d.now lat.now snap.now island.now.net via_cost (Some penalty) }
+    requires ready { M.ready moves.now }
+    requires moves { SameMoves (M.graph moves.now)
+        (rip_graph d.now lat.now snap.now.items island.now.net via_cost penalty) }
     requires size { search.old ≡ node_count lat.now }
     ensures finds { IfOk result (FindsPassing d.now lat.now snap.now via_cost worker penalty island.now others.now) }
     ensures size { search.new ≡ search.old }
@@ -66,7 +72,7 @@ fn passing_route(
         via_cost,
         penalty: Some(penalty),
     };
-    match task.route(alloc, search, island, others)? {
+    match task.route(alloc, search, moves, island, others)? {
         Routed::Shut(reach) => Ok(Led::Shut(reach)),
         Routed::Route(route) => {
             let way = make_way(alloc, lat, d, snap, net, &route.metals)?;
@@ -77,19 +83,22 @@ fn passing_route(
 }
 
 /// What a worker offers for a net on a snapshot of a board of the design by moves that pass routed items,
-/// each for `penalty` nm, with memory for searches.
-pub fn plan_passing_in(
+/// each for `penalty` nm, which are `moves`, with memory for searches.
+pub(crate) fn plan_passing_with<M: Moves>(
     alloc: Global,
     search: &mut Search,
     lat: &Lattice,
     d: &Design,
     snap: &Snap,
+    moves: &M,
     via_cost: u64,
     worker: u32,
     net: u32,
     penalty: u64,
 ) -> Result<Planned, AllocError>
     requires can_plan { CanPlan d.now lat.now snap.now net via_cost (Some penalty) }
+    requires ready { M.ready moves.now }
+    requires moves { SameMoves (M.graph moves.now) (rip_graph d.now lat.now snap.now.items net via_cost penalty) }
     requires worker { worker ≤ 16 }
     requires size { search.old ≡ node_count lat.now }
     ensures plan { IfOk result (λ p. (b : BoardOf) → IsSnapOf snap.now b
@@ -107,64 +116,9 @@ pub fn plan_passing_in(
     }
     let island = others.remove(0);
     match passing_route(
-        alloc, search, lat, d, snap, via_cost, worker, penalty, &island, &others,
+        alloc, search, lat, d, snap, moves, via_cost, worker, penalty, &island, &others,
     )? {
         Led::Shut(reach) => Ok(Planned::Shut(reach)),
         Led::Offer(offer) => Ok(Planned::Offer(offer)),
     }
-}
-
-/// What a worker offers for a net on a snapshot of a board of the design, with memory for searches:
-/// by legal moves alone, or where there is a penalty, by moves that pass routed items.
-pub fn plan_in(
-    alloc: Global,
-    search: &mut Search,
-    lat: &Lattice,
-    d: &Design,
-    snap: &Snap,
-    via_cost: u64,
-    worker: u32,
-    net: u32,
-    penalty: Option<u64>,
-) -> Result<Planned, AllocError>
-    requires can_plan { CanPlan d.now lat.now snap.now net via_cost penalty }
-    requires worker { worker ≤ 16 }
-    requires size { search.old ≡ node_count lat.now }
-    ensures plan { IfOk result (λ p. (b : BoardOf) → IsSnapOf snap.now b
-        → Plans lat.now via_cost b worker net penalty p) }
-    ensures size { search.new ≡ search.old }
-{
-    match penalty {
-        None => plan_legal_in(alloc, search, lat, d, snap, via_cost, worker, net),
-        Some(p) => plan_passing_in(alloc, search, lat, d, snap, via_cost, worker, net, p),
-    }
-}
-
-/// `plan_in` over memory of its own.
-pub fn plan(
-    alloc: Global,
-    lat: &Lattice,
-    d: &Design,
-    snap: &Snap,
-    via_cost: u64,
-    worker: u32,
-    net: u32,
-    penalty: Option<u64>,
-) -> Result<Planned, AllocError>
-    requires can_plan { CanPlan d.now lat.now snap.now net via_cost penalty }
-    requires worker { worker ≤ 16 }
-    ensures { IfOk result (λ p. (b : BoardOf) → IsSnapOf snap.now b → Plans lat.now via_cost b worker net penalty p) }
-{
-    let mut search = Search::new(alloc, lat.count())?;
-    plan_in(
-        alloc,
-        &mut search,
-        lat,
-        d,
-        snap,
-        via_cost,
-        worker,
-        net,
-        penalty,
-    )
 }

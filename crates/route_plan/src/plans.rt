@@ -3,6 +3,8 @@
 
 ghost use Rattle.std.specs.Prelude.{◌≡◌, ◌≤◌, ◌<◌, ℕ, None, Some, IfOk};
 ghost use Rattle.route_lattice.specs.Mesh.{node_count};
+ghost use Rattle.route_lattice.specs.Legal.{legal_graph};
+ghost use Rattle.cut_certificate.specs.Same.{SameMoves};
 ghost use Rattle.pcb_board.specs.Boards.{BoardOf};
 ghost use Rattle.route_plan.specs.Plans.{IsSnapOf, CanPlan, IsBareOffer, Plans, StandsAt, LeadsFrom};
 
@@ -12,7 +14,7 @@ use least_offer::least_offers_may_be_made;
 use pcb_board::{Offer, Snap};
 use pcb_islands::{Island, islands};
 use pcb_model::{Copper, Design};
-use route_lattice::{Lattice, Reach};
+use route_lattice::{Lattice, Moves, Reach};
 use std::alloc::{AllocError, Global};
 use wave_search::Search;
 
@@ -56,21 +58,25 @@ pub enum Led {
     Shut(Reach),
 }
 
-/// What a worker offers to join an island of a net to one of the others by legal moves alone, on a snapshot of a
-/// board of the
-/// design, with memory for searches; or all that legal moves reach from the island, where no walk leads on.
-pub fn offer_from(
+/// What a worker offers to join an island of a net to one of the others by legal moves alone, which are `legal`, on a
+/// snapshot of a board of the design, with memory for searches; or all that legal moves reach from the island, where
+/// no walk leads on.
+pub(crate) fn offer_with<M: Moves>(
     alloc: Global,
     search: &mut Search,
     lat: &Lattice,
     d: &Design,
     snap: &Snap,
+    legal: &M,
     via_cost: u64,
     worker: u32,
     island: &Island,
     others: &List<Island>,
 ) -> Result<Led, AllocError>
     requires can_plan { CanPlan d.now lat.now snap.now island.now.net via_cost None }
+    requires ready { M.ready legal.now }
+    requires legal { SameMoves (M.graph legal.now)
+        (legal_graph d.now lat.now snap.now.items island.now.net via_cost) }
     requires worker { worker ≤ 16 }
     requires size { search.old ≡ node_count lat.now }
     ensures leads { IfOk result (λ r. (b : BoardOf) (place : ℕ) → IsSnapOf snap.now b
@@ -89,7 +95,7 @@ pub fn offer_from(
         via_cost,
         penalty: None,
     };
-    match task.route(alloc, search, island, others)? {
+    match task.route(alloc, search, legal, island, others)? {
         Routed::Shut(reach) => Ok(Led::Shut(reach)),
         Routed::Route(route) => {
             let offer = bare_offer(alloc, snap.number(), worker, net, None, route);
@@ -98,19 +104,22 @@ pub fn offer_from(
     }
 }
 
-/// What a worker offers for a net on a snapshot of a board of the design by legal moves alone, with memory for
-/// searches.
-pub fn plan_legal_in(
+/// What a worker offers for a net on a snapshot of a board of the design by legal moves alone, which are `legal`,
+/// with memory for searches.
+pub(crate) fn plan_legal_with<M: Moves>(
     alloc: Global,
     search: &mut Search,
     lat: &Lattice,
     d: &Design,
     snap: &Snap,
+    legal: &M,
     via_cost: u64,
     worker: u32,
     net: u32,
 ) -> Result<Planned, AllocError>
     requires can_plan { CanPlan d.now lat.now snap.now net via_cost None }
+    requires ready { M.ready legal.now }
+    requires legal { SameMoves (M.graph legal.now) (legal_graph d.now lat.now snap.now.items net via_cost) }
     requires worker { worker ≤ 16 }
     requires size { search.old ≡ node_count lat.now }
     ensures plan { IfOk result (λ p. (b : BoardOf) → IsSnapOf snap.now b → Plans lat.now via_cost b worker net None p) }
@@ -122,8 +131,8 @@ pub fn plan_legal_in(
         return Ok(Planned::Whole);
     }
     let island = others.remove(0);
-    match offer_from(
-        alloc, search, lat, d, snap, via_cost, worker, &island, &others,
+    match offer_with(
+        alloc, search, lat, d, snap, legal, via_cost, worker, &island, &others,
     )? {
         Led::Shut(reach) => Ok(Planned::Shut(reach)),
         Led::Offer(offer) => Ok(Planned::Offer(offer)),

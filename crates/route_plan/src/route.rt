@@ -8,6 +8,7 @@ ghost use Rattle.route_lattice.specs.Mesh.{node_count};
 ghost use Rattle.route_lattice.specs.Fits.{FitsDesign};
 ghost use Rattle.route_lattice.specs.Walks.{Answers};
 ghost use Rattle.cut_certificate.specs.Cuts.{IsGoal};
+ghost use Rattle.cut_certificate.specs.Same.{SameMoves};
 ghost use Rattle.route_plan.specs.Plans.{CanPlan, moves_of, FindsAnchored, IsAnchoredIn, FindsRoute};
 
 use crate::laws::rip_bound_sound;
@@ -17,8 +18,8 @@ use path_wire::{net_walks, walk_items};
 use pcb_board::Snap;
 use pcb_islands::Island;
 use pcb_model::{Copper, Design, Metal};
-use ripup::{RipMoves, rip_graph_sound};
-use route_lattice::{Found, Lattice, LegalMoves, Reach, Walk, legal_graph_sound};
+use ripup::rip_graph_sound;
+use route_lattice::{Found, Lattice, Moves, Reach, legal_graph_sound};
 use std::alloc::{AllocError, Global};
 use wave_search::{BoxBound, LayerDirections, Search, box_bound_sound};
 
@@ -98,92 +99,50 @@ pub(crate) struct Task<'a> {
 }
 
 impl Task<'_> {
-    /// A least walk over legal moves.
-    fn legal_walk(
+    /// A least walk over the moves of the net.
+    fn walk<M: Moves>(
         &self,
         alloc: Global,
         search: &mut Search,
+        moves: &M,
         starts: &List<u32>,
         goals: &List<u32>,
     ) -> Result<Found, AllocError>
         requires can_plan { CanPlan self.now.d.now self.now.lat.now self.now.snap.now self.now.net self.now.via_cost self.now.penalty }
-        requires size { search.old ≡ node_count self.now.lat.now }
-        requires starts { All (λ s. s < node_count self.now.lat.now) starts.now }
-        ensures answers { IfOk result (Answers
-            (moves_of self.now.d.now self.now.lat.now self.now.snap.now.items self.now.net self.now.via_cost None) starts.now goals.now) }
-        ensures size { search.new ≡ search.old }
-    {
-        let moves = LegalMoves::of(self.lat, self.d, self.snap, self.net, self.via_cost);
-        legal_graph_sound();
-        box_bound_sound();
-        let bound = BoxBound::of(alloc, self.lat, goals)?;
-        let ties = LayerDirections { lat: self.lat };
-        search.tied_walk(alloc, &moves, &bound, &ties, starts, goals)
-    }
-
-    /// A least walk over moves that pass routed items.
-    fn rip_walk(
-        &self,
-        alloc: Global,
-        search: &mut Search,
-        penalty: u64,
-        starts: &List<u32>,
-        goals: &List<u32>,
-    ) -> Result<Found, AllocError>
-        requires can_plan { CanPlan self.now.d.now self.now.lat.now self.now.snap.now self.now.net self.now.via_cost self.now.penalty }
-        requires small_penalty { penalty ≤ 2 ^ 30 }
+        requires ready { M.ready moves.now }
+        requires same { SameMoves (M.graph moves.now)
+            (moves_of self.now.d.now self.now.lat.now self.now.snap.now.items self.now.net self.now.via_cost
+            self.now.penalty) }
         requires size { search.old ≡ node_count self.now.lat.now }
         requires starts { All (λ s. s < node_count self.now.lat.now) starts.now }
         ensures answers { IfOk result (Answers
             (moves_of self.now.d.now self.now.lat.now self.now.snap.now.items self.now.net self.now.via_cost
-            (Some penalty)) starts.now goals.now) }
+            self.now.penalty) starts.now goals.now) }
         ensures size { search.new ≡ search.old }
     {
-        let moves = RipMoves::of(
-            self.lat,
-            self.d,
-            self.snap,
-            self.net,
-            self.via_cost,
-            penalty,
-        );
+        legal_graph_sound();
         rip_graph_sound();
+        box_bound_sound();
         rip_bound_sound();
         let bound = BoxBound::of(alloc, self.lat, goals)?;
         let ties = LayerDirections { lat: self.lat };
-        search.tied_walk(alloc, &moves, &bound, &ties, starts, goals)
+        search.tied_walk(alloc, moves, &bound, &ties, starts, goals)
     }
 
-    /// A least walk over the moves of the net.
-    fn walk(
+    /// A route from an island to one of the others over the moves of the net.
+    pub(crate) fn route<M: Moves>(
         &self,
         alloc: Global,
         search: &mut Search,
-        starts: &List<u32>,
-        goals: &List<u32>,
-    ) -> Result<Found, AllocError>
-        requires can_plan { CanPlan self.now.d.now self.now.lat.now self.now.snap.now self.now.net self.now.via_cost self.now.penalty }
-        requires size { search.old ≡ node_count self.now.lat.now }
-        requires starts { All (λ s. s < node_count self.now.lat.now) starts.now }
-        ensures answers { IfOk result (Answers
-            (moves_of self.now.d.now self.now.lat.now self.now.snap.now.items self.now.net self.now.via_cost self.now.penalty) starts.now goals.now) }
-        ensures size { search.new ≡ search.old }
-    {
-        match self.penalty {
-            None => self.legal_walk(alloc, search, starts, goals),
-            Some(penalty) => self.rip_walk(alloc, search, penalty, starts, goals),
-        }
-    }
-
-    /// A route from an island to one of the others.
-    pub(crate) fn route(
-        &self,
-        alloc: Global,
-        search: &mut Search,
+        moves: &M,
         island: &Island,
         others: &List<Island>,
     ) -> Result<Routed, AllocError>
         requires can_plan { CanPlan self.now.d.now self.now.lat.now self.now.snap.now self.now.net self.now.via_cost self.now.penalty }
+        requires ready { M.ready moves.now }
+        requires same { SameMoves (M.graph moves.now)
+            (moves_of self.now.d.now self.now.lat.now self.now.snap.now.items self.now.net self.now.via_cost
+            self.now.penalty) }
         requires size { search.old ≡ node_count self.now.lat.now }
         requires net { island.now.net ≡ self.now.net }
         ensures finds { IfOk result
@@ -192,7 +151,7 @@ impl Task<'_> {
     {
         let starts = starts_of(alloc, self.lat, self.d, self.snap, island)?;
         let goals = goals_of(alloc, self.lat, self.d, self.snap, others)?;
-        match self.walk(alloc, search, &starts, &goals)? {
+        match self.walk(alloc, search, moves, &starts, &goals)? {
             Found::Closed(reach) => Ok(Routed::Shut(reach)),
             Found::Walk(walk) => {
                 let nodes = walk.nodes.as_slice();

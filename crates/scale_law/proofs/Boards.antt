@@ -12,8 +12,9 @@ use Rattle.route_lattice.specs.Whole.{lattice_of}
 use Rattle.route_run.specs.Runs.{AreLeast}
 use Rattle.session_law.specs.Told.{IsOnScale}
 use Rattle.scale_law.proofs.Lines.{lattice_whole}
-use Rattle.scale_law.proofs.Designs.{on_scale}
-use Rattle.scale_law.proofs.Entries.{IsWholeEntry, IsWholePast, loads_whole, each_whole, offer_whole}
+use Rattle.session_law.proofs.Designs.{IsWholeMetal, on_scale}
+use Rattle.scale_law.proofs.Given.{loaded}
+use Rattle.scale_law.proofs.Entries.{IsWholeEntry, IsWholePast, each_whole, offer_whole}
 
 module _ (grid via_cost : ℕ) (b : BoardOf) (board : IsBoard b) (least : AreLeast (lattice_of b.design grid) via_cost b)
     (takes : (k : ℕ) (o : Offer) (first after : ℕ) → slice_get b.history k ≡ Some (Join o first after)
@@ -37,6 +38,6 @@ module _ (grid via_cost : ℕ) (b : BoardOf) (board : IsBoard b) (least : AreLea
   board_on_scale n =
       let whole = on_scale b.design in
       let p = each_whole b.design nm b.start b.history
-      (loads_whole b.design nm b.design.fixed b.design.free board.dropped b.start whole.fixed_whole whole.free_whole
-      board.starts.loads) entry_whole n in
+      (loaded b.design (IsWholeMetal nm) b.design.fixed b.design.free board.dropped b.start whole.fixed_whole
+      whole.free_whole board.starts.loads) entry_whole n in
       λ k a within routed. p.items_whole k a within

@@ -1,7 +1,7 @@
 -- The copper of a walk, and chains that are shoved, on a lattice with whole lines.
-use Rattle.std.proofs.Common.{◌≡◌, inl, inr, ℕ, ◌+◌, ℤ, Bool, true, false, cond, List, [], ◌∷◌, take, drop, map}
-use Rattle.std.proofs.Common.{sym, subst, refl, Option, Some}
-use Rattle.std.specs.Prelude.{All, IfSome, slice_get, unsigned_abs}
+use Rattle.std.proofs.Common.{◌≡◌, inl, inr, ℕ, ◌+◌, ℤ, Bool, true, false, cond, List, [], ◌∷◌, take, drop, map, sym}
+use Rattle.std.proofs.Common.{subst, refl}
+use Rattle.std.specs.Prelude.{All, unsigned_abs}
 use Rattle.std.specs.List.{list_all}
 use Rattle.std.proofs.lemmas.Bool.{and_parts, and_from}
 use Rattle.std.proofs.lemmas.List.Sums.{AllPass-from_list_all}
@@ -20,15 +20,11 @@ use Rattle.path_wire.specs.Wires.{corners, wire_from, copper_from, copper_of}
 use Rattle.shove.specs.Shoves.{IsNextLine, MovesRun, is_same_point, fresh_after, without_repeats, with_points}
 use Rattle.shove.specs.Shoves.{IsShovedChain, chain_of}
 use Rattle.board_offers.specs.Items.{with_chain}
-use Rattle.board_offers.proofs.Lists.{at_place}
-use Rattle.session_law.specs.Told.{is_whole_copper}
+use Rattle.board_offers.proofs.Lists.{got}
+use Rattle.session_law.proofs.Designs.{IsWholeMetal}
 use Rattle.scale_law.proofs.Lines.{IsWhole, HasWholeLines, node_whole}
 
--- the points and the width of a metal are whole in units of so many nm
-abbrev pub IsWholeMetal : ℕ → Metal → Type 0
-IsWholeMetal nm a = is_whole_copper nm a ≡ true
-
--- so are the points of a chain
+-- the points of a chain are whole in units of so many nm
 abbrev pub IsWholeChain : ℕ → List Point → Type 0
 IsWholeChain nm chain = All (λ (p : Point). is_whole_point nm p ≡ true) chain
 
@@ -48,10 +44,6 @@ rechained nm points (metal.Wire layer width chain) h w = and_from (is_whole nm w
 rechained nm points (metal.Via padstack at) h w = w
 rechained nm points (metal.Pad pin) h w = w
 rechained nm points (metal.Ban wires vias) h w = w
-
--- what holds of all elements holds of the one at a place
-pub at_in : {X : Type 0} (P : X → Type 0) (xs : List X) (k : ℕ) (x : X) → All P xs → slice_get xs k ≡ Some x → P x
-at_in {X} P xs k x all e = subst (λ (o : Option X). IfSome o P) e (at_place P xs k all)
 
 module _ (nm : ℕ) (m : Mesh) (lines : HasWholeLines nm m) where
   -- ---- walks
@@ -150,8 +142,8 @@ module _ (nm : ℕ) (m : Mesh) (lines : HasWholeLines nm m) where
   pub chain_whole : (chain : List Point) (r : ℕ) (up : Bool) (shoved : List Point) → IsWholeChain nm chain
       → IsShovedChain m chain r up shoved → IsWholeChain nm shoved
   chain_whole chain r up shoved all h =
-      let moved = moved_whole up h.a h.b h.to_a h.to_b (at_in IsWholeAt chain r h.a all h.a_is)
-      (at_in IsWholeAt chain (r + 1) h.b all h.b_is) h.moves in
+      let moved = moved_whole up h.a h.b h.to_a h.to_b (got IsWholeAt chain all r h.a (sym h.a_is))
+      (got IsWholeAt chain all (r + 1) h.b (sym h.b_is)) h.moves in
       subst (IsWholeChain nm) (sym h.shoved_is) (once_whole (with_points chain r h.to_a h.to_b)
       (All-append IsWholeAt (take (r + 1) chain) (h.to_a ∷ h.to_b ∷ drop (r + 1) chain)
       (All-take IsWholeAt (r + 1) chain all)

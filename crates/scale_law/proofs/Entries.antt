@@ -1,6 +1,6 @@
 -- Whatever least joins give and put on a board is whole, entry by entry.
-use Rattle.std.proofs.Common.{◌≡◌, inl, inr, ℕ, zero, suc, ◌+◌, ◌≤◌, List, [], ◌∷◌, ◌++◌, Option, Some, None}
-use Rattle.std.proofs.Common.{take, length, sym, ap, ◌∙◌, refl, subst, arith}
+use Rattle.std.proofs.Common.{◌≡◌, inl, inr, ℕ, zero, suc, ◌+◌, ◌≤◌, List, [], ◌∷◌, Option, Some, None, take, sym, ap}
+use Rattle.std.proofs.Common.{◌∙◌, refl, subst, arith}
 use Rattle.std.specs.Prelude.{All, not, slice_get, slice_index_or}
 use Rattle.std.specs.List.{AllZip}
 use Rattle.std.specs.Option.{option_map_or}
@@ -8,9 +8,8 @@ use Rattle.std.proofs.lemmas.Bool.{cases_lt}
 use Rattle.std.proofs.lemmas.List.{take_all}
 use Rattle.std.proofs.lemmas.List.Sums.{list_all-from_AllPass}
 use Rattle.std.proofs.lemmas.Option.{none-some, slice_get_cases}
-use Rattle.std.proofs.lemmas.List.Elements.{All-nil, All-cons, All-head, All-tail, All-append, All-contains, All-filter}
+use Rattle.std.proofs.lemmas.List.Elements.{All-nil, All-cons, All-append, All-contains, All-filter}
 use Rattle.pcb_model.specs.declared.item.Item.{Item}
-use Rattle.pcb_model.specs.declared.design.FreeWire.{FreeWire}
 use Rattle.pcb_model.specs.declared.design.Net.{Net}
 use Rattle.pcb_model.specs.declared.design.Design.{Design}
 use Rattle.pcb_model.specs.Scale.{is_whole_point}
@@ -20,39 +19,23 @@ use Rattle.route_lattice.specs.Mesh.{Mesh}
 use Rattle.shove.specs.Shoves.{chain_of}
 use Rattle.board_offers.specs.declared.offer.Offer.{Offer}
 use Rattle.board_offers.specs.declared.offer.Shoved.{Shoved}
-use Rattle.board_offers.specs.Items.{names, gone, without, item_at, no_item, added, replaced, new_items}
-use Rattle.board_offers.specs.Items.{joined_items}
-use Rattle.board_offers.proofs.Lists.{all_from}
+use Rattle.board_offers.specs.Items.{names, gone, without, item_at, no_item, added, new_items, joined_items}
+use Rattle.board_offers.proofs.Lists.{all_from, got}
 use Rattle.pcb_board.specs.declared.answer.Entry.{Entry}
 use Rattle.pcb_board.specs.declared.answer.Entry.TheVariants.{Join, Back}
-use Rattle.pcb_board.specs.Boards.{BoardOf, Loads, free_item, Past, opening, next, past, replayed, board_at, given}
+use Rattle.pcb_board.specs.Boards.{BoardOf, Past, opening, next, past, replayed, board_at, given}
 use Rattle.pcb_board.proofs.Past.{past_more, taken_one}
 use Rattle.least_offer.specs.Least.{IsLeastOffer, Chooses, TakesNothing, IsShoveOf}
-use Rattle.least_offer.proofs.Adding.{all_added}
-use Rattle.least_offer.proofs.Replacing.{all_replaced, zip_right}
+use Rattle.least_offer.proofs.Replacing.{zip_right}
 use Rattle.scale_law.proofs.Lines.{HasWholeLines, at_or}
-use Rattle.scale_law.proofs.Copper.{IsWholeMetal, IsWholeChain, at_in, points_of, rechained, copper_whole, chain_whole}
-use Rattle.scale_law.proofs.Designs.{IsWholeDesign}
+use Rattle.session_law.proofs.Designs.{IsWholeDesign, IsWholeMetal}
+use Rattle.scale_law.proofs.Copper.{IsWholeChain, points_of, rechained, copper_whole, chain_whole}
+use Rattle.scale_law.proofs.Given.{all_new, all_of_none}
 
 module _ (d : Design) (nm : ℕ) where
   -- an item of whole copper
   abbrev pub IsWholeItem : Item → Type 0
   IsWholeItem a = IsWholeMetal nm a.metal
-
-  -- ---- the start list
-  -- free wiring behind items
-  pub loads_whole : (items : List Item) (ws : List FreeWire) (dropped : List ℕ) (start : List Item)
-      → All IsWholeItem items → All (λ (w : FreeWire). IsWholeMetal nm w.metal) ws → Loads d items ws dropped start
-      → All IsWholeItem start
-  loads_whole items [] dropped start h free l = subst (All IsWholeItem) (sym l.1) h
-  loads_whole items (w ∷ ws) dropped start h free (inl l) =
-      loads_whole (items ++ free_item d items w ∷ []) ws dropped start
-      (All-append IsWholeItem items (free_item d items w ∷ []) h
-      (All-cons IsWholeItem (free_item d items w) [] (All-head (λ (x : FreeWire). IsWholeMetal nm x.metal) w ws free)
-      (All-nil IsWholeItem)))
-      (All-tail (λ (x : FreeWire). IsWholeMetal nm x.metal) w ws free) l.1
-  loads_whole items (w ∷ ws) dropped start h free (inr (refused, others, is, l)) =
-      loads_whole items ws others start h (All-tail (λ (x : FreeWire). IsWholeMetal nm x.metal) w ws free) l
 
   -- ---- one entry
   -- the items ever given, and those that are or were on the board
@@ -82,13 +65,11 @@ module _ (d : Design) (nm : ℕ) where
   -- new items of a whole offer
   new_whole : (gv : List Item) (o : Offer) → All IsWholeItem gv → IsWholeOffer o
       → All IsWholeItem (new_items d gv o)
-  new_whole gv o h w = All-append IsWholeItem (added d gv o) (replaced d gv o)
-      (all_added d o.net IsWholeItem (length gv) o.add (λ i. w.add_whole))
-      (all_replaced d gv IsWholeItem (length gv + length o.add) o.shoves
-      (λ i s there. rechained nm s.chain (item_at gv s.id).metal
+  new_whole gv o h w = all_new d (IsWholeMetal nm) gv o w.add_whole (λ s there.
+      rechained nm s.chain (item_at gv s.id).metal
       (list_all-from_AllPass (is_whole_point nm) s.chain
       (All-contains (λ (t : Shoved). IsWholeChain nm t.chain) o.shoves s w.chains_whole there))
-      (at_or IsWholeItem gv s.id no_item h refl)))
+      (at_or IsWholeItem gv s.id no_item h refl))
 
   -- after one entry more
   next_whole : (p : Past) (e : Entry) → IsWholePast p → IsWholeEntry e → IsWholePast (next d p e)
@@ -165,7 +146,7 @@ has_net : (d : Design) (items : List Item) (net : ℕ) (found : List Island) (pl
 has_net d items net found place island are e = elim (slice_get_cases d.nets net).1 [
   | inl (n, within, there, same) ↦ record { one = n; there = there }
   | inr (behind, none) ↦
-      let i = at_in (IsIsland d items net (pins_of d net)) found place island are.each e in
+      let i = got (IsIsland d items net (pins_of d net)) found are.each place island (sym e) in
       absurd (no_pins d items i.pad net island.pins i.first none i.pins_are i.first_is)
 ]
 
@@ -188,11 +169,6 @@ module _ (nm : ℕ) (m : Mesh) (via_cost : ℕ) (b : BoardOf) (lines : HasWholeL
       let z = zip_right (IsShoveOf b.design m items new) ids shoves s h there in
       shove_whole items new z.left s all z.holds)
 
-  -- no shoves
-  no_chains : (shoves : List Shoved) → shoves ≡ [] → All (λ (s : Shoved). IsWholeChain nm s.chain) shoves
-  no_chains shoves e = subst (All (λ (s : Shoved). IsWholeChain nm s.chain)) (sym e)
-      (All-nil (λ (s : Shoved). IsWholeChain nm s.chain))
-
   -- a least offer for a board of whole items
   pub offer_whole : (o : Offer) → IsLeastOffer m via_cost (board_at b o.base) o → (o.penalty ≡ None → TakesNothing o)
       → All (IsWholeItem b.design nm) (replayed b o.base) → IsWholeOffer b.design nm o
@@ -208,9 +184,9 @@ module _ (nm : ℕ) (m : Mesh) (via_cost : ℕ) (b : BoardOf) (lines : HasWholeL
     where
       by : (p : Option ℕ) → o.penalty ≡ p → Chooses m (board_at b o.base) o p
           → All (λ (s : Shoved). IsWholeChain nm s.chain) o.shoves
-      by None e h = no_chains o.shoves (takes e).no_shove
+      by None e h = all_of_none (λ (s : Shoved). IsWholeChain nm s.chain) o.shoves (takes e).no_shove
       by (Some penalty) e h = elim h.chosen [
         | inl shoves ↦ shoves_whole (replayed b o.base) (added b.design (given (board_at b o.base)) o) h.ids o.shoves
             all shoves.shoves_are
-        | inr rips ↦ no_chains o.shoves rips.no_shove
+        | inr rips ↦ all_of_none (λ (s : Shoved). IsWholeChain nm s.chain) o.shoves rips.no_shove
       ]

@@ -1,6 +1,6 @@
 pub mod Lines
 pub mod Copper
-pub mod Designs
+pub mod Given
 pub mod Entries
 pub mod Boards
 pub mod Runs

@@ -1,13 +1,13 @@
 -- A board's items are the fixed ones and behind them the routed ones.
-use Rattle.std.proofs.Common.{◌≡◌, inl, inr, ℕ, zero, suc, ◌<◌, ◌≤◌, Bool, true, false, cond, not, List, [], ◌∷◌}
-use Rattle.std.proofs.Common.{◌++◌, length, get_or, map, ap, sym, ◌∙◌, refl, subst, arith}
+use Rattle.std.proofs.Common.{◌≡◌, inl, inr, ℕ, ◌<◌, ◌≤◌, Bool, true, false, cond, not, List, [], ◌∷◌, ◌++◌, length}
+use Rattle.std.proofs.Common.{get_or, map, ap, sym, ◌∙◌, refl, subst, arith}
 use Rattle.std.specs.Prelude.{All, Contains, filter, slice_get, Some}
 use Rattle.std.specs.List.{AllZip}
 use Rattle.std.proofs.lemmas.Bool.{both_ways, cases_Bool, cases_lt, and_right}
 use Rattle.std.proofs.lemmas.Option.{same_Some, slice_get_within, slice_get-get_or}
 use Rattle.std.proofs.lemmas.List.Elements.{All-head, All-tail, All-cons, All-filter, All-contains, Contains-get_or}
-use Rattle.board_offers.proofs.Lists.{all_front, pairs_rest, all_from, in_here, in_later, stayed, passes, not_true}
-use Rattle.board_offers.proofs.Lists.{filtered_twice, none_pass, found_at}
+use Rattle.board_offers.proofs.Lists.{all_front, pairs_rest, all_from, stayed, passes, not_true, filtered_twice}
+use Rattle.board_offers.proofs.Lists.{none_pass, found_at}
 use Rattle.pcb_model.specs.declared.item.Item.{Item}
 use Rattle.pcb_model.specs.declared.item.Metal.{Metal}
 use Rattle.pcb_model.specs.declared.design.Design.{Design}
@@ -15,6 +15,7 @@ use Rattle.pcb_model.specs.Board.{is_fixed, IsRouted}
 use Rattle.pcb_model.specs.Copper.{Ascends}
 use Rattle.pcb_model.specs.Scale.{scale_of}
 use Rattle.pcb_model.specs.Sound.{IsItemOf, Serves}
+use Rattle.pcb_board.proofs.Order.{kept_there}
 use Rattle.pcb_board.specs.Boards.{BoardOf, given}
 use Rattle.pcb_board.specs.Keeping.{IsBoard}
 use Rattle.ses_writer.specs.Session.{session_of, is_of_net}
@@ -70,18 +71,6 @@ fixed_first n (a ∷ items) up low high = by a.fixed refl
         ])))
 
 -- ---- a board's items
--- a filter keeps what passes its test
-kept : (p : Item → Bool) (items : List Item) (a : Item) → Contains items a → p a ≡ true → Contains (filter p items) a
-kept p [] a (k, within, is) e = absurd (omega (arith, within))
-kept p (b ∷ items) a (zero, within, is) e =
-    subst (λ (t : Bool). Contains (cond t (b ∷ filter p items) (filter p items)) a)
-    (sym (ap p is ∙ e)) (subst (λ (x : Item). Contains (b ∷ filter p items) x) is (in_here b (filter p items)))
-kept p (b ∷ items) a (suc k, within, is) e = by (p b) (kept p items a (k, omega (arith, within), is) e)
-  where
-    by : (t : Bool) → Contains (filter p items) a → Contains (cond t (b ∷ filter p items) (filter p items)) a
-    by true h = in_later b a (filter p items) h
-    by false h = h
-
 module _ (b : BoardOf) (board : IsBoard b) (fixed_there : filter is_fixed b.items ≡ b.design.fixed)
     (up : Ascends b.items) where
   -- an item stands at its id among those ever given
@@ -94,7 +83,7 @@ module _ (b : BoardOf) (board : IsBoard b) (fixed_there : filter is_fixed b.item
   fixed_low : (a : Item) → Contains b.items a → a.fixed ≡ true → a.id < length b.design.fixed
   fixed_low a there e =
       let f = found_at b.design.fixed a (subst (λ (xs : List Item). Contains xs a) fixed_there
-      (kept is_fixed b.items a there e)) in
+      (kept_there is_fixed b.items a there e)) in
       subst (λ (n : ℕ). n < length b.design.fixed) (sym (board.sound.fixed f.place a f.there).numbered)
       (slice_get_within b.design.fixed f.place a f.there)
 

@@ -1,6 +1,7 @@
 pub mod Bytes
 pub mod Spelling
 pub mod Numbers
+pub mod Scales
 pub mod Points
 pub mod Names
 pub mod Metals
@@ -9,4 +10,5 @@ pub mod Blocks
 pub mod Printed
 pub mod Parts
 pub mod Whole
+pub mod Designs
 pub mod Boards

@@ -47,7 +47,7 @@ unfolding length_word
 point_needs_quotes nm p r = refl
 
 -- the points of a chain
-exact_points : (nm : ℕ) (ps : List Point) → list_all (is_whole_point nm) ps ≡ true → All (IsWithin (2 ^ 29)) ps
+pub exact_points : (nm : ℕ) (ps : List Point) → list_all (is_whole_point nm) ps ≡ true → All (IsWithin (2 ^ 29)) ps
     → All (IsExactPoint nm) ps
 exact_points nm [] w h = All-nil (IsExactPoint nm)
 exact_points nm (p ∷ ps) w h =

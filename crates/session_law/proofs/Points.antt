@@ -19,14 +19,14 @@ pub record IsExactPoint (nm : ℕ) (p : Point) : Type 0 where
   pub within : IsWithin (2 ^ 29) p
 
 -- so is its first coordinate
-exact_x : (nm : ℕ) (p : Point) → IsExactPoint nm p → IsExact nm p.x
+pub exact_x : (nm : ℕ) (p : Point) → IsExactPoint nm p → IsExact nm p.x
 exact_x nm p h = record {
   whole = (and_parts (is_whole nm (unsigned_abs p.x)) (is_whole nm (unsigned_abs p.y)) h.whole).0;
   small = h.within.0;
 }
 
 -- and its second
-exact_y : (nm : ℕ) (p : Point) → IsExactPoint nm p → IsExact nm p.y
+pub exact_y : (nm : ℕ) (p : Point) → IsExactPoint nm p → IsExact nm p.y
 exact_y nm p h = record {
   whole = (and_parts (is_whole nm (unsigned_abs p.x)) (is_whole nm (unsigned_abs p.y)) h.whole).1;
   small = h.within.1;
@@ -83,7 +83,7 @@ directed_if true chain = inr refl
 directed_if false chain = inl refl
 
 -- a directed chain is the chain or its reverse
-directed_is : (chain : List Point) → (directed chain ≡ chain) ⊎ (directed chain ≡ reverse chain)
+pub directed_is : (chain : List Point) → (directed chain ≡ chain) ⊎ (directed chain ≡ reverse chain)
 directed_is chain = directed_if (is_lesser (reverse chain) chain) chain
 
 -- chains that are directed alike are one chain or one is the other backwards
@@ -108,7 +108,7 @@ all_reversed P ps h k d within =
     subst P (sym (get_or-reverse ps k d less)) (h (length ps - 1 - k) d (omega (arith, less)))
 
 -- and in the printed direction
-all_directed : (P : Point → Type 0) (ps : List Point) → All P ps → All P (directed ps)
+pub all_directed : (P : Point → Type 0) (ps : List Point) → All P ps → All P (directed ps)
 all_directed P ps h = elim (directed_is ps) [
   | inl a ↦ subst (All P) (sym a) h
   | inr a ↦ subst (All P) (sym a) (all_reversed P ps h)

@@ -1,61 +1,20 @@
 -- A session tells the routed copper behind fixed items.
-use Rattle.std.proofs.Common.{◌≡◌, ℕ, zero, suc, ◌*◌, ◌/◌, ◌<◌, Bool, true, false, List, ◌++◌, sym, ◌∙◌, refl, arith}
-use Rattle.std.specs.Prelude.{filter, codes, nat_lt, if◌then◌else◌, ◌&&◌}
+use Rattle.std.proofs.Common.{◌≡◌, ℕ, Bool, List, ◌++◌, sym, ◌∙◌}
+use Rattle.std.specs.Prelude.{filter, codes}
 use Rattle.std.specs.List.{AllZip}
 use Rattle.std.proofs.lemmas.List.{append_assoc, append_cancel_left}
-use Rattle.std.proofs.lemmas.Bool.{and_parts}
-use Rattle.geo_kernel.specs.declared.unit.Unit.{Unit as LengthUnit}
-use Rattle.geo_kernel.specs.declared.unit.Unit.TheVariants.{Inch, Mil, Cm, Mm, Um}
-use Rattle.geo_kernel.specs.Units.{unit_nm}
 use Rattle.pcb_model.specs.declared.item.Item.{Item}
 use Rattle.pcb_model.specs.declared.design.Design.{Design}
 use Rattle.pcb_model.specs.declared.design.SesScale.{SesScale}
-use Rattle.pcb_model.specs.Scale.{scale_of, keeps_resolution, is_whole, is_on_scale}
+use Rattle.pcb_model.specs.Scale.{scale_of}
 use Rattle.pcb_model.specs.Sound.{HasDistinctNames, HasPrintableNames}
 use Rattle.ses_writer.specs.Session.{session_of, placement_part, routes_part, parser_lines, resolution_line}
 use Rattle.ses_writer.specs.Session.{library_lines, network_lines, is_printed}
 use Rattle.session_law.specs.Told.{AreRoutedOf, HaveSameCopper, AreAlike, routed_copper}
-use Rattle.session_law.proofs.Numbers.{multiple}
+use Rattle.session_law.proofs.Scales.{some_scale}
 use Rattle.session_law.proofs.Blocks.{part_end}
 use Rattle.session_law.proofs.Parts.{library_tells, network_tells}
 use Rattle.session_law.proofs.Printed.{copper_tells}
-
--- ---- a session's unit isn't 0 nm
--- nor is a unit of length
-some_nm : (u : LengthUnit) → 0 < unit_nm u
-some_nm Inch = omega arith
-some_nm Mil = omega arith
-some_nm Cm = omega arith
-some_nm Mm = omega arith
-some_nm Um = omega arith
-
--- where a multiple isn't 0, neither is its factor
-some_quotient : (q per n : ℕ) → q * per ≡ n → 0 < n → 0 < q
-some_quotient zero per n e h = omega arith
-some_quotient (suc q) per n e h = omega arith
-
--- the scale, where the resolution is kept and where it is not
-abbrev scale_if : Bool → Design → SesScale
-scale_if true d = record { unit = d.unit; per = d.per; nm = unit_nm d.unit / d.per }
-scale_if false d = record { unit = Um; per = 1000; nm = 1 }
-
--- neither has a unit of 0 nm
-scale_positive : (d : Design) (b : Bool) → keeps_resolution d ≡ b → 0 < (scale_if b d).nm
-scale_positive d true e =
-    let nm = unit_nm d.unit / d.per in
-    let parts = and_parts (nat_lt 0 d.per && is_whole d.per (unit_nm d.unit)) (is_on_scale d nm) e in
-    let whole = (and_parts (nat_lt 0 d.per) (is_whole d.per (unit_nm d.unit)) parts.0).1 in
-    some_quotient nm d.per (unit_nm d.unit) (multiple d.per (unit_nm d.unit) whole) (some_nm d.unit)
-scale_positive d false e = omega arith
-
--- so it is with a design's scale
-pub some_scale : (d : Design) → 0 < (scale_of d).nm
-unfolding scale_of
-some_scale d = by (keeps_resolution d) refl
-  where
-    by : (b : Bool) → keeps_resolution d ≡ b → 0 < (if b then scale_if true d else scale_if false d).nm
-    by true e = scale_positive d true e
-    by false e = scale_positive d false e
 
 -- ---- the session's parts
 -- what stands before the library

@@ -27,7 +27,7 @@ use Rattle.session_tree.proofs.Plain.{IsSpelled, ArePlain, plain_word}
 use Rattle.session_tree.proofs.Taken.{Stands, Past, past_blank, past_left, past_right, past_word}
 
 -- From the place on come the tokens of such trees, but for their places, within so much room; the bytes follow.
-pub record Trip (room : ℕ) (p : Place) (trees : List Tree) (bytes : List ℕ) : Type 0 where
+pub record Spelled (room : ℕ) (p : Place) (trees : List Tree) (bytes : List ℕ) : Type 0 where
   pub q : Place
   pub ts : List Token
   pub items : List Tree
@@ -41,8 +41,8 @@ pub record Trip (room : ℕ) (p : Place) (trees : List Tree) (bytes : List ℕ) 
 -- They begin with a blank or a bracket.
 pub record Says (room : ℕ) (trees : List Tree) (bytes rest : List ℕ) : Type 0 where
   pub starts : EndsWord bytes
-  pub trip : (p : Place) (more : List ℕ) → EndsWord more → Stands false p (bytes ++ more)
-      → Trip room p trees (rest ++ more)
+  pub spells : (p : Place) (more : List ℕ) → EndsWord more → Stands false p (bytes ++ more)
+      → Spelled room p trees (rest ++ more)
 
 -- ---- trees without places
 -- a word without its place
@@ -75,10 +75,10 @@ shows_both ts us xs ys e f = map-append shown ts us ∙ ap (λ zs. zs ++ map sho
     ∙ ap (λ zs. flat_map flat xs ++ zs) f
     ∙ sym (flat_map-append flat xs ys)
 
--- one way after another, with its trees
-trip_both : (room : ℕ) (p : Place) (trees more : List Tree) (bytes rest : List ℕ) (a : Trip room p trees bytes)
-    → Trip room a.q more rest → Trip room p (trees ++ more) rest
-trip_both room p trees more bytes rest a b = record {
+-- one piece after another, with its trees
+spelled_both : (room : ℕ) (p : Place) (trees more : List Tree) (bytes rest : List ℕ) (a : Spelled room p trees bytes)
+    → Spelled room a.q more rest → Spelled room p (trees ++ more) rest
+spelled_both room p trees more bytes rest a b = record {
   q = b.q;
   ts = a.ts ++ b.ts;
   items = a.items ++ b.items;
@@ -99,7 +99,7 @@ ends_more (b ∷ bytes) more e f = e
 nothing : (room : ℕ) (bytes : List ℕ) → EndsWord bytes → Says room [] bytes bytes
 nothing room bytes e = record {
   starts = e;
-  trip = λ p more f s. record {
+  spells = λ p more f s. record {
     q = p;
     ts = [];
     items = [];
@@ -134,13 +134,13 @@ pub blank : {room : ℕ} {trees : List Tree} {bytes rest : List ℕ} (b : ℕ) �
     → Says room trees (b ∷ bytes) rest
 blank {room} {trees} {bytes} {rest} b h a = record {
   starts = ends_blank b h;
-  trip = λ p more e s. a.trip p more e (past_blank false p b (bytes ++ more) h s);
+  spells = λ p more e s. a.spells p more e (past_blank false p b (bytes ++ more) h s);
 }
 
--- the trip over one word
-word_trip : (room : ℕ) (p : Place) (text bytes : List ℕ) → Past false p (mark.Word text) bytes
-    → Trip room p (word_tree text ∷ []) bytes
-word_trip room p text bytes a = record {
+-- a word is one tree
+spelled_word : (room : ℕ) (p : Place) (text bytes : List ℕ) → Past false p (mark.Word text) bytes
+    → Spelled room p (word_tree text ∷ []) bytes
+spelled_word room p text bytes a = record {
   q = a.q;
   ts = a.t ∷ [];
   items = Word a.t.at text ∷ [];
@@ -156,12 +156,12 @@ pub word : {room : ℕ} {trees : List Tree} {text bytes rest : List ℕ} (spelle
     → Says room trees bytes rest → Says room (word_tree text ∷ trees) (32 ∷ (spelled ++ bytes)) rest
 word {room} {trees} {text} {bytes} {rest} spelled w a = record {
   starts = refl;
-  trip = λ p more f s.
+  spells = λ p more f s.
       let behind = past_blank false p 32 ((spelled ++ bytes) ++ more) refl s in
       let past = past_word false p text spelled (bytes ++ more) w refl (ends_more bytes more a.starts f)
       (subst (Stands false p) (append_assoc spelled bytes more) behind) in
-      let b = word_trip room p text (bytes ++ more) past in
-      trip_both room p (word_tree text ∷ []) trees (bytes ++ more) (rest ++ more) b (a.trip b.q more f b.stands);
+      let b = spelled_word room p text (bytes ++ more) past in
+      spelled_both room p (word_tree text ∷ []) trees (bytes ++ more) (rest ++ more) b (a.spells b.q more f b.stands);
 }
 
 -- a blank and a word at the end
@@ -220,11 +220,11 @@ shows_inside w r ts head items e f h =
     ∙ ap (λ xs. (flat (Word w.at head) ++ xs) ++ shown r ∷ []) h
     ∙ ap (λ m. (flat (Word w.at head) ++ flat_map flat items) ++ shown_at r.at m ∷ []) f
 
--- the trip over one group
-group_trip : (room : ℕ) (p : Place) (head bytes more rest : List ℕ) (trees : List Tree) (l : Past true p Left bytes)
-    (w : Past false l.q (mark.Word head) more) (a : Trip room w.q trees (41 ∷ rest))
-    → Past false a.q Right rest → Trip (suc room) p (group_tree head trees ∷ []) rest
-group_trip room p head bytes more rest trees l w a r =
+-- so is a group
+spelled_group : (room : ℕ) (p : Place) (head bytes more rest : List ℕ) (trees : List Tree) (l : Past true p Left bytes)
+    (w : Past false l.q (mark.Word head) more) (a : Spelled room w.q trees (41 ∷ rest))
+    → Past false a.q Right rest → Spelled (suc room) p (group_tree head trees ∷ []) rest
+spelled_group room p head bytes more rest trees l w a r =
     let inner : List Tree = Word w.t.at head ∷ a.items in record {
       q = r.q;
       ts = l.t ∷ w.t ∷ a.ts ++ r.t ∷ [];
@@ -247,16 +247,16 @@ pub group : {room : ℕ} {inside trees : List Tree} {bytes behind rest : List �
 group {room} {inside} {trees} {bytes} {behind} {rest} head h a b =
     let parts = and_parts (is_constant head) (not (str_eq_ignore_ascii_case head (codes "string_quote"))) h in record {
       starts = refl;
-      trip = λ p more f s.
+      spells = λ p more f s.
           let l = past_left false p (head ++ (bytes ++ more))
           (subst (λ xs. Stands false p (40 ∷ xs)) (append_assoc head bytes more) s) in
           let w = past_word true l.q head head (bytes ++ more) (constant head parts.0) (not_true _ parts.1)
           (ends_more bytes more a.starts f) l.stands in
-          let t = a.trip w.q more f w.stands in
+          let t = a.spells w.q more f w.stands in
           let r = past_right false t.q (behind ++ more) t.stands in
-          let g = group_trip room p head (head ++ (bytes ++ more)) (bytes ++ more) (behind ++ more) inside l w t r in
-          trip_both (suc room) p (group_tree head inside ∷ []) trees (behind ++ more) (rest ++ more) g
-          (b.trip g.q more f g.stands);
+          let g = spelled_group room p head (head ++ (bytes ++ more)) (bytes ++ more) (behind ++ more) inside l w t r in
+          spelled_both (suc room) p (group_tree head inside ∷ []) trees (behind ++ more) (rest ++ more) g
+          (b.spells g.q more f g.stands);
     }
 
 -- ---- pieces
@@ -266,10 +266,10 @@ pub both : {room : ℕ} {inside trees : List Tree} {piece bytes rest : List ℕ}
     → Says room (inside ++ trees) (piece ++ bytes) rest
 both {room} {inside} {trees} {piece} {bytes} {rest} a b = record {
   starts = ends_more piece bytes a.starts b.starts;
-  trip = λ p more f s.
-      let t = a.trip p (bytes ++ more) (ends_more bytes more b.starts f)
+  spells = λ p more f s.
+      let t = a.spells p (bytes ++ more) (ends_more bytes more b.starts f)
       (subst (Stands false p) (append_assoc piece bytes more) s) in
-      trip_both room p inside trees (bytes ++ more) (rest ++ more) t (b.trip t.q more f t.stands);
+      spelled_both room p inside trees (bytes ++ more) (rest ++ more) t (b.spells t.q more f t.stands);
 }
 
 -- the last piece with trees

@@ -22,30 +22,30 @@ abbrev pub AreBlanks : List ℕ → Type 0
 AreBlanks gap = AllByRecursion (λ b. is_blank b ≡ true) gap
 
 -- no quoting byte is due
-abbrev pub IsCalm : Line → Type 0
-IsCalm Fresh = Unit {0}
-IsCalm Begun = Unit {0}
-IsCalm Quoting = ⊥
+abbrev pub AwaitsNoQuote : Line → Type 0
+AwaitsNoQuote Fresh = Unit {0}
+AwaitsNoQuote Begun = Unit {0}
+AwaitsNoQuote Quoting = ⊥
 
 -- From the place on there are blanks and then these bytes, directly behind an opening bracket or not.
 pub record Stands (opened : Bool) (p : Place) (bytes : List ℕ) : Type 0 where
   pub gap : List ℕ
   pub blanks : AreBlanks gap
   pub text : p.rest ≡ gap ++ bytes
-  pub calm : IsCalm p.context.line
+  pub no_quote : AwaitsNoQuote p.context.line
   pub opened_is : p.context.opened ≡ opened
   pub quote_is : p.context.quote ≡ 34
 
 -- ---- gaps
--- a blank keeps the line calm
-calm_behind : (line : Line) (b : ℕ) → IsCalm line → IsCalm (behind_space line (blank b))
-calm_behind Fresh b c = tt
-calm_behind Begun b c = by (b == 10)
+-- nor is one due behind a blank
+no_quote_behind : (line : Line) (b : ℕ) → AwaitsNoQuote line → AwaitsNoQuote (behind_space line (blank b))
+no_quote_behind Fresh b c = tt
+no_quote_behind Begun b c = by (b == 10)
   where
-    by : (ends : Bool) → IsCalm (if ends then Fresh else Begun)
+    by : (ends : Bool) → AwaitsNoQuote (if ends then Fresh else Begun)
     by true = tt
     by false = tt
-calm_behind Quoting b c = c
+no_quote_behind Quoting b c = c
 
 -- blanks are a gap
 gap_is : (line : Line) (gap : List ℕ) → AreBlanks gap → IsGap line (map blank gap)
@@ -62,12 +62,12 @@ starts_token : (line : Line) (bytes : List ℕ) → StartsWord bytes → StartsT
 starts_token line [] s = s
 starts_token line (b ∷ bytes) s = (s.0, λ e. s.1)
 
--- on a calm line each mark is a token
-calm_token : (line : Line) (mark : Mark) (c : Context) (bytes rest : List ℕ) (d : Context) → IsCalm line
+-- where none is due each mark is a token
+no_quote_token : (line : Line) (mark : Mark) (c : Context) (bytes rest : List ℕ) (d : Context) → AwaitsNoQuote line
     → IsMark mark c bytes rest d → IsTokenAt line mark c bytes rest d
-calm_token Fresh mark c bytes rest d h k = k
-calm_token Begun mark c bytes rest d h k = k
-calm_token Quoting mark c bytes rest d h k = absurd h
+no_quote_token Fresh mark c bytes rest d h k = k
+no_quote_token Begun mark c bytes rest d h k = k
+no_quote_token Quoting mark c bytes rest d h k = absurd h
 
 -- where this many bytes are left of a text
 abbrev pub place_at : Place → List ℕ → Context → Place
@@ -91,7 +91,7 @@ token o p bytes rest mark d s w k short =
         text = s.text ∙ sym (gap_then s.gap bytes);
         starts = starts_token (behind_gap p.context.line (map blank s.gap)) bytes w;
       };
-      token = calm_token p.context.line mark p.context bytes rest d s.calm k;
+      token = no_quote_token p.context.line mark p.context bytes rest d s.no_quote k;
       token_at = omega arith;
       same_end = omega arith;
     }
@@ -113,7 +113,7 @@ past_blank o p b bytes h s = record {
   gap = s.gap ++ b ∷ [];
   blanks = last_blank s.gap s.blanks;
   text = s.text ∙ sym (append_assoc s.gap (b ∷ []) bytes);
-  calm = s.calm;
+  no_quote = s.no_quote;
   opened_is = s.opened_is;
   quote_is = s.quote_is;
 }
@@ -132,9 +132,9 @@ pub record Past (o : Bool) (p : Place) (mark : Mark) (rest : List ℕ) : Type 0 
   pub stands : Stands o q rest
 
 -- behind a token, where no quoting byte is due
-stands_at : (o : Bool) (p : Place) (rest : List ℕ) (d : Context) → IsCalm d.line → d.opened ≡ o → d.quote ≡ 34
+stands_at : (o : Bool) (p : Place) (rest : List ℕ) (d : Context) → AwaitsNoQuote d.line → d.opened ≡ o → d.quote ≡ 34
     → Stands o (place_at p rest d) rest
-stands_at o p rest d c e f = record { gap = []; blanks = tt; text = refl; calm = c; opened_is = e; quote_is = f }
+stands_at o p rest d c e f = record { gap = []; blanks = tt; text = refl; no_quote = c; opened_is = e; quote_is = f }
 
 -- an opening bracket
 pub past_left : (o : Bool) (p : Place) (rest : List ℕ) → Stands o p (40 ∷ rest) → Past true p Left rest
@@ -161,10 +161,10 @@ starts_more : (word rest : List ℕ) → StartsWord word → StartsWord (word ++
 starts_more [] rest s = absurd s
 starts_more (b ∷ word) rest s = s
 
--- a word that doesn't ask for a quoting byte leaves the line calm
-calm_word : (asks : Bool) → asks ≡ false → IsCalm (if asks then Quoting else Begun)
-calm_word true e = absurd (true≢false e)
-calm_word false e = tt
+-- none is due behind a word that doesn't ask for one
+no_quote_word : (asks : Bool) → asks ≡ false → AwaitsNoQuote (if asks then Quoting else Begun)
+no_quote_word true e = absurd (true≢false e)
+no_quote_word false e = tt
 
 -- a word
 pub past_word : (o : Bool) (p : Place) (text word rest : List ℕ) → IsSpelled text word → asks_quote o word ≡ false
@@ -177,11 +177,11 @@ past_word o p text word rest w a e s =
       takes = token o p (word ++ rest) rest (Word text) d s (starts_more word rest w.starts) is
           (omega (arith, length-append word rest));
       mark_is = refl;
-      stands = stands_at false p rest d calm refl s.quote_is;
+      stands = stands_at false p rest d no_quote refl s.quote_is;
     }
   where
-    calm : IsCalm (if asks_quote p.context.opened word then Quoting else Begun)
-    calm = calm_word (asks_quote p.context.opened word) (ap (λ x. asks_quote x word) s.opened_is ∙ a)
+    no_quote : AwaitsNoQuote (if asks_quote p.context.opened word then Quoting else Begun)
+    no_quote = no_quote_word (asks_quote p.context.opened word) (ap (λ x. asks_quote x word) s.opened_is ∙ a)
 
     is : IsWord p.context (word ++ rest) text rest (behind_word p.context word)
     is = record {

@@ -1,4 +1,4 @@
--- The text of a session has one tree, the session's.
+-- The text of a session has the session's tree.
 use Rattle.std.proofs.Common.{◌≡◌, ℕ, suc, ◌≤◌, Bool, false, List, [], ◌∷◌, ◌++◌, length, map, refl, ap, sym, ◌∙◌}
 use Rattle.std.proofs.Common.{arith, append_assoc}
 use Rattle.std.specs.Prelude.{codes, flat_map, filter, None}
@@ -29,7 +29,7 @@ use Rattle.session_tree.specs.Shape.{session_tree}
 use Rattle.session_tree.specs.Told.{HasSessionTree}
 use Rattle.session_tree.proofs.Plain.{name_word}
 use Rattle.session_tree.proofs.Taken.{Stands, at_end}
-use Rattle.session_tree.proofs.Saying.{Trip, Says, unplaced_word, closes, end, blank, gap, word, group, both, last}
+use Rattle.session_tree.proofs.Saying.{Spelled, Says, unplaced_word, closes, end, blank, gap, word, group, both, last}
 use Rattle.session_tree.proofs.Saying.{respell}
 use Rattle.session_tree.proofs.Numbers.{resolution_says}
 use Rattle.session_tree.proofs.Metals.{network_says}
@@ -93,18 +93,18 @@ reading_end p q [] l e = rw l e
 reading_end p q (t ∷ ts) l e = (l.0, l.1, reading_end l.0 q ts l.2 e)
 
 -- A tree of the text, but for places.
-record Treed (text : List ℕ) (shape : Tree) : Type 0 where
+record HasTreeAs (text : List ℕ) (shape : Tree) : Type 0 where
   tree : Tree
   has_tree : HasTree text tree
   is_shape : unplaced tree ≡ shape
 
 -- a text of one group has its tree
-one_tree : (text : List ℕ) (inside : List Tree) (a : Trip 64 (start text) (Group 0 inside ∷ []) [])
-    → Treed text (Group 0 inside)
+one_tree : (text : List ℕ) (inside : List Tree) (a : Spelled 64 (start text) (Group 0 inside ∷ []) [])
+    → HasTreeAs text (Group 0 inside)
 one_tree text inside a = by a.items a.is a.shows a.deep
   where
     by : (items : List Tree) → map unplaced items ≡ Group 0 inside ∷ [] → map shown a.ts ≡ flat_map flat items
-        → AllByRecursion (λ t. depth t ≤ 64) items → Treed text (Group 0 inside)
+        → AllByRecursion (λ t. depth t ≤ 64) items → HasTreeAs text (Group 0 inside)
     by [] e s d = absurd (omega (arith, ap length e))
     by (t ∷ u ∷ ts) e s d = absurd (omega (arith, ap length e))
     by (t ∷ []) e s d =
@@ -129,17 +129,17 @@ starts text = record {
   gap = [];
   blanks = tt;
   text = sym (append-nil text);
-  calm = tt;
+  no_quote = tt;
   opened_is = refl;
   quote_is = refl;
 }
 
 -- the text of a session has the session's tree
-pub session_treed : (d : Design) (items : List Item) (omit_fixed : Bool) → HasPrintableNames d
+pub session_has_tree : (d : Design) (items : List Item) (omit_fixed : Bool) → HasPrintableNames d
     → HasSessionTree d items omit_fixed
 unfolding session_tree
-session_treed d items omit_fixed h =
+session_has_tree d items omit_fixed h =
     let text = session_of d items omit_fixed in
-    let a = (session_says 58 d items omit_fixed h).trip (start text) [] tt (starts text) in
+    let a = (session_says 58 d items omit_fixed h).spells (start text) [] tt (starts text) in
     let r = one_tree text _ a in
     record { tree = r.tree; has_tree = r.has_tree; is_shape = r.is_shape }

@@ -1,7 +1,7 @@
 //! Which tree the text of a written session spells: a law on a call that does nothing.
 #![tactic(auto)]
 
-ghost use Rattle.std.specs.Prelude.{◌≡◌, Bool, List as Seq};
+ghost use Rattle.std.specs.Prelude.{Bool, List as Seq};
 ghost use Rattle.pcb_model.specs.declared.design.Design.{Design as TheDesign};
 ghost use Rattle.pcb_model.specs.declared.item.Item.{Item as OneItem};
 ghost use Rattle.pcb_model.specs.Sound.{HasPrintableNames};

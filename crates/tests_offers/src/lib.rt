@@ -7,4 +7,6 @@ mod answers;
 #[cfg(test)]
 mod board;
 #[cfg(test)]
+mod changes;
+#[cfg(test)]
 mod refusals;

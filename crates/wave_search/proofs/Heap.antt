@@ -10,11 +10,12 @@ use Rattle.std.proofs.lemmas.List.{length-map}
 use Rattle.std.proofs.lemmas.Bool.Decides.{nat_tests}
 use Rattle.std.specs.declared.cmp.Reverse.{Reverse}
 use Rattle.wave_search.specs.declared.front.Entry.{Entry}
-use Rattle.wave_search.specs.declared.front.Item.{Item}
+use Rattle.wave_search.specs.declared.bins.Item.{Item}
 use Rattle.wave_search.specs.Waiting.{Waits, IsAdded, IsTaken}
 use Rattle.wave_search.specs.Order.{inner, later_cmp}
 
-waits_at : (rs : List (Reverse Item)) (r : Reverse Item) (k : ℕ) → k < length rs → get_or rs k r ≡ r → Waits (map inner rs) (inner r)
+-- an item of the heap waits
+pub waits_at : (rs : List (Reverse Item)) (r : Reverse Item) (k : ℕ) → k < length rs → get_or rs k r ≡ r → Waits (map inner rs) (inner r)
 waits_at [] r k h e = absurd (omega arith)
 waits_at (x ∷ xs) r zero h e = inl (ap inner e)
 waits_at (x ∷ xs) r (suc k) h e = inr (waits_at xs r k (omega arith) e)

@@ -1,4 +1,5 @@
 pub mod Heap
+pub mod Joined
 pub mod Table
 pub mod Steps
 pub mod Cells

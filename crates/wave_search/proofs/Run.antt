@@ -1,6 +1,6 @@
 -- One turn of the search, and its end.
 use Rattle.std.proofs.Common.{◌≡◌, ℕ, ◌+◌, ◌-◌, ◌*◌, ◌^◌, ◌<◌, ◌≤◌, List, [], length, Option, Some, None, refl, sym, ap, ◌∙◌, subst, arith}
-use Rattle.std.specs.Prelude.{Contains, IfSome}
+use Rattle.std.specs.Prelude.{Contains, IfSome, MatchOption}
 use Rattle.wave_search.specs.declared.labels.Label.{Label}
 use Rattle.wave_search.specs.declared.front.Entry.{Entry}
 use Rattle.wave_search.specs.Waiting.{IsTaken}
@@ -9,6 +9,17 @@ use Rattle.wave_search.specs.Bounds.{IsBound}
 use Rattle.wave_search.specs.State.{label_at, IsPut, KeepsDone, Comes, Roots, IsListed, IsState}
 use Rattle.wave_search.proofs.Table.{within, at_most, more_to_do}
 use Rattle.wave_search.proofs.Steps.{finished, key_is, none_less, closed_none, closed_complete, closed_reached, not_done, one_label, done_kept}
+
+-- an entry came out of the front
+pub taken_now : (old new : List Entry) (o : Option Entry) (e : Entry)
+    → MatchOption o ((old ≡ []) × (new ≡ [])) (λ x. IsTaken old x new) → o ≡ Some e → IsTaken old e new
+taken_now old new o e m is = subst (λ (x : Option Entry). MatchOption x ((old ≡ []) × (new ≡ [])) (λ y. IsTaken old y new)) is m
+
+-- nothing came out of it
+pub nothing_now : (old new : List Entry) (o : Option Entry)
+    → MatchOption o ((old ≡ []) × (new ≡ [])) (λ x. IsTaken old x new) → o ≡ None → old ≡ []
+nothing_now old new o m is =
+    (subst (λ (x : Option Entry). MatchOption x ((old ≡ []) × (new ≡ [])) (λ y. IsTaken old y new)) is m).0
 
 -- the price of a label is small
 pub price_small : {graph : MoveGraph} {starts goals : List ℕ} {low : ℕ → ℕ} {t : List (Option Label)} {q : List Entry} {level fin cur j : ℕ} → IsSound graph → IsState graph starts goals low t q level fin cur j
@@ -64,6 +75,10 @@ module _ {graph : MoveGraph} {starts goals : List ℕ} {low : ℕ → ℕ} (soun
 
     pub put_keeps : (k : Label) (t' : List (Option Label)) → IsPut t e.node k t' → KeepsDone t t'
     put_keeps k t' w = done_kept t e.node k t' w waits
+
+    -- a goal's key is its price
+    pub goal_key : Contains goals e.node → e.key ≡ l.price
+    goal_key c = omega (arith, key_is graph starts goals low sound bound t q state.0 fin 0 state.1 e q' taken l there rank_is, bound.at_goals e.node c)
 
     pub none_less_now : Contains goals e.node → NoneCostsLess graph starts goals l.price
     none_less_now ge = none_less graph starts goals low sound bound t q state.0 fin 0 state.1 e q' taken l there rank_is ge

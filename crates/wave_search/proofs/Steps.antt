@@ -8,7 +8,7 @@ use Rattle.wave_search.specs.Waiting.{Waits, IsAdded, IsTaken}
 use Rattle.route_lattice.specs.declared.moves.Move.{Move}
 use Rattle.route_lattice.specs.Walks.{MoveGraph, Hop, Opens, Leads, cost, IsSound, NoneCostsLess, NoneLeads, Reaches}
 use Rattle.wave_search.specs.Bounds.{IsBound}
-use Rattle.wave_search.specs.State.{label_at, done_of, done_by, IsPut, KeepsDone, entry, Comes, IsCheap, IsState, improves_on}
+use Rattle.wave_search.specs.State.{label_at, done_of, done_by, IsPut, KeepsDone, entry, Comes, IsCheap, IsState, improves_on, is_done_by}
 use Rattle.std.proofs.lemmas.Option.{some_pair_parts, none-some}
 use Rattle.std.proofs.Common.{true, false}
 use Rattle.std.proofs.lemmas.Bool.Decides.{nat_tests}
@@ -95,6 +95,14 @@ cheap_at t to p (Some l) e h = record { label = l; there = e; cheap = not_below 
 pub cheap_from : (t : List (Option Label)) (to p : ℕ) → improves_on p (label_at t to) ≡ false → IsCheap t to p
 cheap_from t to p h = cheap_at t to p (label_at t to) refl h
 
+done_at : (t : List (Option Label)) (to : ℕ) (o : Option Label) → label_at t to ≡ o → is_done_by o ≡ true → (k : Label) × (label_at t to ≡ Some k) × (0 < k.rank)
+done_at t to None e h = cc
+done_at t to (Some l) e h = (l, e, grind (arith, nat_tests))
+
+-- the node is done
+pub done_from : (t : List (Option Label)) (to : ℕ) → is_done_by (label_at t to) ≡ true → (k : Label) × (label_at t to ≡ Some k) × (0 < k.rank)
+done_from t to h = done_at t to (label_at t to) refl h
+
 pub zero_or_pos : (r : ℕ) → (r ≡ 0) ⊎ (0 < r)
 zero_or_pos zero = inl refl
 zero_or_pos (suc r) = inr (omega arith)
@@ -173,6 +181,18 @@ module _ (graph : MoveGraph) (starts goals : List ℕ) (low : ℕ → ℕ) (soun
       let same : h.to ≡ to = sym (some_pair_parts m h.move to h.to (sym at_is ∙ ((λ x. graph.at cur (sym e x)) ∙ o.leads))).1 in
       let cur_in : cur < graph.count = omega (arith, within t cur lu there, i.roots.size) in
       record { label = c.label; there = subst (λ (x : ℕ). label_at t x ≡ Some c.label) (sym same) c.there; cheap = omega (arith, c.cheap, one_cost cur j p cur_in costs h o e) })
+
+  -- move j leads to a node that is done
+  pub done_before : (t : List (Option Label)) (q : List Entry) (level fin cur j : ℕ) (lu : Label) → IsState graph starts goals low t q level fin cur j → label_at t cur ≡ Some lu
+      → level ≡ lu.price + low cur → (m : Move) (to : ℕ) → graph.at cur j ≡ Some (m, to) → is_done_by (label_at t to) ≡ true → IsState graph starts goals low t q level fin cur (j + 1)
+  done_before t q level fin cur j lu i there level_is m to at_is so = advance t q level fin cur j lu i there (λ h o e.
+      let same : h.to ≡ to = sym (some_pair_parts m h.move to h.to (sym at_is ∙ ((λ x. graph.at cur (sym e x)) ∙ o.leads))).1 in
+      let cur_in : cur < graph.count = omega (arith, within t cur lu there, i.roots.size) in
+      let d = done_from t to so in record {
+        label = d.0;
+        there = subst (λ (x : ℕ). label_at t x ≡ Some d.0) (sym same) d.1;
+        cheap = omega (arith, i.settled to d.0 d.1 d.2, bound.falls cur h cur_in o, level_is, ap low same);
+      })
 
   -- move j of the node that is done leads, for less, to a node that gets a new label and waits
   module _ (t : List (Option Label)) (q : List Entry) (level fin cur j : ℕ) (lu : Label) (i : IsState graph starts goals low t q level fin cur j)

@@ -1,6 +1,7 @@
 pub mod Bounds
 pub mod Waiting
 pub mod Order
+pub mod Ready
 pub mod State
 pub mod Rows
 pub mod Cells

@@ -1,5 +1,5 @@
--- The entries of a heap, of which the least is on top.
-use Rattle.std.specs.Prelude.{List, map}
+-- Items, the entries that they stand for, and a heap of them, of which the least is on top.
+use Rattle.std.specs.Prelude.{◌≤◌, ℕ, List, map}
 use Rattle.std.specs.declared.cmp.Ordering.{Ordering}
 use Rattle.std.specs.Ordering.{nat_cmp, ordering_then}
 use Rattle.std.specs.BinaryHeap.{heap_items, IsHeap}
@@ -7,7 +7,8 @@ use Rattle.std.specs.declared.collections.BinaryHeap.{BinaryHeap}
 use Rattle.std.specs.declared.cmp.Reverse.{Reverse}
 use Rattle.std.specs.declared.alloc.Global.{Global}
 use Rattle.wave_search.specs.declared.front.Entry.{Entry}
-use Rattle.wave_search.specs.declared.front.Item.{Item}
+use Rattle.wave_search.specs.declared.bins.Item.{Item}
+use Rattle.wave_search.specs.Waiting.{Waits}
 
 -- by key, then by order, then by node
 abbrev pub item_cmp : Item → Item → Ordering
@@ -18,11 +19,21 @@ abbrev pub later_cmp : Reverse Item → Reverse Item → Ordering
 later_cmp x y = item_cmp y.0 x.0
 
 -- the entry that an item stands for
+abbrev pub entry_of : Item → Entry
+entry_of i = record { key = i.key; node = i.node }
+
 abbrev pub inner : Reverse Item → Entry
-inner r = record { key = r.0.key; node = r.0.node }
+inner r = entry_of r.0
+
+abbrev pub entries_in : List Item → List Entry
+entries_in items = map entry_of items
 
 abbrev pub entries_of : BinaryHeap (Reverse Item) Global → List Entry
 entries_of h = map inner (heap_items h)
 
 abbrev pub IsOrdered : BinaryHeap (Reverse Item) Global → Type 0
 IsOrdered h = IsHeap later_cmp (heap_items h)
+
+-- no key is below that number
+abbrev pub IsBounded : ℕ → List Entry → Type 0
+IsBounded least entries = (e : Entry) → Waits entries e → least ≤ e.key

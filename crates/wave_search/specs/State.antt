@@ -1,5 +1,5 @@
 -- What a search keeps true.
-use Rattle.std.specs.Prelude.{◌≡◌, ℕ, ◌+◌, ◌*◌, ◌^◌, ◌≤◌, ◌<◌, List, [], ◌∷◌, length, Option, Some, None, slice_get, Contains, Bool, true, nat_lt}
+use Rattle.std.specs.Prelude.{◌≡◌, ℕ, ◌+◌, ◌*◌, ◌^◌, ◌≤◌, ◌<◌, List, [], ◌∷◌, length, Option, Some, None, slice_get, Contains, Bool, true, false, nat_lt}
 use Rattle.std.specs.List.Sorted.{IsStrictlyIncreasing}
 use Prim.Native.Nat.{zero, suc}
 use Rattle.wave_search.specs.declared.labels.Label.{Label}
@@ -33,6 +33,11 @@ done_count (x ∷ xs) = done_of x + done_count xs
 abbrev pub improves_on : ℕ → Option Label → Bool
 improves_on p None = true
 improves_on p (Some l) = nat_lt p l.price
+
+-- whether the label is of a node that is done
+abbrev pub is_done_by : Option Label → Bool
+is_done_by None = false
+is_done_by (Some l) = nat_lt 0 l.rank
 
 -- node v has got the label l
 pub record IsPut (old : List (Option Label)) (v : ℕ) (l : Label) (new : List (Option Label)) : Type 0 where

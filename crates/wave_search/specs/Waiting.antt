@@ -21,3 +21,16 @@ pub record IsTaken (old : List Entry) (e : Entry) (new : List Entry) : Type 0 wh
   pub kept : (x : Entry) → Waits old x → Waits new x ⊎ (x ≡ e)
   pub only : (x : Entry) → Waits new x → Waits old x
   pub len : length new < length old
+
+-- e was taken out of old, and new has the others
+pub record IsDrawn (old : List Entry) (e : Entry) (new : List Entry) : Type 0 where
+  pub there : Waits old e
+  pub kept : (x : Entry) → Waits old x → Waits new x ⊎ (x ≡ e)
+  pub only : (x : Entry) → Waits new x → Waits old x
+  pub len : length new < length old
+
+-- new has the entries of old
+pub record IsSame (old new : List Entry) : Type 0 where
+  pub kept : (x : Entry) → Waits old x → Waits new x
+  pub only : (x : Entry) → Waits new x → Waits old x
+  pub len : length new ≤ length old

@@ -74,18 +74,21 @@ impl Choices {
         })
     }
 
-    fn slot(&self, rank: u32) -> u32 {
-        self.slots.get(rank as usize).copied().unwrap_or(NO_SLOT)
+    fn slot(&self, rank: usize) -> u32 {
+        self.slots.get(rank).copied().unwrap_or(NO_SLOT)
     }
 
     /// Whether the node of that rank has any way on.
-    pub(crate) fn has(&self, rank: u32) -> bool {
+    pub(crate) fn has(&self, rank: usize) -> bool {
         self.slot(rank) != NO_SLOT
     }
 
     /// The best way on of a heading from the node of that rank.
     pub(crate) fn way(&self, rank: u32, heading: Heading) -> Option<Way> {
-        let way = self.ways.get(place_of(self.slot(rank), heading)).copied()?;
+        let way = self
+            .ways
+            .get(place_of(self.slot(rank as usize), heading))
+            .copied()?;
         if way.cost == NO_WAY {
             return None;
         }
@@ -108,7 +111,7 @@ impl Choices {
 
     /// The slot of a rank, which gets one if it has none.
     fn room(&mut self, rank: u32) -> Result<u32, AllocError> {
-        let old = self.slot(rank);
+        let old = self.slot(rank as usize);
         if old != NO_SLOT {
             return Ok(old);
         }

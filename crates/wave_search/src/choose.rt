@@ -21,6 +21,18 @@ struct Place {
     label: Label,
 }
 
+/// Whether the first label was done before the second.
+fn is_before(first: Label, second: Label) -> bool {
+    0 < first.rank && first.rank < second.rank
+}
+
+/// Whether a pass asks of each move if it is open, or takes it to be: a walk that it leads to is asked of in any case.
+#[derive(Clone, Copy, Debug, PartialEq, Eq)]
+pub(crate) enum Openness {
+    Taken,
+    Asked,
+}
+
 impl<'a, M: Moves, B: Bound, T: Ties> Task<'a, M, B, T> {
     /// A tight move before the way on of that heading.
     fn choose_way(
@@ -43,17 +55,47 @@ impl<'a, M: Moves, B: Bound, T: Ties> Task<'a, M, B, T> {
         choices.offer(from.label.rank, heading_of(m), way)
     }
 
-    /// The ways on from a node that was done before another, if a tight move leads from it to the other.
-    fn choose_from(&self, choices: &mut Choices, from: Place, to: Place) -> Result<(), AllocError>
+    /// The first move from one node to another; move `guess` is tried before all.
+    fn first_to(&self, from: u32, to: u32, guess: u32) -> Option<Move>
+        requires ready { M.ready self.now.m.now }
+        requires sound { IsSound (M.graph self.now.m.now) }
+        requires node { from < (M.graph self.now.m.now).count }
+    {
+        if guess < self.m.arity()
+            && let Some((m, there)) = self.m.at(from, guess)
+            && there == to
+        {
+            return Some(m);
+        }
+        for i in 0..self.m.arity() {
+            if let Some((m, there)) = self.m.at(from, i)
+                && there == to
+            {
+                return Some(m);
+            }
+        }
+        None
+    }
+
+    /// The ways on from a node over a move to one that was done after it at a price that the move may make up.
+    fn choose_from(
+        &self,
+        choices: &mut Choices,
+        from: Place,
+        to: Place,
+        guess: u32,
+        openness: Openness,
+    ) -> Result<(), AllocError>
         requires ready { M.ready self.now.m.now }
         requires sound { IsSound (M.graph self.now.m.now) }
         requires node { from.node < (M.graph self.now.m.now).count }
         requires small { from.label.price < 2 ^ 60 }
     {
-        if from.label.rank == 0 || from.label.rank >= to.label.rank {
-            return Ok(());
-        }
-        let Some(m) = self.tight_to(from.node, from.label.price, to.node, to.label.price) else {
+        let found = match openness {
+            Openness::Taken => self.first_to(from.node, to.node, guess),
+            Openness::Asked => self.tight_to(from.node, from.label.price, to.node, to.label.price),
+        };
+        let Some(m) = found else {
             return Ok(());
         };
         self.choose_way(choices, from, m, to, Heading::Across)?;
@@ -69,6 +111,7 @@ impl<'a, M: Moves, B: Bound, T: Ties> Task<'a, M, B, T> {
         choices: &mut Choices,
         to: Place,
         i: u32,
+        openness: Openness,
     ) -> Result<(), AllocError>
         requires ready { M.ready self.now.m.now }
         requires sound { IsSound (M.graph self.now.m.now) }
@@ -83,20 +126,23 @@ impl<'a, M: Moves, B: Bound, T: Ties> Task<'a, M, B, T> {
         let Some(label) = table.get(node) else {
             return Ok(());
         };
-        if label.price.wrapping_add(self.m.price(to.node, i)) != to.label.price
+        if !is_before(label, to.label)
+            || label.price > to.label.price
             || to.label.origin == Some(node)
+            || label.price.wrapping_add(self.m.price(to.node, i)) != to.label.price
         {
             return Ok(());
         }
-        self.choose_from(choices, Place { node, label }, to)
+        self.choose_from(choices, Place { node, label }, to, i ^ 1, openness)
     }
 
-    /// The ways on from the nodes before a node.
+    /// The ways on from the nodes before a node. The one that its label came from is known to lead to it.
     fn choose_before(
         &self,
         table: &Labels,
         choices: &mut Choices,
         to: Place,
+        openness: Openness,
     ) -> Result<(), AllocError>
         requires ready { M.ready self.now.m.now }
         requires sound { IsSound (M.graph self.now.m.now) }
@@ -106,22 +152,32 @@ impl<'a, M: Moves, B: Bound, T: Ties> Task<'a, M, B, T> {
     {
         if let Some(node) = to.label.origin
             && let Some(label) = self.label_after(table, 0, node)
+            && is_before(label, to.label)
         {
-            self.choose_from(choices, Place { node, label }, to)?;
+            self.choose_from(choices, Place { node, label }, to, 0, Openness::Taken)?;
         }
         for i in 0..self.m.arity() {
-            self.choose_over(table, choices, to, i)?;
+            self.choose_over(table, choices, to, i, openness)?;
         }
         Ok(())
     }
 
-    /// The ways on from the nodes before a node that has ways on itself, as a goal at the price has.
+    /// Whether a number is that of a goal.
+    fn is_marked(&self, node: u32) -> bool
+        requires { length self.now.marks.now ≡ (M.graph self.now.m.now).count }
+    {
+        node < self.m.count() && self.marks.has(node)
+    }
+
+    /// The ways on from the nodes before a node of a rank that has ways on itself, as a goal at the price has.
     fn choose_at(
         &self,
         table: &Labels,
         choices: &mut Choices,
         node: u32,
+        rank: usize,
         price: u64,
+        openness: Openness,
     ) -> Result<(), AllocError>
         requires ready { M.ready self.now.m.now }
         requires sound { IsSound (M.graph self.now.m.now) }
@@ -129,20 +185,24 @@ impl<'a, M: Moves, B: Bound, T: Ties> Task<'a, M, B, T> {
         requires marks { length self.now.marks.now ≡ (M.graph self.now.m.now).count }
         requires small { (v : ℕ) (l : TheLabel) → label_at table.now v ≡ Some l → l.price < 2 ^ 60 }
     {
+        let is_goal = self.is_marked(node);
+        if !is_goal && !choices.has(rank) {
+            return Ok(());
+        }
         let Some(label) = self.label_after(table, 0, node) else {
             return Ok(());
         };
-        if label.price == price && self.marks.has(node) {
+        if is_goal && label.price == price {
             choices.offer_goal(label.rank)?;
         }
-        if !choices.has(label.rank) {
+        if !choices.has(rank) {
             return Ok(());
         }
         if label.origin.is_none() {
             choices.offer_start(node, label.rank);
             return Ok(());
         }
-        self.choose_before(table, choices, Place { node, label })
+        self.choose_before(table, choices, Place { node, label }, openness)
     }
 
     /// The ways on from the nodes that are done, which are given in the order in which they were, to goals at the price.
@@ -152,6 +212,7 @@ impl<'a, M: Moves, B: Bound, T: Ties> Task<'a, M, B, T> {
         table: &Labels,
         order: &[u32],
         price: u64,
+        openness: Openness,
     ) -> Result<Choices, AllocError>
         requires ready { M.ready self.now.m.now }
         requires sound { IsSound (M.graph self.now.m.now) }
@@ -160,8 +221,8 @@ impl<'a, M: Moves, B: Bound, T: Ties> Task<'a, M, B, T> {
         requires small { (v : ℕ) (l : TheLabel) → label_at table.now v ≡ Some l → l.price < 2 ^ 60 }
     {
         let mut choices = Choices::new(alloc, order.len())?;
-        for node in order.iter().rev() {
-            self.choose_at(table, &mut choices, *node, price)?;
+        for k in (0..order.len()).rev() {
+            self.choose_at(table, &mut choices, order[k], k + 1, price, openness)?;
         }
         Ok(choices)
     }

@@ -1,9 +1,14 @@
 //! The front of a search: entries that wait, of which one with the least key comes out first.
 //! Contracts see it as a list of entries of which only membership is told.
 
-ghost use Rattle.std.specs.Prelude.{◌≡◌, [], OnOk, OnErr, MatchOption};
-ghost use Rattle.wave_search.specs.Waiting.{IsAdded, IsTaken};
+ghost use Rattle.std.specs.Prelude.{◌≡◌, ◌≤◌, ◌++◌, [], OnOk, OnErr, IfOk, MatchOption};
+ghost use Rattle.std.specs.Bool.{OnTrue};
+ghost use Rattle.wave_search.specs.declared.front.Entry.{Entry as OneEntry};
+ghost use Rattle.wave_search.specs.Waiting.{Waits, IsAdded, IsDrawn, IsTaken, IsSame};
+ghost use Rattle.wave_search.specs.Order.{entry_of, entries_of, IsOrdered};
+ghost use Rattle.wave_search.specs.Ready.{IsReady, far_of, all_of};
 
+use crate::bins::{Bin, Item};
 use std::alloc::{AllocError, Global};
 use std::cmp::Reverse;
 use std::collections::BinaryHeap;
@@ -16,30 +21,177 @@ pub(crate) struct Entry {
     pub node: u32,
 }
 
-/// An entry as it is kept: of equal keys the least in order comes first.
-#[derive(Clone, Copy, Debug, PartialEq, Eq, PartialOrd, Ord)]
-struct Item {
-    key: u64,
-    order: u64,
-    node: u32,
+/// How many of a key's lowest bits don't tell apart what lies in the heap.
+const NEAR: u32 = 16;
+
+/// The same of the first bin.
+const NEXT: u32 = 19;
+
+/// The same of the second bin.
+const LATER: u32 = 22;
+
+/// The entries that wait: in a heap those near the key at which it was filled last, or below it, and in bins all others,
+/// by the bits in which their key differs from that one. The spare bin holds those that are being moved.
+#[derive(Drop)]
+struct Parts {
+    at: u64,
+    near: BinaryHeap<Reverse<Item>>,
+    next: Bin,
+    later: Bin,
+    last: Bin,
+    spare: Bin,
+}
+
+/// Takes the top of the heap.
+fn take_top(near: &mut BinaryHeap<Reverse<Item>>) -> Option<Item>
+    requires ordered { IsOrdered near.old }
+    ensures ordered { IsOrdered near.new }
+    ensures top { MatchOption result ((entries_of near.old ≡ []) × (entries_of near.new ≡ []))
+        (λ i. IsTaken (entries_of near.old) (entry_of i) (entries_of near.new)) }
+{
+    let Some(Reverse(item)) = near.pop() else {
+        return None;
+    };
+    Some(item)
+}
+
+/// Moves all of a bin into the heap.
+fn empty_into(near: &mut BinaryHeap<Reverse<Item>>, bin: &mut Bin) -> Result<(), AllocError>
+    requires ordered { IsOrdered near.old }
+    ensures ordered { IsOrdered near.new }
+    ensures empty { OnOk result (bin.new ≡ []) }
+    ensures same { OnOk result (IsSame (entries_of near.old ++ bin.old) (entries_of near.new)) }
+{
+    while let Some(item) = bin.pop() {
+        near.push(Reverse(item))?;
+    }
+    Ok(())
+}
+
+impl Parts {
+    /// A bound from below on the keys of all that isn't in the heap.
+    fn far_least(&self) -> u64
+        ensures { (e : OneEntry) → Waits (far_of self.now) e → result ≤ e.key }
+    {
+        let first = self.next.least().min(self.later.least());
+        let second = self.last.least().min(self.spare.least());
+        first.min(second)
+    }
+
+    /// Whether the heap has an entry whose key is below all that isn't in it.
+    fn is_ready(&self) -> bool
+        ensures { OnTrue result (IsReady self.now) }
+    {
+        let least = self.far_least();
+        let Some(top) = self.near.peek() else {
+            return false;
+        };
+        if top.0.key < least {
+            return true;
+        }
+        false
+    }
+
+    /// Puts an item where its key has it lie.
+    fn place(&mut self, item: Item) -> Result<(), AllocError>
+        requires ordered { IsOrdered self.old.near }
+        ensures ordered { IsOrdered self.new.near }
+        ensures ok { OnOk result (IsAdded (all_of self.old) (entry_of item) (all_of self.new)) }
+        ensures err { OnErr result (all_of self.new ≡ all_of self.old) }
+        ensures spare { self.new.spare ≡ self.old.spare }
+    {
+        if item.key >> NEAR <= self.at >> NEAR {
+            self.near.push(Reverse(item))?;
+            Ok(())
+        } else if item.key >> NEXT == self.at >> NEXT {
+            self.next.push(item)?;
+            Ok(())
+        } else if item.key >> LATER == self.at >> LATER {
+            self.later.push(item)?;
+            Ok(())
+        } else {
+            self.last.push(item)?;
+            Ok(())
+        }
+    }
+
+    /// Has the first bin that isn't empty change places with the spare one.
+    fn take_first(&mut self)
+        ensures near { self.new.near ≡ self.old.near }
+        ensures same { IsSame (all_of self.old) (all_of self.new) }
+    {
+        if !self.next.is_empty() {
+            std::mem::swap(&mut self.next, &mut self.spare);
+        } else if !self.later.is_empty() {
+            std::mem::swap(&mut self.later, &mut self.spare);
+        } else {
+            std::mem::swap(&mut self.last, &mut self.spare);
+        }
+    }
+
+    /// Fills the heap with what comes next.
+    fn refill(&mut self) -> Result<(), AllocError>
+        requires ordered { IsOrdered self.old.near }
+        ensures ordered { IsOrdered self.new.near }
+        ensures same { OnOk result (IsSame (all_of self.old) (all_of self.new)) }
+    {
+        self.take_first();
+        self.at = self.spare.least();
+        while let Some(item) = self.spare.pop() {
+            self.place(item)?;
+        }
+        Ok(())
+    }
+
+    /// Moves all into the heap.
+    fn gather(&mut self) -> Result<(), AllocError>
+        requires ordered { IsOrdered self.old.near }
+        ensures ordered { IsOrdered self.new.near }
+        ensures ready { OnOk result (IsReady self.new) }
+        ensures same { OnOk result (IsSame (all_of self.old) (all_of self.new)) }
+    {
+        empty_into(&mut self.near, &mut self.next)?;
+        empty_into(&mut self.near, &mut self.later)?;
+        empty_into(&mut self.near, &mut self.last)?;
+        empty_into(&mut self.near, &mut self.spare)?;
+        Ok(())
+    }
+
+    /// Has the heap have an entry whose key is the least. Where keys don't fall, one filling suffices.
+    fn make_ready(&mut self) -> Result<(), AllocError>
+        requires ordered { IsOrdered self.old.near }
+        ensures ordered { IsOrdered self.new.near }
+        ensures ready { OnOk result (IsReady self.new) }
+        ensures same { OnOk result (IsSame (all_of self.old) (all_of self.new)) }
+    {
+        if self.is_ready() {
+            return Ok(());
+        }
+        self.refill()?;
+        if self.is_ready() {
+            return Ok(());
+        }
+        self.gather()
+    }
 }
 
 /// The entries that wait.
 #[derive(Drop)]
 pub(crate) struct Front {
-    heap: BinaryHeap<Reverse<Item>>,
+    parts: Parts,
 }
 
 impl Model for Front {
     ghost use Rattle.std.specs.Prelude.{List};
     ghost use Rattle.wave_search.specs.declared.front.Entry.{Entry};
-    ghost use Rattle.wave_search.specs.Order.{entries_of, IsOrdered};
+    ghost use Rattle.wave_search.specs.Order.{IsOrdered};
+    ghost use Rattle.wave_search.specs.Ready.{all_of};
 
     ghost Value = { List Entry };
 
-    ghost view = { λ f. entries_of f.heap };
+    ghost view = { λ f. all_of f.parts };
 
-    ghost invariant = { λ f. IsOrdered f.heap };
+    ghost invariant = { λ f. IsOrdered f.parts.near };
 }
 
 impl Front {
@@ -48,7 +200,14 @@ impl Front {
         ensures { result ≡ [] }
     {
         Front {
-            heap: BinaryHeap::new(alloc),
+            parts: Parts {
+                at: 0,
+                near: BinaryHeap::new(alloc),
+                next: Bin::new(alloc),
+                later: Bin::new(alloc),
+                last: Bin::new(alloc),
+                spare: Bin::new(alloc),
+            },
         }
     }
 
@@ -57,24 +216,25 @@ impl Front {
         ensures ok { OnOk result (IsAdded self.old e self.new) }
         ensures err { OnErr result (self.new ≡ self.old) }
     {
-        self.heap.push(Reverse(Item {
+        self.parts.place(Item {
             key: e.key,
             order,
             node: e.node,
-        }))?;
-        Ok(())
+        })
     }
 
     /// Takes an entry with the least key.
-    pub(crate) fn pop(&mut self) -> Option<Entry>
-        ensures { MatchOption result ((self.old ≡ []) × (self.new ≡ [])) (λ e. IsTaken self.old e self.new) }
+    pub(crate) fn pop(&mut self) -> Result<Option<Entry>, AllocError>
+        ensures { IfOk result (λ o. MatchOption o ((self.old ≡ []) × (self.new ≡ []))
+            (λ e. IsTaken self.old e self.new)) }
     {
-        let Some(Reverse(item)) = self.heap.pop() else {
-            return None;
+        self.parts.make_ready()?;
+        let Some(item) = take_top(&mut self.parts.near) else {
+            return Ok(None);
         };
-        Some(Entry {
+        Ok(Some(Entry {
             key: item.key,
             node: item.node,
-        })
+        }))
     }
 }

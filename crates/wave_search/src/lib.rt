@@ -2,6 +2,7 @@
 //! The search is Dijkstra's with a bound on the rest of a walk (Hart, Nilsson and Raphael 1968).
 #![tactic(auto)]
 
+mod bins;
 mod bound;
 mod box_bound;
 mod choices;

@@ -1,14 +1,16 @@
 //! The steps of a search over a table of labels and a front of nodes that wait.
 //! A node is done once it comes out of the front; its price is then the least.
 
-ghost use Rattle.std.specs.Prelude.{◌≡◌, ℕ, ◌+◌, ◌*◌, ◌^◌, ◌<◌, ◌≤◌, ◌↔◌, length, [], OnOk, IfOk, Contains, Some, None, All};
+ghost use Rattle.std.specs.Prelude.{◌≡◌, ℕ, ◌+◌, ◌*◌, ◌^◌, ◌<◌, ◌≤◌, ◌↔◌, length, [], OnOk, IfOk, IfSome, Contains, Some, None, All};
+ghost use Rattle.std.specs.Bool.{OnTrue, OnFalse};
 ghost use Rattle.route_lattice.specs.Walks.{IsSound, IsWalk, Answers};
 ghost use Rattle.wave_search.specs.Bounds.{IsBound};
 ghost use Rattle.wave_search.specs.Rows.{IsMarked};
 ghost use Rattle.wave_search.specs.declared.labels.Label.{Label as TheLabel};
-ghost use Rattle.wave_search.specs.State.{label_at, done_count, improves_on, KeepsDone, Roots, IsState};
+ghost use Rattle.wave_search.specs.State.{label_at, done_count, improves_on, is_done_by, KeepsDone, Roots, IsState};
 
 use crate::bound::Bound;
+use crate::choose::Openness;
 use crate::front::{Entry, Front};
 use crate::labels::{Label, Labels};
 use crate::marks::Marks;
@@ -24,6 +26,16 @@ fn improves(price: u64, old: Option<Label>) -> bool
     match old {
         None => true,
         Some(label) => price < label.price,
+    }
+}
+
+/// Whether the label is of a node that is done.
+fn is_done(old: Option<Label>) -> bool
+    ensures { result ≡ is_done_by old }
+{
+    match old {
+        None => false,
+        Some(label) => label.rank > 0,
     }
 }
 
@@ -70,8 +82,12 @@ impl<'a, M: Moves, B: Bound, T: Ties> Task<'a, M, B, T> {
         let Some((_, to)) = self.m.at(node, i) else {
             return Ok(());
         };
+        let old = table.get(to);
+        if is_done(old) {
+            return Ok(());
+        }
         let price = label.price + self.m.price(node, i);
-        if !improves(price, table.get(to)) {
+        if !improves(price, old) {
             return Ok(());
         }
         if !self.m.is_open(node, i) {
@@ -167,7 +183,7 @@ impl<'a, M: Moves, B: Bound, T: Ties> Task<'a, M, B, T> {
         ensures size { length table.new ≡ length table.old }
     {
         let mut finished = done;
-        'settle: while let Some(entry) = front.pop() {
+        'settle: while let Some(entry) = front.pop()? {
             if entry.key > limit {
                 return Ok(());
             }
@@ -190,7 +206,32 @@ impl<'a, M: Moves, B: Bound, T: Ties> Task<'a, M, B, T> {
         Ok(())
     }
 
-    /// A walk to a goal that is done, at its price; the nodes that are done stand in their order.
+    /// A walk to a goal at the price that costs little by the rule of ties, if the pass of the rule leads to one.
+    fn chosen_walk(
+        &self,
+        alloc: Global,
+        table: &Labels,
+        order: &[u32],
+        price: u64,
+        openness: Openness,
+    ) -> Result<Option<Walk>, AllocError>
+        requires ready { M.ready self.now.m.now }
+        requires sound { IsSound (M.graph self.now.m.now) }
+        requires roots { Roots (M.graph self.now.m.now) self.now.starts.now table.now }
+        requires small { (v : ℕ) (l : TheLabel) → label_at table.now v ≡ Some l → l.price < 2 ^ 60 }
+        requires marked { (v : ℕ) → v < (M.graph self.now.m.now).count → IsMarked self.now.marks.now v → Contains self.now.goals.now v }
+        requires marks { length self.now.marks.now ≡ (M.graph self.now.m.now).count }
+        ensures { IfOk result (λ o. IfSome o (λ w. IsWalk (M.graph self.now.m.now) self.now.starts.now self.now.goals.now w × (w.price ≡ price))) }
+    {
+        let choices = self.choose(alloc, table, order, price, openness)?;
+        let Some(start) = choices.start() else {
+            return Ok(None);
+        };
+        self.follow(alloc, table, &choices, start, price)
+    }
+
+    /// A walk to a goal that is done, at its price; the nodes that are done stand in their order. Nearly all moves that the
+    /// labels allow are open, so a walk is sought as if all were, and again by asking of each where that one isn't open.
     fn walk_to(
         &self,
         alloc: Global,
@@ -211,10 +252,10 @@ impl<'a, M: Moves, B: Bound, T: Ties> Task<'a, M, B, T> {
         ensures walk { IfOk result (IsWalk (M.graph self.now.m.now) self.now.starts.now self.now.goals.now) }
         ensures price { IfOk result (λ w. w.price ≡ label.price) }
     {
-        let choices = self.choose(alloc, table, order, label.price)?;
-        if let Some(start) = choices.start()
-            && let Some(walk) = self.follow(alloc, table, &choices, start, label.price)?
-        {
+        if let Some(walk) = self.chosen_walk(alloc, table, order, label.price, Openness::Taken)? {
+            return Ok(walk);
+        }
+        if let Some(walk) = self.chosen_walk(alloc, table, order, label.price, Openness::Asked)? {
             return Ok(walk);
         }
         self.trace(alloc, table, node, label)
@@ -260,6 +301,19 @@ impl<'a, M: Moves, B: Bound, T: Ties> Task<'a, M, B, T> {
         self.walk_to(alloc, table, order.as_slice(), node, label)
     }
 
+    /// Whether the node of an entry, which waited at a price, is a goal. Where the key isn't the price its bound isn't 0, so it is none.
+    fn is_goal(&self, entry: Entry, price: u64) -> bool
+        requires node { entry.node < (M.graph self.now.m.now).count }
+        requires marks { length self.now.marks.now ≡ (M.graph self.now.m.now).count }
+        ensures yes { OnTrue result (IsMarked self.now.marks.now entry.node) }
+        ensures no { OnFalse result (entry.key ≡ price → IsMarked self.now.marks.now entry.node → ⊥) }
+    {
+        if entry.key != price {
+            return false;
+        }
+        self.marks.has(entry.node)
+    }
+
     /// A least walk, or all that is reached.
     pub(crate) fn run(&self, alloc: Global, table: &mut Labels) -> Result<Found, AllocError>
         requires ready { M.ready self.now.m.now }
@@ -278,7 +332,7 @@ impl<'a, M: Moves, B: Bound, T: Ties> Task<'a, M, B, T> {
         let mut order = Vec::new(alloc);
         self.seed(table, &mut front)?;
         let mut finished: u32 = 0;
-        'search: while let Some(entry) = front.pop() {
+        'search: while let Some(entry) = front.pop()? {
             let Some(found) = table.get(entry.node) else {
                 unreachable!();
             };
@@ -292,7 +346,7 @@ impl<'a, M: Moves, B: Bound, T: Ties> Task<'a, M, B, T> {
             };
             table.put(entry.node, label)?;
             order.push(entry.node)?;
-            if self.marks.has(entry.node) {
+            if self.is_goal(entry, label.price) {
                 let walk = self.end(alloc, table, &mut front, &mut order, entry.node, label)?;
                 return Ok(Found::Walk(walk));
             }

@@ -1,24 +1,75 @@
-use Rattle.std.proofs.Common.{ℕ, ◌<◌, List, sym, subst, All}
+use Rattle.std.proofs.Common.{ℕ, ◌<◌, List, true≢false, sym, subst, ◌∙◌, All}
 use Rattle.std.specs.List.Sorted.{IsStrictlyIncreasing}
-use Rattle.route_lattice.specs.Walks.{Answers, NoneLeads, IsReach}
+use Rattle.route_lattice.specs.Walks.{IsReach}
+use Rattle.move_flood.specs.Goals.{Meets}
 use Rattle.cut_certificate.specs.declared.cut.Block.{Block}
 use Rattle.cut_certificate.specs.Border.{AreBlocks, IsClosed}
 use Rattle.cut_certificate.proofs.Closing.{reach_in_range, reach_is_closed}
+use Rattle.cut_certificate.proofs.Same.{flipped, sound_same, starts_same, reach_same}
 use Rattle.cut_certificate.proofs.border.close.Goals as goal
 
+pub flood-requires-clause-sound : goal.flood-requires-clause-sound
+flood-requires-clause-sound g c =
+    let a = g.L.Moves.graph c.args.legal.now in
+    let b = g.M.Moves.graph c.args.m.now in
+    sound_same b a (flipped a b c.requires.same) c.requires.sound
+
+pub flood-requires-clause-starts : goal.flood-requires-clause-starts
+flood-requires-clause-starts g c =
+    let a = g.L.Moves.graph c.args.legal.now in
+    let b = g.M.Moves.graph c.args.m.now in
+    starts_same b a (flipped a b c.requires.same) c.args.starts.now c.requires.starts
+
+pub meets-requires : goal.meets-requires
+meets-requires g c = subst IsStrictlyIncreasing (sym c.as_slice.ensures) c.in_ok-reach.ensures.ascends
+
+pub returns-then-meets : goal.returns-then-meets
+returns-then-meets g c =
+    let a = g.L.Moves.graph c.args.legal.now in
+    let b = g.M.Moves.graph c.args.m.now in
+    let starts = c.args.starts.now in
+    let nodes = c.in_ok-reach.reach.nodes in
+    let r : IsReach b starts nodes = reach_same a b c.requires.same starts nodes c.in_ok-reach.ensures in
+    let m : Meets nodes c.args.goals.now = subst (λ (y : List ℕ × List ℕ). Meets y.0 y.1)
+    (λ i. (c.as_slice.ensures i, c.as_slice-2.ensures i)) (c.meets.ensures.0 c.if-meets.true) in
+    (c.reach_tells_goals.ensures starts c.args.goals.now nodes r).met m
+
 pub blocks_of-requires-clause-ascends : goal.blocks_of-requires-clause-ascends
-blocks_of-requires-clause-ascends g c = let h : NoneLeads (g.M.Moves.graph c.args.m.now) c.args.starts.now c.args.goals.now × IsReach (g.M.Moves.graph c.args.m.now) c.args.starts.now c.in-Closed.reach.nodes = subst (Answers (g.M.Moves.graph c.args.m.now) c.args.starts.now c.args.goals.now) c.in-Closed.is c.in_ok-least_walk.ensures in
-    subst IsStrictlyIncreasing (sym c.as_slice.ensures) h.1.ascends
+blocks_of-requires-clause-ascends g c =
+    subst IsStrictlyIncreasing (sym c.as_slice-3.ensures) c.in_ok-reach.ensures.ascends
 
 pub blocks_of-requires-clause-nodes : goal.blocks_of-requires-clause-nodes
-blocks_of-requires-clause-nodes g c = let h : NoneLeads (g.M.Moves.graph c.args.m.now) c.args.starts.now c.args.goals.now × IsReach (g.M.Moves.graph c.args.m.now) c.args.starts.now c.in-Closed.reach.nodes = subst (Answers (g.M.Moves.graph c.args.m.now) c.args.starts.now c.args.goals.now) c.in-Closed.is c.in_ok-least_walk.ensures in
-    subst (λ (xs : List ℕ). All (λ v. v < (g.M.Moves.graph c.args.m.now).count) xs) (sym c.as_slice.ensures) (reach_in_range (g.M.Moves.graph c.args.m.now) c.args.starts.now c.in-Closed.reach.nodes c.requires.sound c.requires.starts h.1)
+blocks_of-requires-clause-nodes g c =
+    let a = g.L.Moves.graph c.args.legal.now in
+    let b = g.M.Moves.graph c.args.m.now in
+    let starts = c.args.starts.now in
+    let nodes = c.in_ok-reach.reach.nodes in
+    let r : IsReach b starts nodes = reach_same a b c.requires.same starts nodes c.in_ok-reach.ensures in
+    subst (λ (xs : List ℕ). All (λ v. v < b.count) xs) (sym c.as_slice-3.ensures)
+    (reach_in_range b starts nodes c.requires.sound c.requires.starts r)
 
 pub blocks_of-requires-clause-closed : goal.blocks_of-requires-clause-closed
-blocks_of-requires-clause-closed g c = let h : NoneLeads (g.M.Moves.graph c.args.m.now) c.args.starts.now c.args.goals.now × IsReach (g.M.Moves.graph c.args.m.now) c.args.starts.now c.in-Closed.reach.nodes = subst (Answers (g.M.Moves.graph c.args.m.now) c.args.starts.now c.args.goals.now) c.in-Closed.is c.in_ok-least_walk.ensures in
-    subst (IsClosed (g.M.Moves.graph c.args.m.now).at (g.M.Moves.graph c.args.m.now).arity (g.M.Moves.graph c.args.m.now).open_at) (sym c.as_slice.ensures)
-    (reach_is_closed (g.M.Moves.graph c.args.m.now) c.has_prices.ensures c.args.starts.now c.in-Closed.reach.nodes c.requires.sound c.requires.starts h.1)
+blocks_of-requires-clause-closed g c =
+    let a = g.L.Moves.graph c.args.legal.now in
+    let b = g.M.Moves.graph c.args.m.now in
+    let starts = c.args.starts.now in
+    let nodes = c.in_ok-reach.reach.nodes in
+    let r : IsReach b starts nodes = reach_same a b c.requires.same starts nodes c.in_ok-reach.ensures in
+    subst (IsClosed b.at b.arity b.open_at) (sym c.as_slice-3.ensures)
+    (reach_is_closed b c.has_prices.ensures starts nodes c.requires.sound c.requires.starts r)
 
 pub returns : goal.returns
-returns g c = let h : NoneLeads (g.M.Moves.graph c.args.m.now) c.args.starts.now c.args.goals.now × IsReach (g.M.Moves.graph c.args.m.now) c.args.starts.now c.in-Closed.reach.nodes = subst (Answers (g.M.Moves.graph c.args.m.now) c.args.starts.now c.args.goals.now) c.in-Closed.is c.in_ok-least_walk.ensures in
-    (h.0, h.1, subst (λ (y : List ℕ × List Block). AreBlocks (g.M.Moves.graph c.args.m.now).at (g.M.Moves.graph c.args.m.now).arity (g.M.Shuts.shut_by c.args.m.now) y.0 y.1) (λ i. (c.as_slice.ensures i, sym c.from_vec.ensures i)) c.in_ok-blocked-in-Closed.ensures)
+returns g c =
+    let a = g.L.Moves.graph c.args.legal.now in
+    let b = g.M.Moves.graph c.args.m.now in
+    let starts = c.args.starts.now in
+    let nodes = c.in_ok-reach.reach.nodes in
+    let r : IsReach b starts nodes = reach_same a b c.requires.same starts nodes c.in_ok-reach.ensures in
+    let none : Meets nodes c.args.goals.now → ⊥ = λ m. true≢false (sym (c.meets.ensures.1
+    (subst (λ (y : List ℕ × List ℕ). Meets y.0 y.1) (λ i. (sym c.as_slice.ensures i, sym c.as_slice-2.ensures i)) m))
+    ∙ c.if-meets.false) in (
+      (c.reach_tells_goals.ensures starts c.args.goals.now nodes r).missed none,
+      r,
+      subst (λ (y : List ℕ × List Block). AreBlocks b.at b.arity (g.M.Shuts.shut_by c.args.m.now) y.0 y.1)
+          (λ i. (c.as_slice-3.ensures i, sym c.from_vec.ensures i)) c.in_ok-blocked.ensures,
+    )

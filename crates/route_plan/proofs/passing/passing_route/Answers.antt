@@ -4,7 +4,7 @@ use Rattle.route_plan.proofs.Clearing.{well_laid}
 use Rattle.route_plan.proofs.passing.passing_route.Goals as goal
 
 pub make_way-requires-clause-well : goal.make_way-requires-clause-well
-make_way-requires-clause-well c =
+make_way-requires-clause-well g c =
     let d = c.args.d.now in
     let m = c.args.lat.now in
     let s = c.args.snap.now in

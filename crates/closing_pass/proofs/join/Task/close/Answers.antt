@@ -26,7 +26,7 @@ loop-alloc-init c = record {
     joins = net_none c.args.self.now.lat.now c.args.self.now.via_cost c.args.net c.args.board.now;
     islands = c.in_ok-found.ensures;
   };
-  size = refl;
+  ready = c.requires.ready;
 }
 
 pub loop-alloc-preserved : goal.loop-alloc-preserved
@@ -37,7 +37,7 @@ loop-alloc-preserved c = record {
         c.loop-alloc.invariant.closing.joins c.in_ok-join_some.ensures.joins;
     islands = c.in_ok-found-2.ensures;
   };
-  size = c.in_ok-join_some.ensures.size ∙ c.loop-alloc.invariant.size;
+  ready = c.in_ok-join_some.ensures.ready;
 }
 
 pub loop-alloc-smaller : goal.loop-alloc-smaller

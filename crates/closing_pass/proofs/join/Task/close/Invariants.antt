@@ -1,4 +1,5 @@
-use Rattle.std.proofs.Common.{◌≡◌, length}
+use Rattle.std.proofs.Common.{length}
+use Rattle.closing_pass.specs.Steps.{AreReady}
 use Rattle.closing_pass.proofs.Closings.{IsClosing}
 use Rattle.closing_pass.proofs.join.Task.close.Given as goal
 
@@ -6,7 +7,7 @@ abbrev pub invariant-loop-alloc : goal.invariant-loop-alloc
 invariant-loop-alloc l = record {
   closing : IsClosing l.self.lat.now l.self.via_cost l.net l.fn.board l.board
       l.found;
-  size : l.search ≡ l.fn.search;
+  ready : AreReady l.self.lat.now l.board l.means;
 }
 
 abbrev pub decreases-loop-alloc : goal.decreases-loop-alloc

@@ -1,4 +1,4 @@
-use Rattle.std.proofs.Common.{◌≡◌, ◌∙◌, sym, subst, ap, length, arith, refl}
+use Rattle.std.proofs.Common.{◌≡◌, ◌∙◌, sym, subst, ap, length, arith}
 use Rattle.pcb_model.specs.declared.design.Design.{Design}
 use Rattle.closing_pass.specs.Steps.{CanClose}
 use Rattle.closing_pass.proofs.Closings.{joins_on, closed_none, closed_more}
@@ -8,7 +8,7 @@ pub loop-net-init : goal.loop-net-init
 loop-net-init c = record {
   closed = closed_none c.args.self.now.lat.now c.args.self.now.via_cost c.args.board.now
       c.keeps.ensures;
-  size = refl;
+  ready = c.requires.ready;
 }
 
 pub loop-net-preserved : goal.loop-net-preserved
@@ -24,7 +24,7 @@ loop-net-preserved c =
           (λ net added found other islands.
           c.others_change_nothing.ensures b.design b.items added net found before.board.sound
           (c.boards_serve.ensures.serves b before.board) other islands);
-      size = c.in_ok-close.ensures.size ∙ c.loop-net.invariant.size;
+      ready = c.in_ok-close.ensures.ready;
     }
 
 pub close-requires-clause-can : goal.close-requires-clause-can

@@ -1,23 +1,21 @@
-use Rattle.std.proofs.Common.{◌∙◌, ap, subst, sym, refl, List, None}
+use Rattle.std.proofs.Common.{◌∙◌, ◌<◌, ap, subst, sym, refl, length, List, None}
 use Rattle.std.specs.List.{insert}
 use Rattle.pcb_islands.specs.declared.net.Island.{Island}
 use Rattle.pcb_board.specs.Boards.{BoardOf}
 use Rattle.route_plan.specs.Plans.{LeadsFrom, IsOfferOf}
 use Rattle.closing_pass.specs.Steps.{HasFewer}
 use Rattle.closing_pass.proofs.Places.{put_again}
-use Rattle.closing_pass.proofs.Joining.{net_at, can_plan, led_on, shut_at, fewer_join, joins_net}
+use Rattle.closing_pass.proofs.Joining.{net_at, led_on, shut_at, fewer_join, joins_net}
 use Rattle.closing_pass.proofs.Closings.{net_none}
+use Rattle.closing_pass.proofs.Readiness.{ready_on}
 use Rattle.closing_pass.proofs.join.Task.join_at.Goals as goal
 
-pub offer_from-requires-clause-can_plan : goal.offer_from-requires-clause-can_plan
-offer_from-requires-clause-can_plan c =
+pub led_at-requires-clause-net : goal.led_at-requires-clause-net
+led_at-requires-clause-net c =
     let b = c.args.board.now in
-    can_plan b c.args.self.now.lat.now c.args.self.now.via_cost c.args.net c.remove-island.result.net
-    c.design.result.now c.in_ok-snap.snap
-    c.requires.can c.keeps.ensures (c.boards_serve.ensures.serves b c.keeps.ensures) c.requires.net
-    c.in_ok-snap.ensures c.design.ensures
-    (net_at b.design b.items c.args.net c.args.found c.args.place c.remove-island.result c.requires.islands
-    c.remove-island.ensures.value)
+    subst (λ n. n < length b.design.nets)
+    (sym (net_at b.design b.items c.args.net c.args.found c.args.place c.remove-island.result c.requires.islands
+    c.remove-island.ensures.value)) c.requires.net
 
 pub take-requires-clause-may : goal.take-requires-clause-may
 take-requires-clause-may c =
@@ -28,8 +26,7 @@ take-requires-clause-may c =
     let others = c.remove-island.new.self in
     let island = c.remove-island.result in
     let led = subst (LeadsFrom m cost b 16 island others) c.in-Offer.is
-    (led_on b m cost c.args.net c.args.place c.in_ok-snap.snap found others island c.in_ok-led.led c.keeps.ensures
-    c.in_ok-snap.ensures c.requires.islands
+    (led_on b m cost c.args.net c.args.place found others island c.in_ok-led.led c.requires.islands
     c.remove-island.ensures.value c.remove-island.ensures.rest c.in_ok-led.ensures.leads) in
     led.0.may
 
@@ -42,8 +39,7 @@ take-requires-clause-closer c =
     let others = c.remove-island.new.self in
     let island = c.remove-island.result in
     let led = subst (LeadsFrom m cost b 16 island others) c.in-Offer.is
-    (led_on b m cost c.args.net c.args.place c.in_ok-snap.snap found others island c.in_ok-led.led c.keeps.ensures
-    c.in_ok-snap.ensures c.requires.islands
+    (led_on b m cost c.args.net c.args.place found others island c.in_ok-led.led c.requires.islands
     c.remove-island.ensures.value c.remove-island.ensures.rest c.in_ok-led.ensures.leads) in
     led.0.worker_is
 
@@ -62,8 +58,7 @@ returns-in-Shut-clause-tries c =
     let others = c.remove-island.new.self in
     let island = c.remove-island.result in
     let led = subst (LeadsFrom m cost b 16 island others) c.in-Shut.is
-    (led_on b m cost c.args.net c.args.place c.in_ok-snap.snap found others island c.in_ok-led.led c.keeps.ensures
-    c.in_ok-snap.ensures c.requires.islands
+    (led_on b m cost c.args.net c.args.place found others island c.in_ok-led.led c.requires.islands
     c.remove-island.ensures.value c.remove-island.ensures.rest c.in_ok-led.ensures.leads) in (
       shut_at b m cost c.args.place found others island c.in-Shut.field-0.nodes c.remove-island.ensures.value
           c.remove-island.ensures.rest led,
@@ -88,8 +83,7 @@ returns-clause-fewer c = λ t.
     let others = c.remove-island.new.self in
     let island = c.remove-island.result in
     let led = subst (LeadsFrom m cost b 16 island others) c.in-Offer.is
-    (led_on b m cost c.args.net c.args.place c.in_ok-snap.snap found others island c.in_ok-led.led c.keeps.ensures
-    c.in_ok-snap.ensures c.requires.islands
+    (led_on b m cost c.args.net c.args.place found others island c.in_ok-led.led c.requires.islands
     c.remove-island.ensures.value c.remove-island.ensures.rest c.in_ok-led.ensures.leads) in
     let net_is = net_at b.design b.items c.args.net found c.args.place island c.requires.islands
     c.remove-island.ensures.value in
@@ -110,8 +104,7 @@ returns-clause-joins c =
     let others = c.remove-island.new.self in
     let island = c.remove-island.result in
     let led = subst (LeadsFrom m cost b 16 island others) c.in-Offer.is
-    (led_on b m cost c.args.net c.args.place c.in_ok-snap.snap found others island c.in_ok-led.led c.keeps.ensures
-    c.in_ok-snap.ensures c.requires.islands
+    (led_on b m cost c.args.net c.args.place found others island c.in_ok-led.led c.requires.islands
     c.remove-island.ensures.value c.remove-island.ensures.rest c.in_ok-led.ensures.leads) in
     let net_is = net_at b.design b.items c.args.net found c.args.place island c.requires.islands
     c.remove-island.ensures.value in
@@ -119,3 +112,22 @@ returns-clause-joins c =
     (λ n. IsOfferOf m cost b 16 n None c.in-Offer.offer) net_is led.0 in
     joins_net m cost b c.take.new.board c.in-Offer.offer c.args.net c.keeps.ensures of led.1
     c.in_ok-take-in-Offer.ensures.ok
+
+pub returns-clause-ready : goal.returns-clause-ready
+returns-clause-ready c =
+    let b = c.args.board.now in
+    let m = c.args.self.now.lat.now in
+    let cost = c.args.self.now.via_cost in
+    let found = c.args.found in
+    let others = c.remove-island.new.self in
+    let island = c.remove-island.result in
+    let led = subst (LeadsFrom m cost b 16 island others) c.in-Offer.is
+    (led_on b m cost c.args.net c.args.place found others island c.in_ok-led.led c.requires.islands
+    c.remove-island.ensures.value c.remove-island.ensures.rest c.in_ok-led.ensures.leads) in
+    let net_is = net_at b.design b.items c.args.net found c.args.place island c.requires.islands
+    c.remove-island.ensures.value in
+    let of : IsOfferOf m cost b 16 c.args.net None c.in-Offer.offer = subst
+    (λ n. IsOfferOf m cost b 16 n None c.in-Offer.offer) net_is led.0 in
+    let joins = joins_net m cost b c.take.new.board c.in-Offer.offer c.args.net c.keeps.ensures of led.1
+    c.in_ok-take-in-Offer.ensures.ok in
+    ready_on m cost b c.take.new.board c.led_at.new.means joins.closes c.in_ok-led.ensures.ready

@@ -1,8 +1,9 @@
-use Rattle.std.proofs.Common.{◌≡◌, ◌∙◌, subst, List, length, arith}
+use Rattle.std.proofs.Common.{◌≡◌, ◌∙◌, sym, subst, List, length, arith}
 use Rattle.pcb_islands.specs.declared.net.Island.{Island}
 use Rattle.pcb_board.specs.Boards.{BoardOf}
 use Rattle.closing_pass.specs.Steps.{IsShutAt, JoinsNet}
 use Rattle.closing_pass.proofs.Closings.{all_shut, shut_more, net_same}
+use Rattle.closing_pass.proofs.Readiness.{ready_same}
 use Rattle.closing_pass.proofs.join.Task.join_some.Goals as goal
 
 pub loop-place-preserved : goal.loop-place-preserved
@@ -20,7 +21,8 @@ loop-place-preserved c =
       found = c.in_ok-same.ensures.found ∙ c.loop-place.invariant.found;
       board = tries.1 ∙ c.loop-place.invariant.board;
       shut = shut_more b.design m cost place b.items c.args.found c.loop-place.invariant.shut here;
-      size = c.in_ok-same.ensures.size ∙ c.loop-place.invariant.size;
+      ready = ready_same m (c.join_at.new.board) b c.join_at.new.means (sym (tries.1 ∙ c.loop-place.invariant.board))
+          c.in_ok-same.ensures.ready;
     }
 
 pub returns-then-joined-clause-joins : goal.returns-then-joined-clause-joins
@@ -42,3 +44,13 @@ pub returns-clause-joins : goal.returns-clause-joins
 returns-clause-joins c =
     net_same c.args.self.now.lat.now c.args.self.now.via_cost c.args.net c.args.board.now c.loop-place.board
     c.loop-place.invariant.board
+
+pub join_at-requires-clause-ready : goal.join_at-requires-clause-ready
+join_at-requires-clause-ready c =
+    ready_same c.args.self.now.lat.now c.args.board.now c.loop-place.board c.loop-place.means
+    c.loop-place.invariant.board c.loop-place.invariant.ready
+
+pub returns-clause-ready : goal.returns-clause-ready
+returns-clause-ready c =
+    ready_same c.args.self.now.lat.now c.args.board.now c.loop-place.board c.loop-place.means
+    c.loop-place.invariant.board c.loop-place.invariant.ready

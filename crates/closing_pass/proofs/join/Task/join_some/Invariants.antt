@@ -1,5 +1,5 @@
 use Rattle.std.proofs.Common.{◌≡◌, ◌<◌, ℕ}
-use Rattle.closing_pass.specs.Steps.{IsShutAt}
+use Rattle.closing_pass.specs.Steps.{IsShutAt, AreReady}
 use Rattle.closing_pass.proofs.join.Task.join_some.Given as goal
 
 abbrev pub invariant-loop-place : goal.invariant-loop-place
@@ -8,5 +8,5 @@ invariant-loop-place l = record {
   board : l.board ≡ l.fn.board;
   shut : (place : ℕ) → place < l.place → IsShutAt l.fn.board.design l.self.lat.now l.self.via_cost l.fn.board.items
       l.fn.found place;
-  size : l.search ≡ l.fn.search;
+  ready : AreReady l.self.lat.now l.fn.board l.means;
 }

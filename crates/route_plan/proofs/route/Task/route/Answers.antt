@@ -9,10 +9,10 @@ use Rattle.route_plan.proofs.Routing.{net_walk_of, ends_at, last_place, first_pl
 use Rattle.route_plan.proofs.route.Task.route.Goals as goal
 
 pub walk-requires-clause-starts : goal.walk-requires-clause-starts
-walk-requires-clause-starts c = let s = c.args.self.now in starts_in_lattice s.d.now s.lat.now s.snap.now.items c.args.island.now c.in_ok-starts.starts c.in_ok-starts.ensures
+walk-requires-clause-starts g c = let s = c.args.self.now in starts_in_lattice s.d.now s.lat.now s.snap.now.items c.args.island.now c.in_ok-starts.starts c.in_ok-starts.ensures
 
 pub anchored_among-requires-clause-node : goal.anchored_among-requires-clause-node
-anchored_among-requires-clause-node c =
+anchored_among-requires-clause-node g c =
     let s = c.args.self.now in
     let least : IsLeastWalk
     (moves_of s.d.now s.lat.now s.snap.now.items s.net s.via_cost s.penalty) c.in_ok-starts.starts c.in_ok-goals.goals c.in-Walk.walk =
@@ -24,7 +24,7 @@ anchored_among-requires-clause-node c =
     (map to_of least.walk.hops) least.walk.nodes))
 
 pub anchored_at_goal-to-requires-clause-goal : goal.anchored_at_goal-to-requires-clause-goal
-anchored_at_goal-to-requires-clause-goal c =
+anchored_at_goal-to-requires-clause-goal g c =
     let s = c.args.self.now in
     let graph = moves_of s.d.now s.lat.now s.snap.now.items s.net s.via_cost s.penalty in
     let least : IsLeastWalk graph c.in_ok-starts.starts c.in_ok-goals.goals c.in-Walk.walk = subst
@@ -38,7 +38,7 @@ anchored_at_goal-to-requires-clause-goal c =
     (λ i. (sym c.as_slice-in-Walk.ensures i, sym node_is i)) is_goal
 
 pub walk_items-requires : goal.walk_items-requires
-walk_items-requires c =
+walk_items-requires g c =
     let s = c.args.self.now in
     let graph = moves_of s.d.now s.lat.now s.snap.now.items s.net s.via_cost s.penalty in
     let least : IsLeastWalk graph c.in_ok-starts.starts c.in_ok-goals.goals c.in-Walk.walk = subst
@@ -47,7 +47,7 @@ walk_items-requires c =
     (starts_in_lattice s.d.now s.lat.now s.snap.now.items c.args.island.now c.in_ok-starts.starts c.in_ok-starts.ensures) least.walk
 
 pub returns-clause-finds : goal.returns-clause-finds
-returns-clause-finds c =
+returns-clause-finds g c =
     let s = c.args.self.now in
     let graph = moves_of s.d.now s.lat.now s.snap.now.items s.net s.via_cost s.penalty in
     let least : IsLeastWalk graph c.in_ok-starts.starts c.in_ok-goals.goals c.in-Walk.walk = subst

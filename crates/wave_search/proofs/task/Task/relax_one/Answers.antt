@@ -1,8 +1,8 @@
 use Rattle.std.proofs.Common.{arith, ◌≡◌, ℕ, ◌+◌, Option, Some, refl, sym, subst, ◌∙◌, true, false}
 use Rattle.wave_search.specs.Waiting.{IsAdded}
 use Rattle.wave_search.specs.declared.labels.Label.{Label}
-use Rattle.wave_search.specs.State.{label_at, improves_on, entry}
-use Rattle.wave_search.proofs.Steps.{price_room, relabel_keeps, relabelled, better_from, unchanged, cheap_from}
+use Rattle.wave_search.specs.State.{label_at, improves_on, is_done_by, entry}
+use Rattle.wave_search.proofs.Steps.{price_room, relabel_keeps, relabelled, better_from, unchanged, done_before, cheap_from}
 use Rattle.wave_search.proofs.task.Task.relax_one.Goals as goal
 
 pub overflow_add-price : goal.overflow_add-price
@@ -10,8 +10,8 @@ overflow_add-price g c =
     let room = price_room (g.M.Moves.graph c.args.self.now.m.now) c.args.self.now.starts.now c.args.self.now.goals.now (g.B.Bound.low_of c.args.self.now.b.now) c.requires.sound c.requires.bound _ _ _ _ _ _ c.requires.state c.args.node c.args.label c.requires.there c.requires.is_done in
     omega (arith, room, c.requires.sound.small_price c.args.node c.args.i c.price.result c.requires.node c.requires.index c.price.ensures)
 
-pub get-requires : goal.get-requires
-get-requires g c = omega (arith, c.requires.state.roots.size, c.requires.sound.leads c.args.node c.args.i c.in-Some.field-0-0 c.in-Some.to c.requires.node c.requires.index (sym c.at.ensures ∙ c.in-Some.is))
+pub get-old-requires : goal.get-old-requires
+get-old-requires g c = omega (arith, c.requires.state.roots.size, c.requires.sound.leads c.args.node c.args.i c.in-Some.field-0-0 c.in-Some.to c.requires.node c.requires.index (sym c.at.ensures ∙ c.in-Some.is))
 
 pub put-requires-clause-node : goal.put-requires-clause-node
 put-requires-clause-node g c = omega (arith, c.requires.state.roots.size, c.requires.sound.leads c.args.node c.args.i c.in-Some.field-0-0 c.in-Some.to c.requires.node c.requires.index (sym c.at.ensures ∙ c.in-Some.is))
@@ -30,7 +30,7 @@ overflow_add-key g c =
 pub returns-clause-state : goal.returns-clause-state
 returns-clause-state g c =
     let l : Label = record { price = c.args.label.price + c.price.result; rank = 0; origin = Some c.args.node } in
-    let better : improves_on l.price (label_at c.args.table.now c.in-Some.to) ≡ true = subst (λ (o : Option Label). improves_on (c.args.label.price + c.price.result) o ≡ true) c.get.ensures (sym c.if-not-improves.ensures) in
+    let better : improves_on l.price (label_at c.args.table.now c.in-Some.to) ≡ true = subst (λ (o : Option Label). improves_on (c.args.label.price + c.price.result) o ≡ true) c.get-old.ensures (sym c.if-not-improves.ensures) in
     relabelled (g.M.Moves.graph c.args.self.now.m.now) c.args.self.now.starts.now c.args.self.now.goals.now (g.B.Bound.low_of c.args.self.now.b.now) c.requires.sound c.requires.bound
     c.args.table.now c.args.front.now (c.args.label.price + g.B.Bound.low_of c.args.self.now.b.now c.args.node) c.args.label.rank c.args.node c.args.i c.args.label c.requires.state c.requires.there c.requires.is_done refl
     c.in-Some.field-0-0 c.in-Some.to c.price.result (record { listed = c.requires.index; leads = sym c.at.ensures ∙ c.in-Some.is; is_open = c.if-not-is_open.ensures.opens; costs = c.price.ensures })
@@ -40,7 +40,7 @@ returns-clause-state g c =
 pub returns-clause-kept : goal.returns-clause-kept
 returns-clause-kept g c =
     let l : Label = record { price = c.args.label.price + c.price.result; rank = 0; origin = Some c.args.node } in
-    let better : improves_on l.price (label_at c.args.table.now c.in-Some.to) ≡ true = subst (λ (o : Option Label). improves_on (c.args.label.price + c.price.result) o ≡ true) c.get.ensures (sym c.if-not-improves.ensures) in
+    let better : improves_on l.price (label_at c.args.table.now c.in-Some.to) ≡ true = subst (λ (o : Option Label). improves_on (c.args.label.price + c.price.result) o ≡ true) c.get-old.ensures (sym c.if-not-improves.ensures) in
     relabel_keeps (g.M.Moves.graph c.args.self.now.m.now) c.args.self.now.starts.now c.args.self.now.goals.now (g.B.Bound.low_of c.args.self.now.b.now) c.requires.sound c.requires.bound
     c.args.table.now c.args.front.now (c.args.label.price + g.B.Bound.low_of c.args.self.now.b.now c.args.node) c.args.label.rank c.args.node c.args.i c.args.label c.requires.state c.requires.there c.requires.is_done refl
     c.in-Some.field-0-0 c.in-Some.to c.price.result (record { listed = c.requires.index; leads = sym c.at.ensures ∙ c.in-Some.is; is_open = c.if-not-is_open.ensures.opens; costs = c.price.ensures })
@@ -49,10 +49,16 @@ returns-clause-kept g c =
 
 pub returns-then-not-improves-clause-state : goal.returns-then-not-improves-clause-state
 returns-then-not-improves-clause-state g c =
-    let worse : improves_on (c.args.label.price + c.price.result) (label_at c.args.table.now c.in-Some.to) ≡ false = subst (λ (o : Option Label). improves_on (c.args.label.price + c.price.result) o ≡ false) c.get.ensures (sym c.if-not-improves.ensures) in
+    let worse : improves_on (c.args.label.price + c.price.result) (label_at c.args.table.now c.in-Some.to) ≡ false = subst (λ (o : Option Label). improves_on (c.args.label.price + c.price.result) o ≡ false) c.get-old.ensures (sym c.if-not-improves.ensures) in
     unchanged (g.M.Moves.graph c.args.self.now.m.now) c.args.self.now.starts.now c.args.self.now.goals.now (g.B.Bound.low_of c.args.self.now.b.now) c.requires.sound c.requires.bound
     c.args.table.now c.args.front.now (c.args.label.price + g.B.Bound.low_of c.args.self.now.b.now c.args.node) c.args.label.rank c.args.node c.args.i c.args.label c.requires.state c.requires.there
     c.in-Some.field-0-0 c.in-Some.to c.price.result (sym c.at.ensures ∙ c.in-Some.is) c.price.ensures (cheap_from c.args.table.now c.in-Some.to (c.args.label.price + c.price.result) worse)
+
+pub returns-then-is_done-clause-state : goal.returns-then-is_done-clause-state
+returns-then-is_done-clause-state g c =
+    done_before (g.M.Moves.graph c.args.self.now.m.now) c.args.self.now.starts.now c.args.self.now.goals.now (g.B.Bound.low_of c.args.self.now.b.now) c.requires.sound c.requires.bound
+    c.args.table.now c.args.front.now (c.args.label.price + g.B.Bound.low_of c.args.self.now.b.now c.args.node) c.args.label.rank c.args.node c.args.i c.args.label c.requires.state c.requires.there refl
+    c.in-Some.field-0-0 c.in-Some.to (sym c.at.ensures ∙ c.in-Some.is) (subst (λ (o : Option Label). is_done_by o ≡ true) c.get-old.ensures (sym c.if-is_done.ensures))
 
 pub put-requires-clause-price : goal.put-requires-clause-price
 put-requires-clause-price g c =

@@ -1,0 +1,62 @@
+//! A snapshot with the maps of the moves on it.
+//! The maps are made once, and follow to each later snapshot.
+
+ghost use Rattle.std.specs.Prelude.{IfOk, IfSome, OnOk};
+ghost use Rattle.move_maps.specs.Maps.{AreMapsOf};
+ghost use Rattle.board_sight.specs.Sights.{CanSee, IsLater, IsSightOf};
+
+use copper_change::differences_are_changes;
+use move_maps::MoveMaps;
+use pcb_board::Snap;
+use pcb_model::Copper;
+use route_lattice::Lattice;
+use std::alloc::{AllocError, Global};
+
+/// A snapshot, and the maps of the moves on it.
+#[derive(Drop)]
+pub struct Sight {
+    pub snap: Snap,
+    pub maps: MoveMaps,
+}
+
+// Lets the maps of an earlier snapshot follow to a later one. Where no entry came between them, nothing is asked.
+fn follow(lat: &Lattice, last: &Snap, snap: &Snap, maps: &mut MoveMaps) -> Result<(), AllocError>
+    requires see { CanSee lat.now snap.now }
+    requires later { IsLater lat.now (record { snap = last.now; maps = maps.old }) snap.now }
+    ensures { OnOk result (AreMapsOf snap.now.design lat.now snap.now.items maps.new) }
+{
+    if last.number() == snap.number() {
+        return Ok(());
+    }
+    differences_are_changes();
+    last.in_order();
+    snap.in_order();
+    let since = snap.since(last)?;
+    maps.follow(lat, snap.design(), snap, &since.gone, &since.come)?;
+    Ok(())
+}
+
+/// The snapshot with its maps, which are made anew only where nothing was seen before. `AllocError` comes only for
+/// want of memory.
+pub fn see(
+    alloc: Global,
+    lat: &Lattice,
+    last: Option<Sight>,
+    snap: Snap,
+) -> Result<Sight, AllocError>
+    requires see { CanSee lat.now snap }
+    requires later { IfSome last (λ s. IsLater lat.now s snap) }
+    ensures { IfOk result (IsSightOf lat.now snap) }
+{
+    match last {
+        Some(Sight { snap: before, maps }) => {
+            let mut maps = maps;
+            follow(lat, &before, &snap, &mut maps)?;
+            Ok(Sight { snap, maps })
+        }
+        None => {
+            let maps = MoveMaps::of(alloc, lat, snap.design(), &snap)?;
+            Ok(Sight { snap, maps })
+        }
+    }
+}

@@ -1,0 +1,4 @@
+pub mod Marking
+pub mod Gaining
+pub mod Leading
+pub mod Flooding

@@ -1,0 +1,129 @@
+-- The copper of a net itself: its windows as they are added, item by item.
+use Rattle.std.proofs.Common.{◌≡◌, ℕ, ◌+◌, ◌<◌, ◌≤◌, Bool, true, false, List, [], ◌∷◌, ◌++◌, Some}
+use Rattle.std.proofs.Common.{All, refl, sym, subst, arith, inl, inr, ltb-true}
+use Rattle.std.specs.Prelude.{Contains, nat_lt}
+use Rattle.std.proofs.lemmas.Bool.{ltb-false}
+use Rattle.std.proofs.lemmas.List.Elements.{All-nil, All-cons, All-head, All-append, All-contains}
+use Rattle.geo_kernel.proofs.Paths.{All-append_first, All-append_second}
+use Rattle.pcb_model.specs.declared.item.Item.{Item}
+use Rattle.pcb_model.specs.declared.design.Design.{Design}
+use Rattle.pcb_model.specs.Copper.{Ascends, IsFirstFrom}
+use Rattle.route_lattice.specs.Mesh.{Mesh, column, row}
+use Rattle.route_lattice.proofs.Among.{same_item}
+use Rattle.move_maps.specs.declared.window.Window.{Window}
+use Rattle.move_maps.specs.Windows.{IsOutOf}
+use Rattle.move_maps.specs.Paint.{CoversSteps, IsHeld}
+use Rattle.move_maps.specs.OwnCopper.{IsOutOfAll, IsCoveredBy, IsOwnCopper, IsOwnBelow, Widens, TakesOwn}
+
+-- ---- windows
+-- a node out of a window is out of those in it
+out_held : (m : Mesh) (w u : Window) (v : ℕ) → IsHeld w u → IsOutOf m u v → IsOutOf m w v
+out_held m w u v h (inl (inl k)) = inl (inl (below (column m v) u.left w.left k h.left))
+  where
+    below : (c a b : ℕ) → c < a → a ≤ b → c < b
+    below c a b k l = omega (arith, k, l)
+out_held m w u v h (inl (inr k)) = inl (inr (beyond (column m v) u.right w.right k h.right))
+  where
+    beyond : (c a b : ℕ) → a ≤ c → b ≤ a → b ≤ c
+    beyond c a b k l = omega (arith, k, l)
+out_held m w u v h (inr (inl k)) = inr (inl (below (row m v) u.bottom w.bottom k h.bottom))
+  where
+    below : (c a b : ℕ) → c < a → a ≤ b → c < b
+    below c a b k l = omega (arith, k, l)
+out_held m w u v h (inr (inr k)) = inr (inr (beyond (row m v) u.top w.top k h.top))
+  where
+    beyond : (c a b : ℕ) → a ≤ c → b ≤ a → b ≤ c
+    beyond c a b k l = omega (arith, k, l)
+
+-- the window that stands last in a list
+last_out : (m : Mesh) (v : ℕ) (ws : List Window) (w : Window) → IsOutOfAll m (ws ++ w ∷ []) v → IsOutOf m w v
+last_out m v ws w all = All-head (λ (u : Window). IsOutOf m u v) w [] (All-append_second
+    (λ (u : Window). IsOutOf m u v) ws (w ∷ []) all)
+
+-- a window more widens
+pub pushed_widens : (ws new : List Window) (w : Window) → new ≡ ws ++ w ∷ [] → Widens ws w new
+pushed_widens ws new w e = record {
+  each = λ m v all.
+      let all' = subst (λ (us : List Window). IsOutOfAll m us v) e all in
+      (All-append_first (λ (u : Window). IsOutOf m u v) ws (w ∷ []) all', last_out m v ws w all');
+}
+
+-- so does a window that is joined to the last one
+pub joined_widens : (ws rest new : List Window) (last w u : Window) → ws ≡ rest ++ last ∷ [] → IsHeld last u
+    → IsHeld w u → new ≡ rest ++ u ∷ [] → Widens ws w new
+joined_widens ws rest new last w u e held_last held_w f = record {
+  each = λ m v all.
+      let all' = subst (λ (us : List Window). IsOutOfAll m us v) f all in
+      let out = last_out m v rest u all' in
+      let front = All-append_first (λ (x : Window). IsOutOf m x v) rest (u ∷ []) all' in (
+        subst (λ (us : List Window). IsOutOfAll m us v) (sym e)
+            (All-append (λ (x : Window). IsOutOf m x v) rest (last ∷ []) front
+            (All-cons (λ (x : Window). IsOutOf m x v) last [] (out_held m last u v held_last out)
+            (All-nil (λ (x : Window). IsOutOf m x v)))),
+        out_held m w u v held_w out,
+      );
+}
+
+-- ---- items
+module _ (d : Design) (m : Mesh) (g net : ℕ) where
+  -- what was covered stays so
+  pub kept_covered : (a : Item) (w : Window) (old new : List Window) → Widens old w new → IsCoveredBy d m g a old
+      → IsCoveredBy d m g a new
+  kept_covered a w old new wide h = record { each = λ v i hv hi out. h.each v i hv hi (wide.each m v out).0 }
+
+  -- an item is taken in by its window
+  pub taken_in : (b : Item) (w : Window) (old new : List Window) → Widens old w new → CoversSteps d m g b w
+      → TakesOwn d m g net b old new
+  taken_in b w old new wide h = record {
+    kept = λ a k. kept_covered a w old new wide k;
+    taken = λ e. record { each = λ v i hv hi out. h.each v i hv hi (wide.each m v out).1 };
+  }
+
+  -- an item of another net needs no window
+  pub passed_by : (b : Item) (old new : List Window) → new ≡ old → ¬ (b.net ≡ Some net) → TakesOwn d m g net b old new
+  passed_by b old new e other = record {
+    kept = λ a k. subst (λ (us : List Window). IsCoveredBy d m g a us) (sym e) k;
+    taken = λ f. absurd (other f);
+  }
+
+  -- at first no item has to be covered
+  pub own_first : (items : List Item) (ws : List Window) → IsOwnBelow d m items g net 0 ws
+  own_first items ws = record { each = λ b there low e. absurd (omega (arith, low)) }
+
+  -- the first item from an id on is taken in
+  pub own_next : (items : List Item) (from to : ℕ) (a : Item) (old new : List Window) → Ascends items
+      → IsFirstFrom from items a → a.id + 1 ≡ to → TakesOwn d m g net a old new
+      → IsOwnBelow d m items g net from old → IsOwnBelow d m items g net to new
+  own_next items from to a old new up first next takes h = record {
+    each = λ b there low e. either b there e (nat_lt b.id a.id) refl low;
+  }
+    where
+      same : (b : Item) → b ≡ a → b.net ≡ Some net → IsCoveredBy d m g b new
+      same b s e = subst (λ (x : Item). IsCoveredBy d m g x new) (sym s)
+          (takes.taken (subst (λ (x : Item). x.net ≡ Some net) s e))
+
+      meet : (x y t : ℕ) → y + 1 ≡ t → x < t → y ≤ x → x ≡ y
+      meet x y t e l k = omega (arith, e, l, k)
+
+      either : (b : Item) → Contains items b → b.net ≡ Some net → (s : Bool) → nat_lt b.id a.id ≡ s → b.id < to
+          → IsCoveredBy d m g b new
+      either b there e true s low =
+          takes.kept b (h.each b there (first.before b there (ltb-true b.id a.id s)) e)
+      either b there e false s low = same b (same_item items b a up there first.there
+          (meet b.id a.id to next low (ltb-false b.id a.id s))) e
+
+  -- where no item is left, each is covered
+  pub own_all : (items : List Item) (from : ℕ) (ws : List Window) → All (λ (b : Item). b.id < from) items
+      → IsOwnBelow d m items g net from ws → IsOwnCopper d m items g net ws
+  own_all items from ws below h = record {
+    each = λ b there e. h.each b there (All-contains (λ (x : Item). x.id < from) items b below there) e;
+  }
+
+  -- nor where no id can be higher
+  pub own_by : (items : List Item) (from n : ℕ) (ws : List Window) → n ≤ from → All (λ (b : Item). b.id < n) items
+      → IsOwnBelow d m items g net from ws → IsOwnCopper d m items g net ws
+  own_by items from n ws h below own = record {
+    each = λ b there e.
+        let low : b.id < n = All-contains (λ (x : Item). x.id < n) items b below there in
+        own.each b there (omega (arith, low, h)) e;
+  }

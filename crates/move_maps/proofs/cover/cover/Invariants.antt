@@ -1,0 +1,7 @@
+use Rattle.std.proofs.Common.{take}
+use Rattle.move_maps.proofs.Covering.{IsSoFar}
+use Rattle.move_maps.proofs.cover.cover.Given as goal
+
+-- the window covers the steps, and the vias so far
+abbrev pub invariant-loop-padstack : goal.invariant-loop-padstack
+invariant-loop-padstack l = IsSoFar l.d l.lat l.g l.b (take l.padstack-index l.padstack-items) l.w

@@ -1,0 +1,9 @@
+use Rattle.move_maps.proofs.Tallies.{opens}
+use Rattle.move_maps.proofs.moves.MapMovesMoves.is_open.Goals as goal
+
+pub returns-then-tally-eq0-clause-opens : goal.returns-then-tally-eq0-clause-opens
+returns-then-tally-eq0-clause-opens g c =
+    let s = c.args.self.now in
+    opens s.legal.d.now s.legal.lat.now
+    (g.C.Copper.items s.legal.c.now) s.map.now s.legal.net c.args.node c.args.i c.tally.result c.requires.ready.1
+    c.requires.ready.2 c.requires.node c.requires.index c.tally.ensures c.if-tally-eq0.true

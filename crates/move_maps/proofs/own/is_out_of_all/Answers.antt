@@ -1,0 +1,17 @@
+use Rattle.std.proofs.Common.{length, get_or, subst, arith}
+use Rattle.std.proofs.lemmas.List.{length-take, get_or-take}
+use Rattle.std.proofs.lemmas.List.Elements.{All-more}
+use Rattle.move_maps.specs.declared.window.Window.{Window}
+use Rattle.move_maps.specs.OwnCopper.{IsPlaceOut}
+use Rattle.move_maps.proofs.own.is_out_of_all.Goals as goal
+
+pub loop-w-preserved : goal.loop-w-preserved
+loop-w-preserved c = All-more (λ (w : Window). IsPlaceOut w c.args.column c.args.row) c.args.windows.now
+    c.loop-w.w-index (record { left = 0; right = 0; bottom = 0; top = 0 }) c.loop-w-test.true c.loop-w.invariant
+    (c.is_place_out.ensures.0 c.if-not-is_place_out.false)
+
+pub returns : goal.returns
+returns c = λ k w within. subst (λ (u : Window). IsPlaceOut u c.args.column c.args.row)
+    (get_or-take c.loop-w.w-index c.args.windows.now k w (omega (arith, within, c.loop-w-test.false)))
+    (c.loop-w.invariant k w
+    (omega (arith, within, c.loop-w-test.false, length-take c.loop-w.w-index c.args.windows.now)))

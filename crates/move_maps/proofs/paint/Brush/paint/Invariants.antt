@@ -1,0 +1,10 @@
+use Rattle.std.proofs.Common.{◌*◌, length}
+use Rattle.route_lattice.specs.Ways.{way_count}
+use Rattle.move_maps.specs.Paint.{Paints}
+use Rattle.move_maps.proofs.paint.Brush.paint.Given as goal
+
+-- what was gone over is painted
+abbrev pub invariant-loop-level : goal.invariant-loop-level
+invariant-loop-level g l =
+    let s = l.self in let d = s.moves.d.now in let m = s.moves.lat.now in let a = way_count d m s.moves.net in
+    Paints s.stroke d m s.moves.net s.item.now 0 (l.level * length m.ys * length m.xs * a) l.fn.counts l.counts

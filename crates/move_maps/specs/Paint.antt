@@ -1,0 +1,104 @@
+-- What an item that comes or goes does to the tallies of a group.
+use Rattle.std.specs.Prelude.{◌≡◌, ℕ, ◌*◌, ◌<◌, ◌≤◌, ◌⊎◌, ◌^◌, List, [], Option, Some, None, All}
+use Rattle.std.specs.Prelude.{length, slice_index}
+use Rattle.pcb_model.specs.declared.item.Item.{Item}
+use Rattle.pcb_model.specs.declared.item.Probe.{Probe}
+use Rattle.pcb_model.specs.declared.item.Probe.TheVariants as probe
+use Rattle.pcb_model.specs.declared.design.Design.{Design}
+use Rattle.route_lattice.specs.Mesh.{Mesh, node_count, point_of}
+use Rattle.pcb_model.specs.declared.near.Extent.{Extent}
+use Rattle.pcb_model.specs.Bounds.{HasRulesWithin}
+use Rattle.pcb_model.specs.Near.{IsExtentOf}
+use Rattle.pcb_model.specs.Sound.{IsItemOf}
+use Rattle.route_lattice.specs.Ways.{way_count}
+use Rattle.route_lattice.specs.Legal.{probe_at, CanMove}
+use Rattle.move_maps.specs.declared.window.Window.{Window}
+use Rattle.move_maps.specs.declared.paint.Stroke.{Stroke}
+use Rattle.move_maps.specs.declared.paint.Stroke.TheVariants.{Comes, Goes, Stays}
+use Rattle.move_maps.specs.Clear.{IsClearOf}
+use Rattle.move_maps.specs.Maps.{more, fewer, place_at, IsTally}
+use Rattle.move_maps.specs.Windows.{IsOutOf}
+
+-- the move is clear of the item, or there is none
+abbrev pub IsClearAt : Design → ℕ → Item → Option Probe → Type 0
+IsClearAt d g b None = Unit {0}
+IsClearAt d g b (Some p) = IsClearOf d g p b
+
+-- the tally of a move that the item shuts: one more where the item comes, one fewer where it goes, and the top where it
+-- stays for good
+abbrev pub turned : Stroke → ℕ → ℕ
+turned Comes n = more n
+turned Goes n = fewer n
+turned Stays n = 255
+
+-- the tally stays where the move is clear of the item or the tally is the top, and is turned elsewhere
+abbrev pub IsRepainted : Stroke → Design → ℕ → Item → Option Probe → ℕ → ℕ → Type 0
+IsRepainted stroke d g b o x y = (IsClearAt d g b o × (y ≡ x))
+    ⊎ ((¬ (IsClearAt d g b o) × (y ≡ turned stroke x)) ⊎ ((x ≡ 255) × (y ≡ 255)))
+
+-- new is old with the item painted at the places from one to below another; all others are as they
+-- were
+pub record Paints (stroke : Stroke) (d : Design) (m : Mesh) (g : ℕ) (b : Item) (from to : ℕ)
+    (old new : List ℕ) : Type 0 where
+  pub size : length new ≡ length old
+  pub painted : (v i : ℕ) → i < way_count d m g → from ≤ place_at d m g v i → place_at d m g v i < to
+      → IsRepainted stroke d g b (probe_at d m g v i) (slice_index old (place_at d m g v i))
+      (slice_index new (place_at d m g v i))
+  pub kept : (k : ℕ) → k < from ⊎ to ≤ k → slice_index new k ≡ slice_index old k
+
+-- each move's tally of these items stands at its place
+pub record AreTallied (d : Design) (m : Mesh) (g : ℕ) (items : List Item) (counts : List ℕ) : Type 0 where
+  pub size : length counts ≡ node_count m * way_count d m g
+  pub each : (v i : ℕ) → v < node_count m → i < way_count d m g
+      → IsTally d g items (probe_at d m g v i) (slice_index counts (place_at d m g v i))
+
+-- each place is as it was and its move clear of all the items, or has the top
+pub record Shuts (d : Design) (m : Mesh) (g : ℕ) (items : List Item) (old new : List ℕ) : Type 0 where
+  pub size : length new ≡ length old
+  pub each : (v i : ℕ) → v < node_count m → i < way_count d m g → (slice_index new (place_at d m g v i) ≡ 255)
+      ⊎ ((slice_index new (place_at d m g v i) ≡ slice_index old (place_at d m g v i))
+      × All (λ (b : Item). IsClearAt d g b (probe_at d m g v i)) items)
+
+-- all moves of the nodes out of the window are clear of the item
+pub record Covers (d : Design) (m : Mesh) (g : ℕ) (b : Item) (w : Window) : Type 0 where
+  pub each : (v i : ℕ) → v < node_count m → i < way_count d m g → IsOutOf m w v → IsClearAt d g b (probe_at d m g v i)
+
+-- all steps are
+pub record CoversSteps (d : Design) (m : Mesh) (g : ℕ) (b : Item) (w : Window) : Type 0 where
+  pub each : (v i : ℕ) → v < node_count m → i < 4 → IsOutOf m w v → IsClearAt d g b (probe_at d m g v i)
+
+-- all vias of the padstack are
+pub record CoversVia (d : Design) (m : Mesh) (g : ℕ) (b : Item) (padstack : ℕ) (w : Window) : Type 0 where
+  pub each : (v : ℕ) → v < node_count m → IsOutOf m w v → IsClearOf d g (probe.Via padstack (point_of m v)) b
+
+-- the window's places are those of lines
+pub record IsWindowIn (m : Mesh) (w : Window) : Type 0 where
+  pub columns : w.left ≤ w.right
+  pub right : w.right ≤ length m.xs
+  pub rows : w.bottom ≤ w.top
+  pub top : w.top ≤ length m.ys
+
+-- the window w is in the window u
+pub record IsHeld (w u : Window) : Type 0 where
+  pub left : u.left ≤ w.left
+  pub right : w.right ≤ u.right
+  pub bottom : u.bottom ≤ w.bottom
+  pub top : w.top ≤ u.top
+
+-- what is needed to paint an item into the counts of a group: the moves of its first net, the item's extent, a distance
+-- that no clearance is above, and the window of the nodes whose moves it may shut
+pub record IsBrush (d : Design) (m : Mesh) (g via_cost : ℕ) (b : Item) (f : Extent) (reach : ℕ)
+    (w : Window) : Type 0 where
+  pub can_move : CanMove d m g via_cost
+  pub item : IsItemOf d b
+  pub extent : IsExtentOf b.pieces f
+  pub rules : HasRulesWithin reach d
+  pub small : reach ≤ 2 ^ 28
+  pub covers : Covers d m g b w
+  pub window : IsWindowIn m w
+
+-- the counts of the first places of the table, where there is no item
+pub record IsFilled (d : Design) (m : Mesh) (g to : ℕ) (counts : List ℕ) : Type 0 where
+  pub size : length counts ≡ to
+  pub each : (v i : ℕ) → i < way_count d m g → place_at d m g v i < to
+      → IsTally d g [] (probe_at d m g v i) (slice_index counts (place_at d m g v i))

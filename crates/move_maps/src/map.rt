@@ -1,0 +1,213 @@
+//! The maps of the groups, which follow some copper.
+
+ghost use Rattle.std.specs.Prelude.{◌≡◌, ◌↔◌, ℕ, ◌*◌, ◌<◌, ◌≤◌, ◌^◌, length, All, Contains, IfSome, IfNone, IfOk, OnOk};
+ghost use Rattle.std.specs.Prelude.{OnErr, slice_index_or};
+ghost use Rattle.pcb_model.specs.Bounds.{HasRulesWithin};
+ghost use Rattle.pcb_model.specs.Sound.{IsSound, IsItemOf};
+ghost use Rattle.route_lattice.specs.Fits.{FitsDesign};
+ghost use Rattle.route_lattice.specs.Legal.{CanMove};
+ghost use Rattle.move_maps.specs.Groups.{HasMap, AreAlike, AreMapped};
+ghost use Rattle.move_maps.specs.Maps.{IsMapOf, IsSized, AreMapsOf, IsNotFor, Follows, FollowFrom};
+ghost use Rattle.move_maps.specs.Starts.{AreInner};
+ghost use Rattle.move_maps.specs.declared.map.GroupMap.{GroupMap as OneMap};
+
+use crate::counts::Counts;
+use crate::fill::counts_for;
+use crate::firsts::first_nets;
+use crate::group::are_alike;
+use crate::inner::inner_points;
+use crate::moves::MapMoves;
+use crate::tally::change;
+use geo_kernel::List;
+use pcb_model::{Copper, Design, Item, reach_of};
+use route_lattice::{Lattice, LegalMoves};
+use std::alloc::{AllocError, Global};
+use std::marker::Model;
+
+/// The map of a group: its first net, and for each index of each node how much shuts the move.
+#[derive(Debug, Drop)]
+pub struct GroupMap {
+    pub first: u32,
+    pub counts: Counts,
+}
+
+/// The maps of the first groups. Contracts see them as their list.
+#[derive(Debug, Drop)]
+pub struct MoveMaps {
+    maps: Vec<GroupMap>,
+}
+
+impl Model for MoveMaps {
+    ghost use Rattle.std.specs.Prelude.{List as Seq};
+    ghost use Rattle.move_maps.specs.declared.map.GroupMap.{GroupMap as OneMap};
+
+    ghost Value = { Seq OneMap };
+
+    ghost view = { λ s. s.maps.items };
+}
+
+// Changes the counts of a map.
+fn change_map<C: Copper>(
+    lat: &Lattice,
+    d: &Design,
+    c: &C,
+    reach: u64,
+    map: &mut GroupMap,
+    gone: &[Item],
+    come: &[Item],
+)
+    requires sound { IsSound d.now }
+    requires fits { FitsDesign d.now lat.now }
+    requires gone { All (IsItemOf d.now) gone.now }
+    requires come { All (IsItemOf d.now) come.now }
+    requires rules { HasRulesWithin reach d.now }
+    requires reach { reach ≤ 2 ^ 28 }
+    requires sized { IsSized d.now lat.now map.old }
+    ensures { Follows d.now lat.now gone.now come.now map.old map.new }
+{
+    change(lat, d, c, map.first, reach, &mut map.counts, gone, come);
+}
+
+// Changes the counts of each map.
+fn change_all<C: Copper>(
+    lat: &Lattice,
+    d: &Design,
+    c: &C,
+    reach: u64,
+    maps: &mut [GroupMap],
+    gone: &[Item],
+    come: &[Item],
+)
+    requires sound { IsSound d.now }
+    requires fits { FitsDesign d.now lat.now }
+    requires gone { All (IsItemOf d.now) gone.now }
+    requires come { All (IsItemOf d.now) come.now }
+    requires rules { HasRulesWithin reach d.now }
+    requires reach { reach ≤ 2 ^ 28 }
+    requires maps { All (IsSized d.now lat.now) maps.old }
+    ensures count { length maps.new ≡ length maps.old }
+    ensures each { (k : ℕ) (o : OneMap) → k < length maps.old
+        → Follows d.now lat.now gone.now come.now (slice_index_or maps.old k o) (slice_index_or maps.new k o) }
+{
+    for map in maps.iter_mut() {
+        change_map(lat, d, c, reach, map, gone, come);
+    }
+}
+
+// The maps of the groups of these nets for the copper.
+fn maps_for<C: Copper>(
+    alloc: Global,
+    lat: &Lattice,
+    d: &Design,
+    c: &C,
+    inner: &[bool],
+    firsts: &[u32],
+) -> Result<Vec<GroupMap>, AllocError>
+    requires sound { IsSound d.now }
+    requires fits { FitsDesign d.now lat.now }
+    requires serves { C.serves c.now d.now }
+    requires inner { let m = lat.now in AreInner d.now m (length m.ys * length m.xs) inner.now }
+    requires firsts { AreMapped d.now lat.now firsts.now }
+    ensures { IfOk result (λ v. AreMapsOf d.now lat.now (C.items c.now) v.items) }
+{
+    let reach = reach_of(d);
+    let mut maps = Vec::new(alloc);
+    for first in firsts {
+        let counts = counts_for(alloc, lat, d, c, *first, reach, inner)?;
+        maps.push(GroupMap {
+            first: *first,
+            counts,
+        })?;
+    }
+    Ok(maps)
+}
+
+/// The map of the net's group among the maps.
+fn map_for<'a>(d: &Design, maps: &'a [GroupMap], net: u32) -> Option<&'a GroupMap>
+    requires net { net < length d.now.nets }
+    requires firsts { All (λ (g : OneMap). g.first < length d.now.nets) maps.now }
+    ensures none { IfNone result (All (IsNotFor d.now net) maps.now) }
+    ensures there { IfSome result (λ g. Contains maps.now g.now) }
+    ensures alike { IfSome result (λ g. AreAlike d.now g.now.first net) }
+{
+    for map in maps {
+        if are_alike(d, map.first, net) {
+            return Some(map);
+        }
+    }
+    None
+}
+
+impl MoveMaps {
+    /// The maps of the first groups for the copper. `AllocError` comes only for want of memory.
+    pub fn of<C: Copper>(
+        alloc: Global,
+        lat: &Lattice,
+        d: &Design,
+        c: &C,
+    ) -> Result<MoveMaps, AllocError>
+        requires sound { IsSound d.now }
+        requires fits { FitsDesign d.now lat.now }
+        requires serves { C.serves c.now d.now }
+        ensures { IfOk result (AreMapsOf d.now lat.now (C.items c.now)) }
+    {
+        let firsts = first_nets(alloc, lat, d, c)?;
+        let inner = inner_points(alloc, lat, d)?;
+        let maps = maps_for(alloc, lat, d, c, inner.as_slice(), firsts.as_slice())?;
+        Ok(MoveMaps { maps })
+    }
+
+    /// Takes the items that are gone out of the counts and brings in those that have come, so that the maps answer
+    /// for the copper. Where memory is wanting nothing changes.
+    pub fn follow<C: Copper>(
+        &mut self,
+        lat: &Lattice,
+        d: &Design,
+        c: &C,
+        gone: &List<Item>,
+        come: &List<Item>,
+    ) -> Result<(), AllocError>
+        requires sound { IsSound d.now }
+        requires fits { FitsDesign d.now lat.now }
+        requires serves { C.serves c.now d.now }
+        requires follows { FollowFrom d.now lat.now gone.now come.now (C.items c.now) self.old }
+        ensures ok { OnOk result (AreMapsOf d.now lat.now (C.items c.now) self.new) }
+        ensures err { OnErr result (self.new ≡ self.old) }
+    {
+        let reach = reach_of(d);
+        let maps = self.maps.as_mut_slice();
+        change_all(lat, d, c, reach, maps, gone.as_slice(), come.as_slice());
+        Ok(())
+    }
+
+    /// The moves of a net on the copper that the maps follow, or None exactly where the net has no map.
+    pub fn moves<'a, C: Copper>(
+        &'a self,
+        lat: &'a Lattice,
+        d: &'a Design,
+        c: &'a C,
+        net: u32,
+        via_cost: u64,
+    ) -> Option<MapMoves<'a, C>>
+        requires can_move { CanMove d.now lat.now net via_cost }
+        requires serves { C.serves c.now d.now }
+        requires maps { AreMapsOf d.now lat.now (C.items c.now) self.now }
+        ensures none { IfNone result (¬ (HasMap d.now lat.now net)) }
+        ensures mapped { IfSome result (λ s. HasMap d.now lat.now net) }
+        ensures lat { IfSome result (λ s. s.legal.lat.now ≡ lat.now) }
+        ensures d { IfSome result (λ s. s.legal.d.now ≡ d.now) }
+        ensures c { IfSome result (λ s. s.legal.c.now ≡ c.now) }
+        ensures net { IfSome result (λ s. s.legal.net ≡ net) }
+        ensures via_cost { IfSome result (λ s. s.legal.via_cost ≡ via_cost) }
+        ensures map { IfSome result (λ s. IsMapOf d.now lat.now (C.items c.now) s.map.now) }
+        ensures alike { IfSome result (λ s. AreAlike d.now s.map.now.first net) }
+    {
+        match map_for(d, self.maps.as_slice(), net) {
+            Some(map) => Some(MapMoves {
+                legal: LegalMoves::of(lat, d, c, net, via_cost),
+                map,
+            }),
+            None => None,
+        }
+    }
+}

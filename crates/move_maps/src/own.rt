@@ -1,0 +1,153 @@
+//! The copper of a net itself, as windows of the lattice: the steps of all nodes out of them are clear of it.
+//! There a map needs no look at the copper: what it counts is foreign.
+
+ghost use Rattle.std.specs.Prelude.{◌≡◌, ◌↔◌, ◌<◌, ◌≤◌, ◌^◌, length, IsTrue, IfOk, OnOk, Some, All};
+ghost use Rattle.std.specs.Bool.{OnTrue};
+ghost use Rattle.pcb_model.specs.Bounds.{IsItemFit, HasRulesWithin};
+ghost use Rattle.pcb_model.specs.Sound.{IsSound};
+ghost use Rattle.route_lattice.specs.Fits.{FitsDesign};
+ghost use Rattle.route_lattice.specs.Mesh.{node_count};
+ghost use Rattle.move_maps.specs.OwnCopper.{IsPlaceOut, IsOutOfAll, IsOwnCopper, Widens, TakesOwn};
+
+use crate::cover::{joined, step_window};
+use crate::window::Window;
+use pcb_model::{Copper, Design, Item, reach_of};
+use route_lattice::Lattice;
+use std::alloc::{AllocError, Global};
+use std::marker::Model;
+
+/// So many windows stand apart; those of further items are joined to the last.
+const MOST_APART: usize = 32;
+
+/// Windows round the copper of a net. Contracts see them as their list.
+#[derive(Drop)]
+pub struct OwnCopper {
+    windows: Vec<Window>,
+}
+
+impl Model for OwnCopper {
+    ghost use Rattle.std.specs.Prelude.{List as Seq};
+    ghost use Rattle.move_maps.specs.declared.window.Window.{Window as OneWindow};
+
+    ghost Value = { Seq OneWindow };
+
+    ghost view = { λ s. s.windows.items };
+}
+
+/// Whether a column and a row aren't both in the window.
+fn is_place_out(w: &Window, column: usize, row: usize) -> bool
+    ensures { IsTrue result ↔ IsPlaceOut w.now column row }
+{
+    (column < w.left || column >= w.right) || (row < w.bottom || row >= w.top)
+}
+
+/// Whether a column and a row are out of all the windows.
+fn is_out_of_all(windows: &[Window], column: usize, row: usize) -> bool
+    ensures { OnTrue result (All (λ w. IsPlaceOut w column row) windows.now) }
+{
+    for w in windows {
+        if !is_place_out(w, column, row) {
+            return false;
+        }
+    }
+    true
+}
+
+// Adds a window, or joins it to the last of many.
+fn add_window(windows: &mut Vec<Window>, w: Window) -> Result<(), AllocError>
+    ensures { OnOk result (Widens windows.old.items w windows.new.items) }
+{
+    if windows.len() >= MOST_APART
+        && let Some(last) = windows.pop()
+    {
+        windows.push(joined(last, w))?;
+        return Ok(());
+    }
+    windows.push(w)?;
+    Ok(())
+}
+
+// Takes an item of the net in; another item changes nothing.
+fn take_item(
+    windows: &mut Vec<Window>,
+    lat: &Lattice,
+    d: &Design,
+    g: u32,
+    net: u32,
+    reach: u64,
+    item: &Item,
+) -> Result<(), AllocError>
+    requires sound { IsSound d.now }
+    requires fits { FitsDesign d.now lat.now }
+    requires item { IsItemFit item.now }
+    requires rules { HasRulesWithin reach d.now }
+    requires reach { reach ≤ 2 ^ 28 }
+    ensures { OnOk result (TakesOwn d.now lat.now g net item.now windows.old.items windows.new.items) }
+{
+    if item.net != Some(net) {
+        return Ok(());
+    }
+    let w = step_window(lat, d, g, item, reach);
+    add_window(windows, w)
+}
+
+// The windows round all items of the net on the copper.
+fn windows_of<C: Copper>(
+    alloc: Global,
+    lat: &Lattice,
+    d: &Design,
+    c: &C,
+    g: u32,
+    net: u32,
+) -> Result<Vec<Window>, AllocError>
+    requires sound { IsSound d.now }
+    requires fits { FitsDesign d.now lat.now }
+    requires serves { C.serves c.now d.now }
+    ensures { IfOk result (λ v. IsOwnCopper d.now lat.now (C.items c.now) g net v.items) }
+{
+    c.in_order();
+    let reach = reach_of(d);
+    let mut windows = Vec::new(alloc);
+    let mut from = 0;
+    while let Some(item) = c.next_item(from) {
+        take_item(&mut windows, lat, d, g, net, reach, item)?;
+        let Some(next) = item.id.checked_add(1) else {
+            return Ok(windows);
+        };
+        from = next;
+    }
+    Ok(windows)
+}
+
+impl OwnCopper {
+    /// The windows round the copper of the net, for steps of the group of net `g`.
+    pub(crate) fn of<C: Copper>(
+        alloc: Global,
+        lat: &Lattice,
+        d: &Design,
+        c: &C,
+        g: u32,
+        net: u32,
+    ) -> Result<OwnCopper, AllocError>
+        requires sound { IsSound d.now }
+        requires fits { FitsDesign d.now lat.now }
+        requires serves { C.serves c.now d.now }
+        ensures { IfOk result (IsOwnCopper d.now lat.now (C.items c.now) g net) }
+    {
+        let windows = windows_of(alloc, lat, d, c, g, net)?;
+        Ok(OwnCopper { windows })
+    }
+
+    /// Whether the node is out of all windows.
+    pub(crate) fn is_off(&self, lat: &Lattice, node: u32) -> bool
+        requires { node < node_count lat.now }
+        ensures { OnTrue result (IsOutOfAll lat.now self.now node) }
+    {
+        let width = lat.xs().len();
+        let height = lat.ys().len();
+        let place = node as usize;
+        let column = place % width;
+        let row = place / width % height;
+        is_out_of_all(self.windows.as_slice(), column, row)
+    }
+}

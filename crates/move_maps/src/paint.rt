@@ -1,0 +1,214 @@
+//! An item painted into the counts of a group: each place in the item's window is tested once.
+
+ghost use Rattle.std.specs.Prelude.{◌≡◌, ◌+◌, ◌*◌, ◌<◌, ◌≤◌, ◌^◌, ◌↔◌, length, IsTrue};
+ghost use Rattle.pcb_model.specs.Bounds.{IsProbeFit, HasRulesWithin};
+ghost use Rattle.pcb_model.specs.Sound.{IsSound, IsItemOf};
+ghost use Rattle.route_lattice.specs.Fits.{FitsDesign};
+ghost use Rattle.route_lattice.specs.Mesh.{node_count};
+ghost use Rattle.route_lattice.specs.Ways.{way_count};
+ghost use Rattle.route_lattice.specs.Legal.{probe_at};
+ghost use Rattle.move_maps.specs.Clear.{IsClearOf};
+ghost use Rattle.move_maps.specs.Paint.{IsClearAt, turned as turned_by, Paints, IsBrush};
+
+use crate::clear::is_clear;
+use crate::counts::Counts;
+use crate::cover::cover;
+use crate::window::Window;
+use pcb_model::{Copper, Design, Extent, Item, Probe};
+use route_lattice::{Lattice, LegalMoves};
+
+/// What becomes of the counts of the moves that an item shuts: one more where it comes, one fewer where it goes; where
+/// it stays for good they are shut, with nothing to be counted.
+#[derive(Clone, Copy, Debug, PartialEq, Eq)]
+pub(crate) enum Stroke {
+    Comes,
+    Goes,
+    Stays,
+}
+
+// The count of a move that an item shuts, once it is painted. 255 says that it was too large to count.
+fn turned(stroke: Stroke, n: u8) -> u8
+    ensures { result ≡ turned_by stroke n }
+{
+    match stroke {
+        Stroke::Comes => n.saturating_add(1),
+        Stroke::Goes if n < u8::MAX => n.saturating_sub(1),
+        _ => u8::MAX,
+    }
+}
+
+/// An item that comes, goes or stays, with the moves of a group's first net, and the window of the nodes whose moves
+/// the item may shut.
+#[derive(Drop)]
+pub(crate) struct Brush<'a, C: Copper> {
+    moves: LegalMoves<'a, C>,
+    item: &'a Item,
+    extent: Extent,
+    reach: u64,
+    window: Window,
+    stroke: Stroke,
+}
+
+impl<'a, C: Copper> Brush<'a, C> {
+    /// That of an item of the copper that the group of net `g` sees. `reach` is a distance
+    /// in nm that no clearance is above.
+    pub(crate) fn new(
+        lat: &'a Lattice,
+        d: &'a Design,
+        c: &'a C,
+        g: u32,
+        item: &'a Item,
+        reach: u64,
+        stroke: Stroke,
+    ) -> Brush<'a, C>
+        requires sound { IsSound d.now }
+        requires fits { FitsDesign d.now lat.now }
+        requires g { g < length d.now.nets }
+        requires item { IsItemOf d.now item.now }
+        requires rules { HasRulesWithin reach d.now }
+        requires reach { reach ≤ 2 ^ 28 }
+        ensures lat { result.moves.lat.now ≡ lat.now }
+        ensures d { result.moves.d.now ≡ d.now }
+        ensures g { result.moves.net ≡ g }
+        ensures item { result.item.now ≡ item.now }
+        ensures stroke { result.stroke ≡ stroke }
+        ensures ready { let s = result in let t = s.moves in
+            IsBrush t.d.now t.lat.now t.net t.via_cost s.item.now s.extent s.reach s.window }
+    {
+        let window = cover(lat, d, g, item, reach);
+        Brush {
+            moves: LegalMoves::of(lat, d, c, g, 0),
+            item,
+            extent: Extent::of_item(item),
+            reach,
+            window,
+            stroke,
+        }
+    }
+
+    fn is_clear_of(&self, p: &Probe) -> bool
+        requires ready { let s = self.now in let t = s.moves in
+            IsBrush t.d.now t.lat.now t.net t.via_cost s.item.now s.extent s.reach s.window }
+        requires p_fits { IsProbeFit self.now.moves.d.now p.now }
+        ensures { IsTrue result ↔ IsClearOf self.now.moves.d.now self.now.moves.net p.now self.now.item.now }
+    {
+        let extent = Extent::of_probe(self.moves.d, p);
+        if extent.is_far_from(&self.extent, self.reach) {
+            return true;
+        }
+        is_clear(self.moves.d, self.moves.net, p, self.item)
+    }
+
+    fn is_clear_at(&self, node: u32, i: u32) -> bool
+        requires ready { let s = self.now in let t = s.moves in
+            IsBrush t.d.now t.lat.now t.net t.via_cost s.item.now s.extent s.reach s.window }
+        requires node { node < node_count self.now.moves.lat.now }
+        requires index { let s = self.now.moves in i < way_count s.d.now s.lat.now s.net }
+        ensures { let s = self.now.moves in
+            IsTrue result ↔ IsClearAt s.d.now s.net self.now.item.now (probe_at s.d.now s.lat.now s.net node i) }
+    {
+        match self.moves.probe(node, i) {
+            Some(p) => self.is_clear_of(&p),
+            None => true,
+        }
+    }
+
+    // Paints a move.
+    fn paint_place(&self, counts: &mut Counts, node: u32, i: u32)
+        requires ready { let s = self.now in let t = s.moves in
+            IsBrush t.d.now t.lat.now t.net t.via_cost s.item.now s.extent s.reach s.window }
+        requires size { let s = self.now.moves in
+            length counts.old ≡ node_count s.lat.now * way_count s.d.now s.lat.now s.net }
+        requires node { node < node_count self.now.moves.lat.now }
+        requires index { let s = self.now.moves in i < way_count s.d.now s.lat.now s.net }
+        ensures { let s = self.now.moves in let d = s.d.now in let m = s.lat.now in
+            let a = way_count d m s.net in
+            Paints self.now.stroke d m s.net self.now.item.now (node * a + i) (node * a + i + 1)
+            counts.old counts.new }
+    {
+        let place = node as usize * self.moves.arity as usize + i as usize;
+        let n = counts.get(place);
+        if n == u8::MAX {
+            return;
+        }
+        if self.is_clear_at(node, i) {
+            return;
+        }
+        counts.set(place, turned(self.stroke, n));
+    }
+
+    // Paints the moves of a node.
+    fn paint_node(&self, counts: &mut Counts, node: u32)
+        requires ready { let s = self.now in let t = s.moves in
+            IsBrush t.d.now t.lat.now t.net t.via_cost s.item.now s.extent s.reach s.window }
+        requires size { let s = self.now.moves in
+            length counts.old ≡ node_count s.lat.now * way_count s.d.now s.lat.now s.net }
+        requires node { node < node_count self.now.moves.lat.now }
+        ensures { let s = self.now.moves in let d = s.d.now in let m = s.lat.now in
+            let a = way_count d m s.net in
+            Paints self.now.stroke d m s.net self.now.item.now (node * a) ((node + 1) * a)
+            counts.old counts.new }
+    {
+        for i in 0..self.moves.arity {
+            self.paint_place(counts, node, i);
+        }
+    }
+
+    // Paints a line of nodes across: those in the window's columns.
+    fn paint_line(&self, counts: &mut Counts, line: usize)
+        requires ready { let s = self.now in let t = s.moves in
+            IsBrush t.d.now t.lat.now t.net t.via_cost s.item.now s.extent s.reach s.window }
+        requires size { let s = self.now.moves in
+            length counts.old ≡ node_count s.lat.now * way_count s.d.now s.lat.now s.net }
+        requires line { line < length self.now.moves.lat.now.layers * length self.now.moves.lat.now.ys }
+        ensures { let s = self.now.moves in let d = s.d.now in let m = s.lat.now in
+            let a = way_count d m s.net in
+            Paints self.now.stroke d m s.net self.now.item.now (line * length m.xs * a)
+            ((line + 1) * length m.xs * a)
+            counts.old counts.new }
+    {
+        let first = line * self.moves.lat.xs().len();
+        for column in self.window.left..self.window.right {
+            self.paint_node(counts, (first + column) as u32);
+        }
+    }
+
+    // Paints the nodes of a signal layer: those in the window's rows.
+    fn paint_level(&self, counts: &mut Counts, level: usize)
+        requires ready { let s = self.now in let t = s.moves in
+            IsBrush t.d.now t.lat.now t.net t.via_cost s.item.now s.extent s.reach s.window }
+        requires size { let s = self.now.moves in
+            length counts.old ≡ node_count s.lat.now * way_count s.d.now s.lat.now s.net }
+        requires some { 0 < node_count self.now.moves.lat.now }
+        requires level { level < length self.now.moves.lat.now.layers }
+        ensures { let s = self.now.moves in let d = s.d.now in let m = s.lat.now in
+            let a = way_count d m s.net in
+            Paints self.now.stroke d m s.net self.now.item.now (level * length m.ys * length m.xs * a)
+            ((level + 1) * length m.ys * length m.xs * a)
+            counts.old counts.new }
+    {
+        let first = level * self.moves.lat.ys().len();
+        for row in self.window.bottom..self.window.top {
+            self.paint_line(counts, first + row);
+        }
+    }
+
+    /// Paints the item into the counts, or takes it out of them.
+    pub(crate) fn paint(&self, counts: &mut Counts)
+        requires ready { let s = self.now in let t = s.moves in
+            IsBrush t.d.now t.lat.now t.net t.via_cost s.item.now s.extent s.reach s.window }
+        requires size { let s = self.now.moves in
+            length counts.old ≡ node_count s.lat.now * way_count s.d.now s.lat.now s.net }
+        ensures { let s = self.now.moves in let d = s.d.now in let m = s.lat.now in
+            let a = way_count d m s.net in
+            Paints self.now.stroke d m s.net self.now.item.now 0 (node_count m * a)
+            counts.old counts.new }
+    {
+        if self.moves.lat.count() == 0 {
+            return;
+        }
+        for level in 0..self.moves.lat.layers().len() {
+            self.paint_level(counts, level);
+        }
+    }
+}

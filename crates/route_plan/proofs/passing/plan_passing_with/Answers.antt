@@ -1,0 +1,47 @@
+use Rattle.std.proofs.Common.{◌<◌, length, Some, sym, subst, arith}
+use Rattle.cut_certificate.specs.Same.{SameMoves}
+use Rattle.ripup.specs.Rips.{rip_graph}
+use Rattle.route_plan.specs.Plans.{FindsPassing}
+use Rattle.route_plan.proofs.Clearing.{passing_first, shut_first}
+use Rattle.route_plan.proofs.Planning.{first_net}
+use Rattle.route_plan.proofs.passing.plan_passing_with.Goals as goal
+
+-- the moves of the net are those of its first island
+pub passing_route-requires-clause-moves : goal.passing_route-requires-clause-moves
+passing_route-requires-clause-moves g c =
+    let d = c.args.d.now in
+    let m = c.args.lat.now in
+    let items = c.args.snap.now.items in
+    let own = first_net d items c.args.net c.in_ok-others.others c.remove-island.new.self c.remove-island.result
+    c.in_ok-others.ensures c.remove-island.ensures.value c.remove-island.ensures.rest in
+    subst (λ n. SameMoves (g.M.Moves.graph c.args.moves.now) (rip_graph d m items n c.args.via_cost c.args.penalty))
+    (sym own) c.requires.moves
+
+pub returns-in-Shut-clause-plan : goal.returns-in-Shut-clause-plan
+returns-in-Shut-clause-plan g c = λ b of.
+    let d = c.args.d.now in
+    let m = c.args.lat.now in
+    let s = c.args.snap.now in
+    let island = c.remove-island.result in
+    let others = c.remove-island.new.self in
+    let many : 1 < length c.in_ok-others.others = omega (arith, c.if-len-le1.false, c.len.ensures) in
+    shut_first d m s c.args.net c.args.via_cost b (Some c.args.penalty) c.in_ok-others.others others island
+    c.in-Shut.reach.nodes c.requires.can_plan of c.in_ok-others.ensures
+    c.remove-island.ensures.value c.remove-island.ensures.rest many
+    (subst (FindsPassing d m s c.args.via_cost c.args.worker c.args.penalty island others) c.in-Shut.is
+    c.in_ok-reach.ensures.finds)
+
+pub returns-clause-plan : goal.returns-clause-plan
+returns-clause-plan g c = λ b of.
+    let d = c.args.d.now in
+    let m = c.args.lat.now in
+    let s = c.args.snap.now in
+    let island = c.remove-island.result in
+    let others = c.remove-island.new.self in
+    passing_first d m s c.args.net c.args.via_cost b c.args.worker c.args.penalty c.in_ok-others.others others island
+    c.in-Offer.offer c.requires.can_plan of c.in_order.ensures.ascends
+    c.requires.worker c.in_ok-others.ensures c.remove-island.ensures.value c.remove-island.ensures.rest
+    (subst (FindsPassing d m s c.args.via_cost c.args.worker c.args.penalty island others) c.in-Offer.is
+    c.in_ok-reach.ensures.finds)
+    c.least_offers_may_be_made.ensures c.shoves_may_be_made.ensures c.made_shoves_stand_together.ensures
+    c.shoves_are_one.ensures.in_way c.shoves_are_one.ensures.alike

@@ -1,0 +1,54 @@
+use Rattle.std.proofs.Common.{◌<◌, length, None, sym, subst, arith}
+use Rattle.pcb_islands.specs.Islands.{AreIslands}
+use Rattle.route_lattice.specs.Legal.{legal_graph}
+use Rattle.cut_certificate.specs.Same.{SameMoves}
+use Rattle.route_plan.specs.Plans.{LeadsFrom, IsOfferOf}
+use Rattle.route_plan.proofs.Planning.{on_board, first_net, first_leads, some_left, shut_first}
+use Rattle.route_plan.proofs.plans.plan_legal_with.Goals as goal
+
+-- the legal moves of the net are those of its first island
+pub offer_with-requires-clause-legal : goal.offer_with-requires-clause-legal
+offer_with-requires-clause-legal g c =
+    let d = c.args.d.now in
+    let m = c.args.lat.now in
+    let items = c.args.snap.now.items in
+    let cost = c.args.via_cost in
+    let own = first_net d items c.args.net c.in_ok-others.others c.remove-island.new.self c.remove-island.result
+    c.in_ok-others.ensures c.remove-island.ensures.value c.remove-island.ensures.rest in
+    subst (λ n. SameMoves (g.M.Moves.graph c.args.legal.now) (legal_graph d m items n cost)) (sym own)
+    c.requires.legal
+
+-- no walk leads from the first island, on each board of the snapshot
+pub returns-in-Shut-clause-plan : goal.returns-in-Shut-clause-plan
+returns-in-Shut-clause-plan g c = λ b of.
+    let d = c.args.d.now in
+    let m = c.args.lat.now in
+    let s = c.args.snap.now in
+    let net = c.args.net in
+    let cost = c.args.via_cost in
+    let can = c.requires.can_plan in
+    let found = c.in_ok-others.others in
+    let island = c.remove-island.result in
+    let others = c.remove-island.new.self in
+    let first = c.remove-island.ensures.value in
+    let rest = c.remove-island.ensures.rest in
+    let leads = first_leads d m s net cost b c.args.worker found others island c.in_ok-reach.field-0 can of c.in_ok-others.ensures first rest
+    (λ place. c.in_ok-reach.ensures.leads b place of) in
+    let shut = subst (LeadsFrom m cost b c.args.worker island others) c.in-Shut.is leads.1 in
+    let several : 1 < length found = omega (arith, c.if-len-le1.false, c.len.ensures) in
+    shut_first b.design m b.items net cost found others island c.in-Shut.reach.nodes
+    (on_board d m s net cost b (λ d xs. AreIslands d xs net found) can.own of c.in_ok-others.ensures) first rest
+    (some_left found others island first rest several) leads.0 shut
+
+-- the first island's offer, on each board of the snapshot
+pub returns-clause-plan : goal.returns-clause-plan
+returns-clause-plan g c = λ b of.
+    let m = c.args.lat.now in
+    let cost = c.args.via_cost in
+    let island = c.remove-island.result in
+    let others = c.remove-island.new.self in
+    let leads = first_leads c.args.d.now m c.args.snap.now c.args.net cost b c.args.worker c.in_ok-others.others others island c.in_ok-reach.field-0
+    c.requires.can_plan of c.in_ok-others.ensures c.remove-island.ensures.value c.remove-island.ensures.rest
+    (λ place. c.in_ok-reach.ensures.leads b place of) in
+    let offer = subst (LeadsFrom m cost b c.args.worker island others) c.in-Offer.is leads.1 in
+    subst (λ n. IsOfferOf m cost b c.args.worker n None c.in-Offer.offer) leads.0 offer.0

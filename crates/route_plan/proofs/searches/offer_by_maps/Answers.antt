@@ -1,0 +1,23 @@
+use Rattle.route_lattice.specs.Legal.{legal_graph}
+use Rattle.cut_certificate.proofs.Same.{same_self}
+use Rattle.route_plan.proofs.Planning.{can_move}
+use Rattle.route_plan.proofs.searches.offer_by_maps.Goals as goal
+
+pub offer_with-requires-clause-ready : goal.offer_with-requires-clause-ready
+offer_with-requires-clause-ready c =
+    let e = c.in-Some.ensures in
+    let can = c.requires.can_plan in
+    rw (e.d, e.lat, e.c, e.net, e.via_cost) (
+      (
+        can_move c.args.d.now c.args.lat.now c.args.snap.now c.args.island.now.net c.args.via_cost _ can,
+        (can.own, can.serves),
+      ),
+      e.map,
+      e.alike,
+    )
+
+pub offer_with-requires-clause-legal : goal.offer_with-requires-clause-legal
+offer_with-requires-clause-legal c =
+    let e = c.in-Some.ensures in
+    rw (e.d, e.lat, e.c, e.net, e.via_cost)
+    (same_self (legal_graph c.args.d.now c.args.lat.now c.args.snap.now.items c.args.island.now.net c.args.via_cost))

@@ -1,0 +1,9 @@
+use Rattle.route_lattice.specs.Legal.{legal_graph}
+use Rattle.cut_certificate.proofs.Same.{same_self}
+use Rattle.route_plan.proofs.searches.plan_legal_in.Goals as goal
+
+pub plan_legal_with-requires-clause-legal : goal.plan_legal_with-requires-clause-legal
+plan_legal_with-requires-clause-legal c =
+    let e = c.of-legal.ensures in
+    rw (e.d, e.lat, e.c, e.net, e.via_cost)
+    (same_self (legal_graph c.args.d.now c.args.lat.now c.args.snap.now.items c.args.net c.args.via_cost))

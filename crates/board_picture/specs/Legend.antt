@@ -29,7 +29,7 @@ unfoldable pub paint_words : ℕ → List ℕ
 paint_words layer = codes " fill=\"" ++ colour_word (layer % 8) ++ codes "\" stroke=\"" ++ colour_word (layer % 8)
     ++ codes "\" opacity=\"0.85\"" ++ dash_words (layer / 8)
 
--- what goes through the board
+-- vias and pads on two layers or more
 abbrev pub through_paint : List ℕ
 through_paint = codes " fill=\"#000\" stroke=\"#000\" opacity=\"0.85\""
 
@@ -73,7 +73,7 @@ size_row row s = row_head row ++ length_word s.wide ++ codes " x " ++ length_wor
 abbrev pub has_through : List Item → Bool
 has_through items = list_any is_through items
 
--- hatched copper has a breadth, unlike the board's edge
+-- a keepout is hatched where one of its pieces has a breadth
 abbrev pub is_hatched : Item → Bool
 is_hatched a = is_keepout a.metal && have_breadth a.pieces
 

@@ -28,7 +28,7 @@ head_part s d = codes "<svg xmlns=\"http://www.w3.org/2000/svg\" viewBox=\"0 0 "
     ++ codes " " ++ length_word (sheet_height s (rows_of d)) ++ codes "\" font-family=\"sans-serif\">\n<title>"
     ++ escaped d.name ++ codes "</title>\n" ++ ground_words
 
--- the board's left upper corner comes to its place on the sheet, and y turns upwards
+-- the board's left upper corner comes two units right of the sheet's and one below it, and y turns upwards
 unfoldable pub board_head : Sheet → List ℕ
 board_head s = codes "<g transform=\"translate(" ++ mm_word (shift_x s) ++ codes " " ++ mm_word (shift_y s)
     ++ codes ") scale(1 -1)\" fill-rule=\"evenodd\"" ++ codes " stroke-linecap=\"round\" stroke-linejoin=\"round\">\n"

@@ -61,7 +61,7 @@ abbrev pub spans_layers : List Piece → Bool
 spans_layers [] = false
 spans_layers (c ∷ rest) = leaves_layer c.layer rest
 
--- a via or pad that goes through the board
+-- a via or pad with copper on two layers or more
 abbrev pub is_through : Item → Bool
 is_through a = is_land a.metal && spans_layers a.pieces
 
@@ -69,7 +69,7 @@ abbrev pub is_area : Spine → Bool
 is_area (Chain points) = false
 is_area (Area loops) = true
 
--- but for a line of no width, as along the board's edge
+-- the piece isn't a line of width 0, as the board's edge mostly is
 abbrev pub has_breadth : Piece → Bool
 has_breadth c = is_area c.spine || not (c.width == 0)
 
@@ -92,7 +92,7 @@ wire_on layer a = if is_wire a.metal then shapes_on layer a.pieces else []
 abbrev pub land_on : ℕ → Item → List ℕ
 land_on layer a = if is_land a.metal && not (is_through a) then shapes_on layer a.pieces else []
 
--- of one that goes through, its pieces on all layers
+-- of one on several layers, its pieces on all of them
 abbrev pub through_shapes : Item → List ℕ
 through_shapes a = if is_through a then flat_map piece_shape a.pieces else []
 

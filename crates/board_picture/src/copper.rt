@@ -1,4 +1,4 @@
-//! Keepouts, the copper of each layer, and holes.
+//! Keepouts, the copper of each layer, vias and pads on several layers, and holes.
 
 ghost use Rattle.std.specs.Prelude.{◌≡◌, OnOk, flat_map, length};
 ghost use Rattle.ses_writer.specs.Words.{Appends};
@@ -127,7 +127,7 @@ fn put_layer_groups(out: &mut Vec<u8>, d: &Design, items: &[Item]) -> Result<(),
     Ok(())
 }
 
-// ---- what goes through, and holes
+// ---- vias and pads on several layers, and holes
 
 fn put_through(out: &mut Vec<u8>, a: &Item) -> Result<(), AllocError>
     ensures { OnOk result (Appends out.old.items out.new.items (through_shapes a.now)) }
@@ -178,7 +178,7 @@ fn put_hole_group(out: &mut Vec<u8>, d: &Design, items: &[Item]) -> Result<(), A
     Ok(())
 }
 
-/// Keepouts, the layers, what goes through all of them, and then the holes.
+/// Keepouts, the layers, what lies on several of them, and then the holes.
 #[tactic(auto, unfolding(crate::specs::Picture::copper_part))]
 pub(crate) fn put_copper(out: &mut Vec<u8>, d: &Design, items: &[Item]) -> Result<(), AllocError>
     ensures { OnOk result (Appends out.old.items out.new.items (copper_part d.now items.now)) }

@@ -47,7 +47,7 @@ pub(crate) fn put_paint(out: &mut Vec<u8>, layer: usize) -> Result<(), AllocErro
     put_dash(out, layer / 8)
 }
 
-/// The attributes of what goes through the board.
+/// The attributes of vias and pads on two layers or more.
 pub(crate) fn put_through_paint(out: &mut Vec<u8>) -> Result<(), AllocError>
     ensures { OnOk result (Appends out.old.items out.new.items through_paint) }
 {

@@ -226,7 +226,7 @@ fn put_hole_at(out: &mut Vec<u8>, d: &Design, radius: u64, metal: &Metal) -> Res
     }
 }
 
-/// The hole of a via or pad that goes through.
+/// The hole of a via or pad on several layers.
 pub(crate) fn put_hole(out: &mut Vec<u8>, d: &Design, a: &Item) -> Result<(), AllocError>
     ensures { OnOk result (Appends out.old.items out.new.items (hole_of d.now a.now)) }
 {

@@ -1,5 +1,7 @@
 -- A least offer is well formed, and there is no trouble at any id.
-use Rattle.std.proofs.Common.{◌≡◌, ◌≢◌, ℕ, zero, suc, ◌+◌, ◌<◌, ◌≤◌, ◌==◌, eq-eqb, Bool, true, false, true≢false, List, [], ◌∷◌, ◌++◌, map, length, get_or, Option, Some, None, refl, sym, ap, ◌∙◌, subst, arith, inl, inr, ◌⊎◌, All}
+use Rattle.std.proofs.Common.{◌≡◌, ◌≢◌, ℕ, zero, suc, ◌+◌, ◌<◌, ◌≤◌, ◌==◌, eq-eqb, Bool, true, false, true≢false, List}
+use Rattle.std.proofs.Common.{[], ◌∷◌, ◌++◌, map, length, get_or, Option, Some, None, refl, sym, ap, ◌∙◌, subst, arith}
+use Rattle.std.proofs.Common.{inl, inr, ◌⊎◌, All}
 use Rattle.std.specs.Prelude.{◌||◌, AllPairs, Any, Contains, slice_get, remove}
 use Rattle.std.specs.Option.{IsSomeAnd}
 use Rattle.std.proofs.lemmas.List.{append-nil}
@@ -40,14 +42,16 @@ use Rattle.board_offers.specs.declared.offer.Offer.{Offer}
 use Rattle.board_offers.specs.declared.offer.Shoved.{Shoved}
 use Rattle.board_offers.specs.Items.{is_on, without, added, replaced, replaced_from, new_items, shoved_ids, gone}
 use Rattle.pcb_board.specs.Boards.{BoardOf, given}
-use Rattle.board_offers.specs.Offers.{IsInTheWay, IsShovable, IsWellFormed, HasEnds, HasMetals, LeadsAcross, RipsInTheWay}
+use Rattle.board_offers.specs.Offers.{IsInTheWay, IsShovable, IsWellFormed, HasEnds, HasMetals, LeadsAcross}
+use Rattle.board_offers.specs.Offers.{RipsInTheWay}
 use Rattle.board_offers.specs.Troubles.{wanted}
 use Rattle.pcb_board.specs.Answers.{known, IsClearOn}
 use Rattle.pcb_board.specs.Keeping.{IsBoard}
 use Rattle.board_offers.specs.Given.{IsGiven}
 use Rattle.pcb_model.specs.Board.{IsMade}
 use Rattle.board_offers.proofs.Lists.{named_in, in_named, HasItem}
-use Rattle.least_offer.specs.Least.{MayBeMade, cleared, walks_of, judged_on, JoinsLeast, TakesNothing, MakesWay, Chooses, IsLaidLeast, IsLeastOffer}
+use Rattle.least_offer.specs.Least.{MayBeMade, cleared, walks_of, judged_on, JoinsLeast, TakesNothing, MakesWay}
+use Rattle.least_offer.specs.Least.{Chooses, IsLaidLeast, IsLeastOffer}
 use Rattle.least_offer.proofs.Resting.{unpriced_walk, on_fixed}
 use Rattle.least_offer.proofs.Metals.{IsRoute, routes}
 use Rattle.least_offer.specs.Least.{IsShoveOf, FitsFirst, AreShovesOf}
@@ -61,8 +65,10 @@ use Rattle.board_offers.specs.Items.{after_shoves}
 use Rattle.board_offers.proofs.Lists.{all_from, pairs_append}
 use Rattle.std.proofs.lemmas.Option.{get_or_from_slice_get}
 use Rattle.std.proofs.lemmas.List.Elements.{All-append}
-use Rattle.least_offer.proofs.Replacing.{zip_ids, zip_right, wire_same, chain_same, to_board, wire_within, left_id, right_id, all_replaced, pairs_replaced, shoved_or_not, either_way, same_some}
-use Rattle.least_offer.proofs.Adding.{all_added, added_agree, own_agree, added_inside, all_addable, leads_across, some_metal}
+use Rattle.least_offer.proofs.Replacing.{zip_ids, zip_right, wire_same, chain_same, to_board, wire_within, left_id}
+use Rattle.least_offer.proofs.Replacing.{right_id, all_replaced, pairs_replaced, shoved_or_not, either_way, same_some}
+use Rattle.least_offer.proofs.Adding.{all_added, added_agree, own_agree, added_inside, all_addable, leads_across}
+use Rattle.least_offer.proofs.Adding.{some_metal}
 
 -- ---- lists
 -- the place of an element that is left
@@ -147,7 +153,14 @@ stands d m net via_cost base starts goals w v vs fits there walk nodes_are first
 
 pub joined_by : (m : Mesh) (via_cost : ℕ) (b : BoardOf) (o : Offer) → IsLeastOffer m via_cost b o
     → IsLaidLeast m via_cost b o
-joined_by m via_cost b o l = record { found = l.found; islands = l.islands; place = l.place; island = l.island; island_is = l.island_is; joins = l.joins }
+joined_by m via_cost b o l = record {
+  found = l.found;
+  islands = l.islands;
+  place = l.place;
+  island = l.island;
+  island_is = l.island_is;
+  joins = l.joins;
+}
 
 module _ (m : Mesh) (via_cost : ℕ) (b : BoardOf) (o : Offer)
     (own : (d : Design) (net i j : ℕ) (a c : Metal) → Agrees d (laid_item d net i a) (laid_item d net j c))
@@ -217,10 +230,12 @@ module _ (m : Mesh) (via_cost : ℕ) (b : BoardOf) (o : Offer)
     at_id place x y e h = subst (HasItemAt l.found place) (sym e) h
 
     from_net : j.from_anchored.item.net ≡ Some o.net
-    from_net = item_net d b.items o.net l.place l.found j.from_anchored.item board.sound up l.islands j.from_anchored.there (at_id l.place j.from_anchored.item.id o.from j.from_anchored.id_is from_at)
+    from_net = item_net d b.items o.net l.place l.found j.from_anchored.item board.sound up l.islands
+        j.from_anchored.there (at_id l.place j.from_anchored.item.id o.from j.from_anchored.id_is from_at)
 
     to_net : j.to_anchored.item.net ≡ Some o.net
-    to_net = item_net d b.items o.net to_place.place l.found j.to_anchored.item board.sound up l.islands j.to_anchored.there (at_id to_place.place j.to_anchored.item.id o.to j.to_anchored.id_is to_at)
+    to_net = item_net d b.items o.net to_place.place l.found j.to_anchored.item board.sound up l.islands
+        j.to_anchored.there (at_id to_place.place j.to_anchored.item.id o.to j.to_anchored.id_is to_at)
 
     apart : o.from ≢ o.to
     apart e =
@@ -415,7 +430,8 @@ module _ (m : Mesh) (via_cost : ℕ) (b : BoardOf) (o : Offer)
           let walk = walk_by (Some penalty) some in
           let first = first_legal (Some penalty) some in
           stands d m o.net via_cost d.fixed j.starts j.goals
-          (unpriced_walk d m b.items o.net via_cost penalty j.starts j.goals j.walk walk) j.start j.rest fits starts_there
+          (unpriced_walk d m b.items o.net via_cost penalty j.starts j.goals j.walk walk) j.start j.rest fits
+          starts_there
           (on_fixed d m b.items o.net via_cost penalty j.starts j.goals j.walk walk) j.nodes_are
           (record {
             agrees = λ x there. first.agrees x
@@ -446,7 +462,8 @@ module _ (m : Mesh) (via_cost : ℕ) (b : BoardOf) (o : Offer)
 
         once : AllPairs (λ (x y : ℕ). x ≢ y) o.rip
         once = subst (λ (xs : List ℕ). AllPairs (λ (x y : ℕ). x ≢ y) xs) (sym rips_are)
-            (λ i k x before within e. let lt = AllPairs-from_increasing ids in_way.ascend i k x before within in absurd (omega (arith, e, lt)))
+            (λ i k x before within e. let lt = AllPairs-from_increasing ids in_way.ascend i k x before within in
+            absurd (omega (arith, e, lt)))
 
         rips_in_way : RipsInTheWay (known b) o
         rips_in_way = record {
@@ -455,7 +472,12 @@ module _ (m : Mesh) (via_cost : ℕ) (b : BoardOf) (o : Offer)
               let h = ripped id (Contains-get_or o.rip k x within) in
               some_and (slice_get (given b) id) h.item (IsInTheWay (known b) o)
               (subst (λ (y : ℕ). slice_get (given b) y ≡ Some h.item) h.id_is (given_at h.item h.there))
-              (record { routed = h.in_way.routed; other_net = other_net h.item h.there h.in_way; disagrees = h.in_way.clashes });
+              (record {
+                routed = h.in_way.routed;
+                other_net = other_net h.item h.there h.in_way;
+                disagrees =
+                    h.in_way.clashes;
+              });
         }
 
         pub may_rip : MayBeMade b o
@@ -536,7 +558,12 @@ module _ (m : Mesh) (via_cost : ℕ) (b : BoardOf) (o : Offer)
             let fit = h.first.fits in
             let chain = fit.shove.shoved in
             record {
-              in_the_way = record { routed = h.way.routed; other_net = other_net h.item h.there h.way; disagrees = h.way.clashes };
+              in_the_way = record {
+                routed = h.way.routed;
+                other_net = other_net h.item h.there h.way;
+                disagrees =
+                    h.way.clashes;
+              };
               wire = wire_same h.item.metal fit.wire;
               points = enough_points m (chain_of h.item.metal) h.first.r h.first.up s.chain chain;
               within = chain_within d m (chain_of h.item.metal) h.first.r h.first.up s.chain fits
@@ -578,7 +605,8 @@ module _ (m : Mesh) (via_cost : ℕ) (b : BoardOf) (o : Offer)
                 rip_once = subst (λ (xs : List ℕ). AllPairs (λ (x y : ℕ). x ≢ y) xs) (sym no_rip)
                     (λ i k x before within. absurd (omega arith));
                 shove_once = subst (λ (xs : List ℕ). AllPairs (λ (x y : ℕ). x ≢ y) xs) (sym ids_are)
-                    (λ i k x before within e. let lt = AllPairs-from_increasing ids in_way.ascend i k x before within in absurd (omega (arith, e, lt)));
+                    (λ i k x before within e. let lt = AllPairs-from_increasing ids in_way.ascend i k x before within in
+                    absurd (omega (arith, e, lt)));
               };
               rips = record {
                 each = subst (λ (xs : List ℕ). All

@@ -1,5 +1,6 @@
 -- Items have one list of shoves, and ids of new items don't matter.
-use Rattle.std.proofs.Common.{◌≡◌, ℕ, zero, suc, ◌+◌, ◌<◌, Bool, true, false, List, [], ◌∷◌, Some, refl, sym, ap, ◌∙◌, subst, arith, inl, inr, ◌⊎◌, All}
+use Rattle.std.proofs.Common.{◌≡◌, ℕ, zero, suc, ◌+◌, ◌<◌, Bool, true, false, List, [], ◌∷◌, Some, refl, sym, ap, ◌∙◌}
+use Rattle.std.proofs.Common.{subst, arith, inl, inr, ◌⊎◌, All}
 use Rattle.std.specs.Prelude.{Any}
 use Rattle.std.proofs.lemmas.List.Elements.{All-nil, All-cons, All-head, All-tail}
 use Rattle.geo_kernel.specs.declared.point.Point.{Point}
@@ -111,7 +112,14 @@ pub in_way_alike : (d : Design) (net : ℕ) (items : List Item) (i k : ℕ) (ms 
     → AreIdsInWay d items (added_from d net i ms) ids → AreIdsInWay d items (added_from d net k ms) ids
 in_way_alike d net items i k ms ids h = record {
   ascend = h.ascend;
-  each = λ id there. let w = h.each id there in record { item = w.item; there = w.there; id_is = w.id_is; in_way = record { routed = w.in_way.routed; clashes = any_alike d net w.item i k ms w.in_way.clashes } };
+  each = λ id there. let w = h.each id there in
+      record {
+        item = w.item;
+        there = w.there;
+        id_is = w.id_is;
+        in_way =
+            record { routed = w.in_way.routed; clashes = any_alike d net w.item i k ms w.in_way.clashes };
+      };
   whole = λ b there routed. elim (h.whole b there routed) [
     | inl named ↦ inl named
     | inr agrees ↦ inr
@@ -122,7 +130,8 @@ in_way_alike d net items i k ms ids h = record {
 fits_alike : (d : Design) (m : Mesh) (net : ℕ) (items : List Item) (i k : ℕ) (ms : List Metal) (a : Item) (r : ℕ)
     (up : Bool) (s : List Point) → Fits d m items (added_from d net i ms) a r up s
     → Fits d m items (added_from d net k ms) a r up s
-fits_alike d m net items i k ms a r up s h = record { wire = h.wire; shove = h.shove; agrees = all_alike d net _ i k ms h.agrees }
+fits_alike d m net items i k ms a r up s h =
+    record { wire = h.wire; shove = h.shove; agrees = all_alike d net _ i k ms h.agrees }
 
 shove_alike : (d : Design) (m : Mesh) (net : ℕ) (items : List Item) (i k : ℕ) (ms : List Metal) (id : ℕ) (s : Shoved)
     → IsShoveOf d m items (added_from d net i ms) id s → IsShoveOf d m items (added_from d net k ms) id s

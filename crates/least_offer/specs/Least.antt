@@ -1,5 +1,6 @@
 -- Least offers: what lays the copper of a least walk between two islands, and what it takes out or moves aside for it.
-use Rattle.std.specs.Prelude.{◌≡◌, ◌⊎◌, ◌↔◌, ℕ, ◌<◌, Bool, true, false, List, [], ◌∷◌, ◌++◌, All, Any, Contains, Option, Some, None, slice_get, remove}
+use Rattle.std.specs.Prelude.{◌≡◌, ◌⊎◌, ◌↔◌, ℕ, ◌<◌, Bool, true, false, List, [], ◌∷◌, ◌++◌, All, Any, Contains, Option}
+use Rattle.std.specs.Prelude.{Some, None, slice_get, remove}
 use Rattle.std.specs.List.{AllZip}
 use Rattle.geo_kernel.specs.declared.point.Point.{Point}
 use Rattle.pcb_model.specs.declared.item.Item.{Item}

@@ -47,6 +47,7 @@ step_nodes v w dir (part u us [] ∷ parts) = refl
 step_nodes v w dir (part u us (move.Via padstack layer ∷ ks) ∷ parts) = refl
 step_nodes v w dir (part u us (move.Step e ∷ ks) ∷ parts) = refl
 
+-- so are the moves
 step_moves : (v w dir : ℕ) (parts : List Part)
     → flat_map moves_of (with_step v w dir parts) ≡ move.Step dir ∷ flat_map moves_of parts
 step_moves v w dir [] = refl
@@ -76,6 +77,7 @@ some_moves : AreSteps [] ⊎ IsVia [] → ⊥
 some_moves (inl s) = let none = s.0 in omega (arith, none)
 some_moves (inr h) = h
 
+-- they stay parts
 step_each : (v w dir : ℕ) (parts : List Part) → All IsPart parts → All IsPart (with_step v w dir parts)
 step_each v w dir [] h = All-cons IsPart (part v (w ∷ []) (move.Step dir ∷ [])) [] (lone_step v w dir) h
 step_each v w dir (part u us [] ∷ parts) h =
@@ -89,6 +91,7 @@ step_each v w dir (part u us (move.Step e ∷ ks) ∷ parts) h =
     (ap suc here.0, inl (omega arith, All-cons IsStep (move.Step dir) (move.Step e ∷ ks) tt (all_steps e ks here.1)))
     (All-tail IsPart (part u us (move.Step e ∷ ks)) parts h)
 
+-- each begins where the one before it ends
 step_follow : (v w dir : ℕ) (parts : List Part) → Follow w parts → Follow v (with_step v w dir parts)
 step_follow v w dir [] h = (refl, tt)
 step_follow v w dir (part u us [] ∷ parts) h = (refl, h)
@@ -101,6 +104,7 @@ past_stretch : (e : ℕ) (ks : List Move) (q : Part) → IsVia (move.Step e ∷ 
 past_stretch e ks q (inl h) = absurd h
 past_stretch e ks q (inr h) = h
 
+-- no stretch could be longer
 step_longest : (v w dir : ℕ) (parts : List Part) → All IsPart parts → AreLongest parts
     → AreLongest (with_step v w dir parts)
 step_longest v w dir [] each h = tt
@@ -124,6 +128,7 @@ bend_on a ks n = let next : n + 1 ≡ suc n = omega arith in ap (is_bend (a ∷ 
 abbrev second : ℕ × ℕ → ℕ
 second x = x.1
 
+-- of two lists with one test the heads stay or go together
 one_kept : (b c : Bool) (k n x : ℕ) (xs ys : List (ℕ × ℕ)) → b ≡ c → map second xs ≡ map second ys
     → map second (cond b ((k, x) ∷ xs) xs) ≡ map second (cond c ((n, x) ∷ ys) ys)
 one_kept true true k n x xs ys e h = ap (λ zs. x ∷ zs) h
@@ -131,6 +136,7 @@ one_kept true false k n x xs ys e h = cc
 one_kept false true k n x xs ys e h = cc
 one_kept false false k n x xs ys e h = h
 
+-- the bends of a longer list
 bends_on : (a : Move) (ks : List Move) (n : ℕ) (us : List ℕ)
     → map second (filter (λ (x : ℕ × ℕ). is_bend (a ∷ ks) x.0) (enumerate_from (n + 1) us))
     ≡ map second (filter (λ (x : ℕ × ℕ). is_bend ks x.0) (enumerate_from n us))
@@ -145,6 +151,7 @@ first_on dir [] = refl
 first_on dir (move.Step e ∷ ks) = refl
 first_on dir (move.Via padstack layer ∷ ks) = refl
 
+-- the first node of a list of bends
 turned : (b c : Bool) (w : ℕ) (xs : List (ℕ × ℕ)) (ys : List ℕ) → b ≡ c → map second xs ≡ ys
     → map second (cond (not b) ((0, w) ∷ xs) xs) ≡ unless_straight c w ys
 turned true true w xs ys e h = h
@@ -152,6 +159,7 @@ turned true false w xs ys e h = cc
 turned false true w xs ys e h = cc
 turned false false w xs ys e h = ap (λ zs. w ∷ zs) h
 
+-- the bends of a stretch that begins by a step
 step_bends : (w : ℕ) (us : List ℕ) (dir : ℕ) (ks : List Move)
     → bends (w ∷ us) (move.Step dir ∷ ks) ≡ unless_straight (goes_on dir ks) w (bends us ks)
 step_bends w us dir ks = turned (goes_straight (Some (move.Step dir)) (slice_get ks 0)) (goes_on dir ks) w
@@ -181,6 +189,7 @@ module _ (d : Design) (m : Mesh) (net : ℕ) where
       step_bends w (nodes_on (parts_of w vs ms)) dir (steps_on (parts_of w vs ms))
       ∙ ap₂ (λ b xs. unless_straight b w xs) (same_on dir w vs ms h.1) (same_corners w vs ms h.1)
 
+  -- the nodes of all parts are those of the walk
   joined_nodes : (v : ℕ) (vs : List ℕ) (ms : List Move) → MovesLead d m net (v ∷ vs) ms
       → flat_map nodes_behind (parts_of v vs ms) ≡ vs
   joined_nodes v [] [] h = refl
@@ -190,6 +199,7 @@ module _ (d : Design) (m : Mesh) (net : ℕ) where
   joined_nodes v (w ∷ vs) (move.Step dir ∷ ms) h =
       step_nodes v w dir (parts_of w vs ms) ∙ ap (λ xs. w ∷ xs) (joined_nodes w vs ms h.1)
 
+  -- so are the moves
   joined_moves : (v : ℕ) (vs : List ℕ) (ms : List Move) → MovesLead d m net (v ∷ vs) ms
       → flat_map moves_of (parts_of v vs ms) ≡ ms
   joined_moves v [] [] h = refl
@@ -200,6 +210,7 @@ module _ (d : Design) (m : Mesh) (net : ℕ) where
   joined_moves v (w ∷ vs) (move.Step dir ∷ ms) h =
       step_moves v w dir (parts_of w vs ms) ∙ ap (λ xs. move.Step dir ∷ xs) (joined_moves w vs ms h.1)
 
+  -- each is a part
   each_part : (v : ℕ) (vs : List ℕ) (ms : List Move) → MovesLead d m net (v ∷ vs) ms → All IsPart (parts_of v vs ms)
   each_part v [] [] h = All-nil IsPart
   each_part v [] (a ∷ ms) h = absurd h
@@ -209,6 +220,7 @@ module _ (d : Design) (m : Mesh) (net : ℕ) where
       (each_part w vs ms h.1)
   each_part v (w ∷ vs) (move.Step dir ∷ ms) h = step_each v w dir (parts_of w vs ms) (each_part w vs ms h.1)
 
+  -- each begins where the one before it ends
   parts_follow : (v : ℕ) (vs : List ℕ) (ms : List Move) → MovesLead d m net (v ∷ vs) ms → Follow v (parts_of v vs ms)
   parts_follow v [] [] h = tt
   parts_follow v [] (a ∷ ms) h = absurd h
@@ -216,6 +228,7 @@ module _ (d : Design) (m : Mesh) (net : ℕ) where
   parts_follow v (w ∷ vs) (move.Via padstack layer ∷ ms) h = (refl, parts_follow w vs ms h.1)
   parts_follow v (w ∷ vs) (move.Step dir ∷ ms) h = step_follow v w dir (parts_of w vs ms) (parts_follow w vs ms h.1)
 
+  -- no stretch could be longer
   are_longest : (v : ℕ) (vs : List ℕ) (ms : List Move) → MovesLead d m net (v ∷ vs) ms → AreLongest (parts_of v vs ms)
   are_longest v [] [] h = tt
   are_longest v [] (a ∷ ms) h = absurd h

@@ -25,11 +25,12 @@ abbrev pub IsVia : List Move → Type 0
 IsVia (move.Via padstack layer ∷ []) = Unit {0}
 IsVia _ = ⊥
 
--- steps, and no via move
+-- a step
 abbrev pub IsStep : Move → Type 0
 IsStep (move.Step dir) = Unit {0}
 IsStep (move.Via padstack layer) = ⊥
 
+-- one step or more, and no via move
 abbrev pub AreSteps : List Move → Type 0
 AreSteps ms = (1 ≤ length ms) × All IsStep ms
 

@@ -1,5 +1,6 @@
 -- The fixed items of copper that serves a sound design have the lowest ids.
-use Rattle.std.proofs.Common.{◌≡◌, ◌<◌, ◌≤◌, Bool, true, false, true≢false, cond, List, [], ◌∷◌, length, get_or, inl, inr, ◌⊎◌, arith, sym, ◌∙◌, subst, refl, ap}
+use Rattle.std.proofs.Common.{◌≡◌, ◌<◌, ◌≤◌, Bool, true, false, true≢false, cond, List, [], ◌∷◌, length, get_or, inl}
+use Rattle.std.proofs.Common.{inr, ◌⊎◌, arith, sym, ◌∙◌, subst, refl, ap}
 use Rattle.std.specs.Prelude.{Contains, filter, Some}
 use Prim.Native.Nat.{zero, suc}
 use Rattle.std.proofs.lemmas.Option.{slice_get-get_or}

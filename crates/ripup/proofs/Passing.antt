@@ -1,5 +1,6 @@
 -- A search from number to number over a list in which the numbers ascend.
-use Rattle.std.proofs.Common.{◌≡◌, ℕ, ◌+◌, ◌<◌, ◌≤◌, List, [], ◌∷◌, ◌++◌, inl, inr, ◌⊎◌, arith, sym, ◌∙◌, subst, refl, ap}
+use Rattle.std.proofs.Common.{◌≡◌, ℕ, ◌+◌, ◌<◌, ◌≤◌, List, [], ◌∷◌, ◌++◌, inl, inr, ◌⊎◌, arith, sym, ◌∙◌, subst, refl}
+use Rattle.std.proofs.Common.{ap}
 use Rattle.std.specs.Prelude.{Contains, All, AllPairs}
 use Prim.Native.Nat.{zero, suc}
 use Rattle.std.proofs.lemmas.List.Elements.{All-nil, All-cons, All-weaker, All-contains}

@@ -1,9 +1,11 @@
 -- The routed items in the way of new ones, from id to id and from item to item.
-use Rattle.std.proofs.Common.{◌≡◌, ℕ, ◌+◌, ◌<◌, ◌≤◌, ◌^◌, List, [], ◌∷◌, ◌++◌, length, take, get_or, inl, inr, ◌⊎◌, arith, sym, ◌∙◌, subst, refl, ap}
+use Rattle.std.proofs.Common.{◌≡◌, ℕ, ◌+◌, ◌<◌, ◌≤◌, ◌^◌, List, [], ◌∷◌, ◌++◌, length, take, get_or, inl, inr, ◌⊎◌}
+use Rattle.std.proofs.Common.{arith, sym, ◌∙◌, subst, refl, ap}
 use Rattle.std.specs.Prelude.{Contains, All, Any, Option, Some, None}
 use Prim.Native.Nat.{zero, suc}
 use Rattle.std.proofs.lemmas.List.{take_more}
-use Rattle.std.proofs.lemmas.List.Elements.{All-contains, All-push, All-nil, Contains-append_left, Contains-push, Contains-push_cases}
+use Rattle.std.proofs.lemmas.List.Elements.{All-contains, All-push, All-nil, Contains-append_left, Contains-push}
+use Rattle.std.proofs.lemmas.List.Elements.{Contains-push_cases}
 use Rattle.pcb_model.specs.declared.item.Item.{Item}
 use Rattle.pcb_model.specs.declared.design.Design.{Design}
 use Rattle.pcb_model.specs.Pairs.{Agrees}
@@ -43,7 +45,14 @@ module _ (d : Design) (items : List Item) (a : Item) where
   ]
 
   in_way : (b : Item) → Contains items b → IsRouted b → ¬ (Agrees d a b) → HasIdInWay d items (a ∷ []) b.id
-  in_way b there routed clash = record { item = b; there = there; id_is = refl; in_way = record { routed = routed; clashes = (0, a, omega arith, refl, clash) } }
+  in_way b there routed clash =
+      record {
+        item = b;
+        there = there;
+        id_is = refl;
+        in_way =
+            record { routed = routed; clashes = (0, a, omega arith, refl, clash) };
+      }
 
   pub none_pushed : (old : List ℕ) → (sound : IsSound d) → Serves items d → Ascends items
       → ((b : Item) → Contains items b → b.id ≡ a.id → IsRouted b → Agrees d a b)
@@ -149,10 +158,31 @@ module _ (d : Design) (items : List Item) where
       only (suc k) h = absurd (omega arith)
 
   still : (new : List Item) (a : Item) (id : ℕ) → HasIdInWay d items new id → HasIdInWay d items (new ++ a ∷ []) id
-  still new a id h = record { item = h.item; there = h.there; id_is = h.id_is; in_way = record { routed = h.in_way.routed; clashes = any_left (λ (x : Item). ¬ (Agrees d x h.item)) new a h.in_way.clashes } }
+  still new a id h = record {
+    item = h.item;
+    there = h.there;
+    id_is = h.id_is;
+    in_way =
+        record {
+          routed = h.in_way.routed;
+          clashes =
+              any_left (λ (x : Item). ¬ (Agrees d x h.item)) new a h.in_way.clashes;
+        };
+  }
 
   now : (new : List Item) (a : Item) (id : ℕ) → HasIdInWay d items (a ∷ []) id → HasIdInWay d items (new ++ a ∷ []) id
-  now new a id h = record { item = h.item; there = h.there; id_is = h.id_is; in_way = record { routed = h.in_way.routed; clashes = any_last (λ (x : Item). ¬ (Agrees d x h.item)) new a (any_one (λ (x : Item). ¬ (Agrees d x h.item)) a h.in_way.clashes) } }
+  now new a id h = record {
+    item = h.item;
+    there = h.there;
+    id_is = h.id_is;
+    in_way =
+        record {
+          routed = h.in_way.routed;
+          clashes =
+              any_last (λ (x : Item). ¬ (Agrees d x h.item)) new a
+              (any_one (λ (x : Item). ¬ (Agrees d x h.item)) a h.in_way.clashes);
+        };
+  }
 
   pub one_more : (new : List Item) (i : ℕ) (a e : Item) (old ids : List ℕ) → i < length new → a ≡ get_or new i e
       → AreInWayOfAll d items (take i new) old → AreInWayOfOne d items a old ids

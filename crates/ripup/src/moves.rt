@@ -109,7 +109,8 @@ impl<'a, C: Copper> RipMoves<'a, C> {
 
     /// How many items are in the way of a move, at most 16.
     fn charged(&self, node: u32, i: u32) -> u64
-        requires can_rip { CanRip self.now.legal.d.now self.now.legal.lat.now self.now.legal.net self.now.legal.via_cost self.now.penalty }
+        requires can_rip { CanRip self.now.legal.d.now self.now.legal.lat.now self.now.legal.net self.now.legal.via_cost
+            self.now.penalty }
         requires serves { C.serves self.now.legal.c.now self.now.legal.d.now }
         requires node { node < node_count self.now.legal.lat.now }
         requires index { i < way_count self.now.legal.d.now self.now.legal.lat.now self.now.legal.net }

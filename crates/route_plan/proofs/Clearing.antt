@@ -1,5 +1,6 @@
 -- A route past routed items, and what makes way for it, become a least offer.
-use Rattle.std.proofs.Common.{◌≡◌, inl, inr, ℕ, ◌<◌, ◌≤◌, List, [], length, Option, Some, None, refl, sym, ◌∙◌, subst, arith, All}
+use Rattle.std.proofs.Common.{◌≡◌, inl, inr, ℕ, ◌<◌, ◌≤◌, List, [], length, Option, Some, None, refl, sym, ◌∙◌, subst}
+use Rattle.std.proofs.Common.{arith, All}
 use Rattle.std.specs.Prelude.{slice_get, remove}
 use Rattle.pcb_model.specs.declared.item.Item.{Item}
 use Rattle.pcb_model.specs.declared.item.Metal.{Metal}
@@ -21,12 +22,14 @@ use Rattle.board_offers.specs.declared.offer.Shoved.{Shoved}
 use Rattle.board_offers.specs.Items.{added, added_from}
 use Rattle.pcb_board.specs.Boards.{BoardOf, SnapOf, given}
 use Rattle.pcb_board.specs.Keeping.{IsBoard}
-use Rattle.least_offer.specs.Least.{IsLaidLeast, IsLeastOffer, TakesNothing, MayBeMade, JoinsLeast, Chooses, MakesWay, AreShovesOf, shoving}
+use Rattle.least_offer.specs.Least.{IsLaidLeast, IsLeastOffer, TakesNothing, MayBeMade, JoinsLeast, Chooses, MakesWay}
+use Rattle.least_offer.specs.Least.{AreShovesOf, shoving}
 use Rattle.least_offer.specs.Together.{StandTogether}
 use Rattle.clear_way.specs.declared.way.Way.{Way}
 use Rattle.clear_way.specs.Ways.{MakesWayOn}
 use Rattle.route_plan.specs.declared.route.Route.{Route}
-use Rattle.route_plan.specs.Plans.{IsSnapOf, CanPlan, IsRoute, IsShutFrom, IsShutIn, IsPassingOffer, IsPassing, IsOfferOf, StandsAt}
+use Rattle.route_plan.specs.Plans.{IsSnapOf, CanPlan, IsRoute, IsShutFrom, IsShutIn, IsPassingOffer, IsPassing}
+use Rattle.route_plan.specs.Plans.{IsOfferOf, StandsAt}
 use Rattle.route_plan.proofs.Offering.{net_at, joins, least}
 use Rattle.route_plan.proofs.Planning.{on_board, number_is, shut_in, split, some_left}
 use Rattle.route_plan.proofs.Routing.{net_walk_of}

@@ -1,5 +1,6 @@
 -- What a plan asks, for the calls that it makes, and what it answers, for each board.
-use Rattle.std.proofs.Common.{◌≡◌, ℕ, ◌<◌, ◌≤◌, List, [], ◌∷◌, length, Option, Some, None, refl, sym, ap, ◌∙◌, subst, arith}
+use Rattle.std.proofs.Common.{◌≡◌, ℕ, ◌<◌, ◌≤◌, List, [], ◌∷◌, length, Option, Some, None, refl, sym, ap, ◌∙◌, subst}
+use Rattle.std.proofs.Common.{arith}
 use Rattle.std.specs.Prelude.{slice_get, remove}
 use Rattle.pcb_model.specs.declared.item.Item.{Item}
 use Rattle.pcb_model.specs.declared.design.Design.{Design}
@@ -15,13 +16,15 @@ use Rattle.pcb_board.specs.Boards.{BoardOf, SnapOf}
 use Rattle.pcb_board.specs.Keeping.{IsBoard}
 use Rattle.least_offer.specs.Least.{IsLeastOffer, TakesNothing, MayBeMade, Chooses}
 use Rattle.route_plan.specs.declared.route.Route.{Route}
-use Rattle.route_plan.specs.Plans.{IsSnapOf, CanPlan, IsWhole, IsShutFrom, IsShutIn, IsRoute, IsBareOffer, IsOfferOf, StandsAt, LeadsFrom}
+use Rattle.route_plan.specs.Plans.{IsSnapOf, CanPlan, IsWhole, IsShutFrom, IsShutIn, IsRoute, IsBareOffer, IsOfferOf}
+use Rattle.route_plan.specs.Plans.{StandsAt, LeadsFrom}
 use Rattle.route_plan.specs.declared.plans.Led.{Led}
 use Rattle.route_plan.proofs.Offering.{least, net_at}
 
 pub can_move : (d : Design) (m : Mesh) (s : SnapOf) (net via_cost : ℕ) (penalty : Option ℕ)
     → CanPlan d m s net via_cost penalty → CanMove d m net via_cost
-can_move d m s net via_cost penalty can = record { sound = can.sound; fits = can.fits; net_there = can.net_there; small_cost = can.small_cost }
+can_move d m s net via_cost penalty can =
+    record { sound = can.sound; fits = can.fits; net_there = can.net_there; small_cost = can.small_cost }
 
 -- the first island of a net has that net
 pub first_net : (d : Design) (items : List Item) (net : ℕ) (found others : List Island) (island : Island)
@@ -64,7 +67,8 @@ module _ (d : Design) (m : Mesh) (s : SnapOf) (net via_cost : ℕ) (b : BoardOf)
       (on_board (λ d xs. IsRoute d m xs net via_cost None island others route) can.own of r) in
       let chooses : Chooses m b o o.penalty = subst (Chooses m b o) (sym bare.penalty_is) (λ w. bare.takes) in
       let first_on : o.worker < 16 → place ≡ 0 = λ w. first (omega (arith, w, bare.worker_is)) in
-      let is_least = least m via_cost b o island others place route stands_on first_on route_on bare.from_is bare.to_is bare.add_is (λ e. bare.takes) chooses in
+      let is_least = least m via_cost b o island others place route stands_on first_on route_on bare.from_is bare.to_is
+      bare.add_is (λ e. bare.takes) chooses in
       let base_on : o.base ≡ length b.history = bare.base_is ∙ base_is ∙ number_is of in
       let up_on : Ascends b.items = on_board (λ d xs. Ascends xs) can.own of up in
       record {

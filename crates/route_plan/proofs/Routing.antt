@@ -1,5 +1,6 @@
 -- The walk that a search answers, whichever moves it goes by.
-use Rattle.std.proofs.Common.{◌≡◌, ℕ, ◌-◌, ◌<◌, List, [], ◌∷◌, map, length, get_or, Option, Some, None, refl, sym, ap, ◌∙◌, subst, arith, All}
+use Rattle.std.proofs.Common.{◌≡◌, ℕ, ◌-◌, ◌<◌, List, [], ◌∷◌, map, length, get_or, Option, Some, None, refl, sym, ap}
+use Rattle.std.proofs.Common.{◌∙◌, subst, arith, All}
 use Rattle.std.specs.Prelude.{Contains}
 use Rattle.pcb_model.specs.declared.item.Item.{Item}
 use Rattle.pcb_model.specs.declared.design.Design.{Design}
@@ -15,7 +16,8 @@ use Rattle.least_offer.proofs.Resting.{unpriced_walk, on_fixed}
 pub net_walk_of : (d : Design) (m : Mesh) (items : List Item) (net via_cost : ℕ) (q : Option ℕ)
     (starts goals : List ℕ) (w : Walk) → All (λ v. v < node_count m) starts
     → IsWalk (moves_of d m items net via_cost q) starts goals w → IsNetWalk d m net w.nodes w.moves
-net_walk_of d m items net via_cost None starts goals w there g = walk_of_net d m items net via_cost starts goals w there g
+net_walk_of d m items net via_cost None starts goals w there g =
+    walk_of_net d m items net via_cost starts goals w there g
 net_walk_of d m items net via_cost (Some p) starts goals w there g =
     walk_of_net d m d.fixed net via_cost starts goals (unpriced_walk d m items net via_cost p starts goals w g) there
     (on_fixed d m items net via_cost p starts goals w g)

@@ -1,5 +1,6 @@
 -- What a plan answers on a snapshot of a board.
-use Rattle.std.specs.Prelude.{◌≡◌, ℕ, ◌<◌, ◌≤◌, ◌^◌, List, ◌∷◌, length, Contains, IfSome, Option, Some, None, slice_get, remove}
+use Rattle.std.specs.Prelude.{◌≡◌, ℕ, ◌<◌, ◌≤◌, ◌^◌, List, ◌∷◌, length, Contains, IfSome, Option, Some, None, slice_get}
+use Rattle.std.specs.Prelude.{remove}
 use Rattle.pcb_model.specs.declared.item.Item.{Item}
 use Rattle.pcb_model.specs.declared.design.Design.{Design}
 use Rattle.pcb_model.specs.Plain.{IsPlainCopper}

@@ -108,7 +108,8 @@ impl Task<'_> {
         starts: &List<u32>,
         goals: &List<u32>,
     ) -> Result<Found, AllocError>
-        requires can_plan { CanPlan self.now.d.now self.now.lat.now self.now.snap.now self.now.net self.now.via_cost self.now.penalty }
+        requires can_plan { CanPlan self.now.d.now self.now.lat.now self.now.snap.now self.now.net self.now.via_cost
+            self.now.penalty }
         requires ready { M.ready moves.now }
         requires same { SameMoves (M.graph moves.now)
             (moves_of self.now.d.now self.now.lat.now self.now.snap.now.items self.now.net self.now.via_cost
@@ -138,7 +139,8 @@ impl Task<'_> {
         island: &Island,
         others: &List<Island>,
     ) -> Result<Routed, AllocError>
-        requires can_plan { CanPlan self.now.d.now self.now.lat.now self.now.snap.now self.now.net self.now.via_cost self.now.penalty }
+        requires can_plan { CanPlan self.now.d.now self.now.lat.now self.now.snap.now self.now.net self.now.via_cost
+            self.now.penalty }
         requires ready { M.ready moves.now }
         requires same { SameMoves (M.graph moves.now)
             (moves_of self.now.d.now self.now.lat.now self.now.snap.now.items self.now.net self.now.via_cost
@@ -146,7 +148,8 @@ impl Task<'_> {
         requires size { search.old ≡ node_count self.now.lat.now }
         requires net { island.now.net ≡ self.now.net }
         ensures finds { IfOk result
-            (FindsRoute self.now.d.now self.now.lat.now self.now.snap.now.items self.now.net self.now.via_cost self.now.penalty island.now others.now) }
+            (FindsRoute self.now.d.now self.now.lat.now self.now.snap.now.items self.now.net self.now.via_cost
+            self.now.penalty island.now others.now) }
         ensures size { search.new ≡ search.old }
     {
         let starts = starts_of(alloc, self.lat, self.d, self.snap, island)?;

@@ -1,5 +1,6 @@
 -- The next of ascending lines.
-use Rattle.std.proofs.Common.{◌≡◌, ℕ, ℤ, pos, ◌-◌, ◌<◌, ◌≤◌, ◌≤ℤ◌, ◌<ℤ◌, true, false, true≢false, List, [], ◌∷◌, length, get_or, refl, sym, ◌∙◌, arith, inl, inr, ◌⊎◌, int_lt, int_le}
+use Rattle.std.proofs.Common.{◌≡◌, ℕ, ℤ, pos, ◌-◌, ◌<◌, ◌≤◌, ◌≤ℤ◌, ◌<ℤ◌, true, false, true≢false, List, [], ◌∷◌, length}
+use Rattle.std.proofs.Common.{get_or, refl, sym, ◌∙◌, arith, inl, inr, ◌⊎◌, int_lt, int_le}
 use Rattle.std.specs.Prelude.{Contains}
 use Prim.Native.Nat.{zero, suc}
 use Rattle.std.specs.Ordering.{int_cmp}

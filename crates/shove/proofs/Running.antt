@@ -13,7 +13,8 @@ use Rattle.pcb_model.specs.Pieces.{wire_piece, item_of}
 use Rattle.pcb_model.specs.Bounds.{IsFit, IsItemFit, IsMetalFit}
 use Rattle.route_lattice.specs.Mesh.{Mesh}
 use Rattle.route_lattice.specs.Fits.{FitsDesign}
-use Rattle.shove.specs.Shoves.{MovesRun, IsShovedChain, without_repeats, with_points, chain_of, with_chain, reshaped, CanReplace, IsShove}
+use Rattle.shove.specs.Shoves.{MovesRun, IsShovedChain, without_repeats, with_points, chain_of, with_chain, reshaped}
+use Rattle.shove.specs.Shoves.{CanReplace, IsShove}
 use Rattle.shove.proofs.Shoving.{one_chain, enough_points, chain_within}
 
 module _ (d : Design) (m : Mesh) (items : List Item) (a : Item) (r : ℕ) (up : Bool) (layer width : ℕ)

@@ -1,5 +1,6 @@
 -- Shoved chains: one each way, of two points at least, within the bounds.
-use Rattle.std.proofs.Common.{◌≡◌, ◌≢◌, ℕ, ℤ, ◌+◌, ◌<◌, ◌≤◌, ◌^◌, Bool, true, false, cond, List, [], ◌∷◌, ◌++◌, take, drop, length, get_or, refl, ap, sym, ◌∙◌, subst, arith, inl, inr, append_assoc, Some}
+use Rattle.std.proofs.Common.{◌≡◌, ◌≢◌, ℕ, ℤ, ◌+◌, ◌<◌, ◌≤◌, ◌^◌, Bool, true, false, cond, List, [], ◌∷◌, ◌++◌, take}
+use Rattle.std.proofs.Common.{drop, length, get_or, refl, ap, sym, ◌∙◌, subst, arith, inl, inr, append_assoc, Some}
 use Rattle.std.specs.Prelude.{All, ◌&&◌, Contains, slice_get, unsigned_abs}
 use Rattle.std.specs.Ordering.{int_eq}
 use Rattle.std.proofs.lemmas.Int.{ints}
@@ -12,7 +13,8 @@ use Rattle.pcb_model.specs.declared.design.Design.{Design}
 use Rattle.route_lattice.specs.Mesh.{Mesh}
 use Rattle.route_lattice.specs.Fits.{FitsDesign}
 use Rattle.route_lattice.proofs.Sets.{int_eq_exact}
-use Rattle.shove.specs.Shoves.{IsNextLine, MovesRun, is_same_point, fresh_after, without_repeats, with_points, IsShovedChain}
+use Rattle.shove.specs.Shoves.{IsNextLine, MovesRun, is_same_point, fresh_after, without_repeats, with_points}
+use Rattle.shove.specs.Shoves.{IsShovedChain}
 
 -- ---- one each way
 one_line : (up : Bool) (lines : List ℤ) (at x y : ℤ) → IsNextLine up lines at x → IsNextLine up lines at y → x ≡ y

@@ -1,5 +1,6 @@
 -- A new item in the place of an old one: what it touches, from id to id, and whether it may stand there.
-use Rattle.std.proofs.Common.{◌≡◌, ◌≢◌, ℕ, ◌+◌, ◌<◌, ◌≤◌, ◌^◌, Bool, true, false, true≢false, IsTrue, ◌↔◌, List, [], ◌∷◌, Option, Some, None, sym, ◌∙◌, ap, subst, inl, inr, ◌⊎◌, arith}
+use Rattle.std.proofs.Common.{◌≡◌, ◌≢◌, ℕ, ◌+◌, ◌<◌, ◌≤◌, ◌^◌, Bool, true, false, true≢false, IsTrue, ◌↔◌, List, []}
+use Rattle.std.proofs.Common.{◌∷◌, Option, Some, None, sym, ◌∙◌, ap, subst, inl, inr, ◌⊎◌, arith}
 use Rattle.std.specs.Prelude.{Contains, All}
 use Prim.Native.Nat.{zero, suc}
 use Rattle.std.proofs.lemmas.List.Elements.{All-contains}

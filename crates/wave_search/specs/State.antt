@@ -1,5 +1,6 @@
 -- What a search keeps true.
-use Rattle.std.specs.Prelude.{◌≡◌, ℕ, ◌+◌, ◌*◌, ◌^◌, ◌≤◌, ◌<◌, List, [], ◌∷◌, length, Option, Some, None, slice_get, Contains, Bool, true, false, nat_lt}
+use Rattle.std.specs.Prelude.{◌≡◌, ℕ, ◌+◌, ◌*◌, ◌^◌, ◌≤◌, ◌<◌, List, [], ◌∷◌, length, Option, Some, None, slice_get}
+use Rattle.std.specs.Prelude.{Contains, Bool, true, false, nat_lt}
 use Rattle.std.specs.List.Sorted.{IsStrictlyIncreasing}
 use Prim.Native.Nat.{zero, suc}
 use Rattle.wave_search.specs.declared.labels.Label.{Label}
@@ -89,7 +90,8 @@ pub record Roots (graph : MoveGraph) (starts : List ℕ) (t : List (Option Label
   pub comes : (v : ℕ) (l : Label) → label_at t v ≡ Some l → Comes graph starts t v l.price l.rank l.origin
 
 -- the state of a search: `fin` nodes are done, with keys up to `level`; of node `cur` the moves below `j` are looked at
-pub record IsState (graph : MoveGraph) (starts goals : List ℕ) (low : ℕ → ℕ) (t : List (Option Label)) (q : List Entry) (level fin cur j : ℕ) : Type 0 where
+pub record IsState (graph : MoveGraph) (starts goals : List ℕ) (low : ℕ → ℕ) (t : List (Option Label)) (q : List Entry)
+    (level fin cur j : ℕ) : Type 0 where
   pub roots : Roots graph starts t
   pub seeded : (s : ℕ) → Contains starts s → IsCheap t s 0
   pub priced : (v : ℕ) (l : Label) → label_at t v ≡ Some l → l.price + 2 ^ 35 * done_by l.rank ≤ 2 ^ 35 * fin
@@ -97,7 +99,8 @@ pub record IsState (graph : MoveGraph) (starts goals : List ℕ) (low : ℕ → 
   pub waits : (v : ℕ) (l : Label) → label_at t v ≡ Some l → l.rank ≡ 0 → Waits q (entry (l.price + low v) v)
   pub settled : (v : ℕ) (l : Label) → label_at t v ≡ Some l → 0 < l.rank → l.price + low v ≤ level
   pub no_goal : (v : ℕ) (l : Label) → label_at t v ≡ Some l → 0 < l.rank → Contains goals v → ⊥
-  pub relaxed : (v : ℕ) (l : Label) (h : Hop) → label_at t v ≡ Some l → 0 < l.rank → (v ≡ cur → h.index < j) → Opens graph v h → IsCheap t h.to (l.price + h.price)
+  pub relaxed : (v : ℕ) (l : Label) (h : Hop) → label_at t v ≡ Some l → 0 < l.rank → (v ≡ cur → h.index < j)
+      → Opens graph v h → IsCheap t h.to (l.price + h.price)
   pub above : (e : Entry) → Waits q e → level ≤ e.key
   pub labelled : (e : Entry) → Waits q e → (b : ℕ) × IsCheap t e.node b × (b + low e.node ≤ e.key)
   pub done : done_count t ≡ fin

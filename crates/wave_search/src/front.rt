@@ -30,8 +30,8 @@ const NEXT: u32 = 19;
 /// The same of the second bin.
 const LATER: u32 = 22;
 
-/// The entries that wait: in a heap those near the key at which it was filled last, or below it, and in bins all others,
-/// by the bits in which their key differs from that one. The spare bin holds those that are being moved.
+/// The entries that wait: in a heap those near the key at which it was filled last, or below it, and in bins all
+/// others, by the bits in which their key differs from that one. The spare bin holds those that are being moved.
 #[derive(Drop)]
 struct Parts {
     at: u64,

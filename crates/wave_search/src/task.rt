@@ -1,7 +1,8 @@
 //! The steps of a search over a table of labels and a front of nodes that wait.
 //! A node is done once it comes out of the front; its price is then the least.
 
-ghost use Rattle.std.specs.Prelude.{◌≡◌, ℕ, ◌+◌, ◌*◌, ◌^◌, ◌<◌, ◌≤◌, ◌↔◌, length, [], OnOk, IfOk, IfSome, Contains, Some, None, All};
+ghost use Rattle.std.specs.Prelude.{◌≡◌, ℕ, ◌+◌, ◌*◌, ◌^◌, ◌<◌, ◌≤◌, ◌↔◌, length, [], OnOk, IfOk, IfSome, Contains};
+ghost use Rattle.std.specs.Prelude.{Some, None, All};
 ghost use Rattle.std.specs.Bool.{OnTrue, OnFalse};
 ghost use Rattle.route_lattice.specs.Walks.{IsSound, IsWalk, Answers};
 ghost use Rattle.wave_search.specs.Bounds.{IsBound};
@@ -51,8 +52,8 @@ pub(crate) struct Task<'a, M: Moves, B: Bound, T: Ties> {
 }
 
 impl<'a, M: Moves, B: Bound, T: Ties> Task<'a, M, B, T> {
-    /// What tells apart nodes that wait under one key: the one nearest to the goals comes first. Where a rule of ties chooses,
-    /// the one of least price does, so that a node is done after all that come before it on a least walk.
+    /// What tells apart nodes that wait under one key: the one nearest to the goals comes first. Where a rule of ties
+    /// chooses, the one of least price does, so that a node is done after all that come before it on a least walk.
     fn among_equals(&self, price: u64, low: u64) -> u64 {
         if self.ties.tells() { price } else { low }
     }
@@ -73,10 +74,15 @@ impl<'a, M: Moves, B: Bound, T: Ties> Task<'a, M, B, T> {
         requires index { i < (M.graph self.now.m.now).arity }
         requires there { label_at table.old node ≡ Some label }
         requires is_done { 0 < label.rank }
-        requires state { IsState (M.graph self.now.m.now) self.now.starts.now self.now.goals.now (B.low_of self.now.b.now) table.old front.old (label.price + B.low_of self.now.b.now node) label.rank node i }
+        requires state { IsState (M.graph self.now.m.now) self.now.starts.now self.now.goals.now
+            (B.low_of self.now.b.now) table.old front.old
+            (label.price + B.low_of self.now.b.now node) label.rank node i }
         ensures kept { OnOk result (KeepsDone table.old table.new) }
         ensures len { OnOk result (length front.new ≤ length front.old + 1) }
-        ensures state { OnOk result (IsState (M.graph self.now.m.now) self.now.starts.now self.now.goals.now (B.low_of self.now.b.now) table.new front.new (label.price + B.low_of self.now.b.now node) label.rank node (i + 1)) }
+        ensures state { OnOk result
+            (IsState (M.graph self.now.m.now) self.now.starts.now self.now.goals.now
+            (B.low_of self.now.b.now) table.new front.new (label.price + B.low_of self.now.b.now node) label.rank node
+            (i + 1)) }
         ensures size { length table.new ≡ length table.old }
     {
         let Some((_, to)) = self.m.at(node, i) else {
@@ -123,10 +129,15 @@ impl<'a, M: Moves, B: Bound, T: Ties> Task<'a, M, B, T> {
         requires node { node < (M.graph self.now.m.now).count }
         requires there { label_at table.old node ≡ Some label }
         requires is_done { 0 < label.rank }
-        requires state { IsState (M.graph self.now.m.now) self.now.starts.now self.now.goals.now (B.low_of self.now.b.now) table.old front.old (label.price + B.low_of self.now.b.now node) label.rank node 0 }
+        requires state { IsState (M.graph self.now.m.now) self.now.starts.now self.now.goals.now
+            (B.low_of self.now.b.now) table.old front.old
+            (label.price + B.low_of self.now.b.now node) label.rank node 0 }
         ensures kept { OnOk result (KeepsDone table.old table.new) }
         ensures len { OnOk result (length front.new ≤ length front.old + (M.graph self.now.m.now).arity) }
-        ensures state { OnOk result (IsState (M.graph self.now.m.now) self.now.starts.now self.now.goals.now (B.low_of self.now.b.now) table.new front.new (label.price + B.low_of self.now.b.now node) label.rank node (M.graph self.now.m.now).arity) }
+        ensures state { OnOk result
+            (IsState (M.graph self.now.m.now) self.now.starts.now self.now.goals.now
+            (B.low_of self.now.b.now) table.new front.new (label.price + B.low_of self.now.b.now node) label.rank node
+            (M.graph self.now.m.now).arity) }
         ensures size { length table.new ≡ length table.old }
     {
         for i in 0..self.m.arity() {
@@ -143,7 +154,9 @@ impl<'a, M: Moves, B: Bound, T: Ties> Task<'a, M, B, T> {
         requires blank { (v : ℕ) → label_at table.old v ≡ None }
         requires none_done { done_count table.old ≡ 0 }
         requires empty { front.old ≡ [] }
-        ensures state { OnOk result (IsState (M.graph self.now.m.now) self.now.starts.now self.now.goals.now (B.low_of self.now.b.now) table.new front.new 0 0 0 (M.graph self.now.m.now).arity) }
+        ensures state { OnOk result
+            (IsState (M.graph self.now.m.now) self.now.starts.now self.now.goals.now
+            (B.low_of self.now.b.now) table.new front.new 0 0 0 (M.graph self.now.m.now).arity) }
         ensures size { length table.new ≡ length table.old }
     {
         for s in self.starts.as_slice() {
@@ -176,7 +189,9 @@ impl<'a, M: Moves, B: Bound, T: Ties> Task<'a, M, B, T> {
         requires sound { IsSound (M.graph self.now.m.now) }
         requires bound { IsBound (M.graph self.now.m.now) self.now.goals.now (B.low_of self.now.b.now) }
         requires no_goals { self.now.goals.now ≡ [] }
-        requires state { (level : ℕ) × IsState (M.graph self.now.m.now) self.now.starts.now self.now.goals.now (B.low_of self.now.b.now) table.old front.old level done 0 (M.graph self.now.m.now).arity }
+        requires state { (level : ℕ)
+            × IsState (M.graph self.now.m.now) self.now.starts.now self.now.goals.now
+            (B.low_of self.now.b.now) table.old front.old level done 0 (M.graph self.now.m.now).arity }
         ensures kept { OnOk result (KeepsDone table.old table.new) }
         ensures roots { OnOk result (Roots (M.graph self.now.m.now) self.now.starts.now table.new) }
         ensures small { OnOk result ((v : ℕ) (l : TheLabel) → label_at table.new v ≡ Some l → l.price < 2 ^ 60) }
@@ -219,9 +234,12 @@ impl<'a, M: Moves, B: Bound, T: Ties> Task<'a, M, B, T> {
         requires sound { IsSound (M.graph self.now.m.now) }
         requires roots { Roots (M.graph self.now.m.now) self.now.starts.now table.now }
         requires small { (v : ℕ) (l : TheLabel) → label_at table.now v ≡ Some l → l.price < 2 ^ 60 }
-        requires marked { (v : ℕ) → v < (M.graph self.now.m.now).count → IsMarked self.now.marks.now v → Contains self.now.goals.now v }
+        requires marked { (v : ℕ) → v < (M.graph self.now.m.now).count → IsMarked self.now.marks.now v
+            → Contains self.now.goals.now v }
         requires marks { length self.now.marks.now ≡ (M.graph self.now.m.now).count }
-        ensures { IfOk result (λ o. IfSome o (λ w. IsWalk (M.graph self.now.m.now) self.now.starts.now self.now.goals.now w × (w.price ≡ price))) }
+        ensures { IfOk result
+            (λ o. IfSome o (λ w. IsWalk (M.graph self.now.m.now) self.now.starts.now self.now.goals.now w
+            × (w.price ≡ price))) }
     {
         let choices = self.choose(alloc, table, order, price, openness)?;
         let Some(start) = choices.start() else {
@@ -230,8 +248,9 @@ impl<'a, M: Moves, B: Bound, T: Ties> Task<'a, M, B, T> {
         self.follow(alloc, table, &choices, start, price)
     }
 
-    /// A walk to a goal that is done, at its price; the nodes that are done stand in their order. Nearly all moves that the
-    /// labels allow are open, so a walk is sought as if all were, and again by asking of each where that one isn't open.
+    /// A walk to a goal that is done, at its price; the nodes that are done stand in their order. Nearly all moves that
+    /// the labels allow are open, so a walk is sought as if all were, and again by asking of each where that one isn't
+    /// open.
     fn walk_to(
         &self,
         alloc: Global,
@@ -242,7 +261,8 @@ impl<'a, M: Moves, B: Bound, T: Ties> Task<'a, M, B, T> {
     ) -> Result<Walk, AllocError>
         requires ready { M.ready self.now.m.now }
         requires sound { IsSound (M.graph self.now.m.now) }
-        requires marked { (v : ℕ) → v < (M.graph self.now.m.now).count → (IsMarked self.now.marks.now v ↔ Contains self.now.goals.now v) }
+        requires marked { (v : ℕ) → v < (M.graph self.now.m.now).count
+            → (IsMarked self.now.marks.now v ↔ Contains self.now.goals.now v) }
         requires marks { length self.now.marks.now ≡ (M.graph self.now.m.now).count }
         requires roots { Roots (M.graph self.now.m.now) self.now.starts.now table.now }
         requires small { (v : ℕ) (l : TheLabel) → label_at table.now v ≡ Some l → l.price < 2 ^ 60 }
@@ -261,7 +281,8 @@ impl<'a, M: Moves, B: Bound, T: Ties> Task<'a, M, B, T> {
         self.trace(alloc, table, node, label)
     }
 
-    /// The walk to a goal that is done last. Where a rule of ties chooses among walks, the search goes on until all nodes on them are done.
+    /// The walk to a goal that is done last. Where a rule of ties chooses among walks, the search goes on until all
+    /// nodes on them are done.
     fn end(
         &self,
         alloc: Global,
@@ -274,12 +295,15 @@ impl<'a, M: Moves, B: Bound, T: Ties> Task<'a, M, B, T> {
         requires ready { M.ready self.now.m.now }
         requires sound { IsSound (M.graph self.now.m.now) }
         requires bound { IsBound (M.graph self.now.m.now) self.now.goals.now (B.low_of self.now.b.now) }
-        requires marked { (v : ℕ) → v < (M.graph self.now.m.now).count → (IsMarked self.now.marks.now v ↔ Contains self.now.goals.now v) }
+        requires marked { (v : ℕ) → v < (M.graph self.now.m.now).count
+            → (IsMarked self.now.marks.now v ↔ Contains self.now.goals.now v) }
         requires marks { length self.now.marks.now ≡ (M.graph self.now.m.now).count }
         requires there { label_at table.old node ≡ Some label }
         requires is_done { 0 < label.rank }
         requires goal { Contains self.now.goals.now node }
-        requires state { IsState (M.graph self.now.m.now) self.now.starts.now [] (B.low_of self.now.b.now) table.old front.old (label.price + B.low_of self.now.b.now node) label.rank node 0 }
+        requires state { IsState (M.graph self.now.m.now) self.now.starts.now []
+            (B.low_of self.now.b.now) table.old front.old
+            (label.price + B.low_of self.now.b.now node) label.rank node 0 }
         ensures walk { IfOk result (IsWalk (M.graph self.now.m.now) self.now.starts.now self.now.goals.now) }
         ensures price { IfOk result (λ w. w.price ≡ label.price) }
         ensures size { length table.new ≡ length table.old }
@@ -301,7 +325,8 @@ impl<'a, M: Moves, B: Bound, T: Ties> Task<'a, M, B, T> {
         self.walk_to(alloc, table, order.as_slice(), node, label)
     }
 
-    /// Whether the node of an entry, which waited at a price, is a goal. Where the key isn't the price its bound isn't 0, so it is none.
+    /// Whether the node of an entry, which waited at a price, is a goal. Where the key isn't the price its bound isn't
+    /// 0, so it is none.
     fn is_goal(&self, entry: Entry, price: u64) -> bool
         requires node { entry.node < (M.graph self.now.m.now).count }
         requires marks { length self.now.marks.now ≡ (M.graph self.now.m.now).count }
@@ -320,7 +345,8 @@ impl<'a, M: Moves, B: Bound, T: Ties> Task<'a, M, B, T> {
         requires sound { IsSound (M.graph self.now.m.now) }
         requires bound { IsBound (M.graph self.now.m.now) self.now.goals.now (B.low_of self.now.b.now) }
         requires starts { All (λ s. s < (M.graph self.now.m.now).count) self.now.starts.now }
-        requires marked { (v : ℕ) → v < (M.graph self.now.m.now).count → (IsMarked self.now.marks.now v ↔ Contains self.now.goals.now v) }
+        requires marked { (v : ℕ) → v < (M.graph self.now.m.now).count
+            → (IsMarked self.now.marks.now v ↔ Contains self.now.goals.now v) }
         requires marks { length self.now.marks.now ≡ (M.graph self.now.m.now).count }
         requires size { length table.old ≡ (M.graph self.now.m.now).count }
         requires blank { (v : ℕ) → label_at table.old v ≡ None }

@@ -9,4 +9,5 @@ push_in_way-requires-clause-a_fits g c = subst IsItemFit (sym c.a-item.is)
 
 pub loop-a-preserved : goal.loop-a-preserved
 loop-a-preserved g c =
-    one_more c.args.d.now (g.C.Copper.items c.args.c.now) c.args.new.now c.loop-a.a-index c.a-item.result c.a-item.result _ _ c.loop-a-test.true c.a-item.is c.loop-a.invariant c.in_ok-push_in_way.ensures
+    one_more c.args.d.now (g.C.Copper.items c.args.c.now) c.args.new.now c.loop-a.a-index c.a-item.result
+    c.a-item.result _ _ c.loop-a-test.true c.a-item.is c.loop-a.invariant c.in_ok-push_in_way.ensures

@@ -13,7 +13,8 @@ returns-in_default-checked_add g c =
     subst (λ (ids : List ℕ). AreInWayOfOne d items c.args.a.now c.args.found.now.items ids)
     (sym c.in_ok-push.ensures.items)
     (last_pushed d items c.args.a.now c.requires.sound serves (c.in-Some.id + 1) c.args.found.now.items _
-    (id_pushed d items c.args.a.now c.requires.sound serves c.loop-id.from c.in-Some.id c.args.found.now.items _ c.loop-id.invariant.behind c.loop-id.invariant.below c.in-Some.ensures.finds)
+    (id_pushed d items c.args.a.now c.requires.sound serves c.loop-id.from c.in-Some.id c.args.found.now.items _
+    c.loop-id.invariant.behind c.loop-id.invariant.below c.in-Some.ensures.finds)
     high c.in_order.ensures.ids)
 
 pub loop-id-preserved : goal.loop-id-preserved
@@ -22,12 +23,14 @@ loop-id-preserved g c =
     let items = g.C.Copper.items c.args.c.now in
     let serves : Serves items d = g.met.C.Copper.serving _ _ c.requires.serves in
     let next_is : c.in-Some.id + 1 ≡ c.in-Some-checked_add.next = omega (arith, c.in-Some-checked_add.ensures) in
-    let more = id_pushed d items c.args.a.now c.requires.sound serves c.loop-id.from c.in-Some.id c.args.found.now.items _ c.loop-id.invariant.behind c.loop-id.invariant.below c.in-Some.ensures.finds in
+    let more = id_pushed d items c.args.a.now c.requires.sound serves c.loop-id.from c.in-Some.id c.args.found.now.items
+    _ c.loop-id.invariant.behind c.loop-id.invariant.below c.in-Some.ensures.finds in
     let on = c.in-Some.ensures.finds.looked_at.0 in
     let is = c.in-Some.ensures.finds.id_is in
     let behind = c.loop-id.invariant.behind in
     record {
-      below = subst (λ (from : ℕ). AreInWayBelow d items c.args.a.now from c.args.found.now.items c.push.new.self.items) next_is
+      below = subst (λ (from : ℕ). AreInWayBelow d items c.args.a.now from c.args.found.now.items c.push.new.self.items)
+          next_is
           (subst (λ (ids : List ℕ). AreInWayBelow d items c.args.a.now (c.in-Some.id + 1) c.args.found.now.items ids)
           (sym c.in_ok-push.ensures.items) more);
       behind = omega (arith, next_is, on, is, behind);

@@ -49,5 +49,6 @@ returns g c =
     let b = c.in-Some.b.now in
     subst (λ (ids : List ℕ). AreInWayBelow d items c.args.a.now (length d.fixed) c.args.found.now.items ids)
     (sym c.in_ok-push.ensures.items)
-    (one_pushed d items c.args.a.now c.args.found.now.items b c.requires.sound serves c.in_order.ensures.ascends c.in-Some.ensures.0 c.in-Some.ensures.1 c.if-b.false
+    (one_pushed d items c.args.a.now c.args.found.now.items b c.requires.sound serves c.in_order.ensures.ascends
+    c.in-Some.ensures.0 c.in-Some.ensures.1 c.if-b.false
     (λ h. true≢false (sym (c.pair_ok.ensures.says.1 h) ∙ c.if-pair_ok.false)))

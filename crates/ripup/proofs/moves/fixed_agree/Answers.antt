@@ -19,8 +19,11 @@ pub returns-in-None : goal.returns-in-None
 returns-in-None g c =
     let d = c.args.d.now in
     let items = g.C.Copper.items c.args.c.now in
-    let serves : Serves items d = g.met.C.Copper.serving _ _ c.requires.serves in
-    (λ t. all_agree d items c.args.net c.args.p.now c.requires.sound serves c.in_order.ensures.ascends c.in-None.ensures, λ all. refl)
+    let serves : Serves items d = g.met.C.Copper.serving _ _ c.requires.serves in (
+      λ t. all_agree d items c.args.net c.args.p.now c.requires.sound serves c.in_order.ensures.ascends
+          c.in-None.ensures,
+      λ all. refl,
+    )
 
 pub returns : goal.returns
 returns g c =
@@ -28,5 +31,7 @@ returns g c =
     let items = g.C.Copper.items c.args.c.now in
     let serves : Serves items d = g.met.C.Copper.serving _ _ c.requires.serves in
     told c.len.result c.in-Some.id _
-    (λ high. first_high d items c.args.net c.args.p.now c.requires.sound serves c.in_order.ensures.ascends c.in-Some.id c.in-Some.ensures (omega (arith, high, c.len.ensures)))
-    (λ low. first_low d items c.args.net c.args.p.now c.requires.sound serves c.in_order.ensures.ascends c.in-Some.id c.in-Some.ensures (omega (arith, low, c.len.ensures)))
+    (λ high. first_high d items c.args.net c.args.p.now c.requires.sound serves c.in_order.ensures.ascends c.in-Some.id
+    c.in-Some.ensures (omega (arith, high, c.len.ensures)))
+    (λ low. first_low d items c.args.net c.args.p.now c.requires.sound serves c.in_order.ensures.ascends c.in-Some.id
+    c.in-Some.ensures (omega (arith, low, c.len.ensures)))

@@ -32,7 +32,8 @@ returns-in-Shut-clause-plan g c = λ b of.
     let others = c.remove-island.new.self in
     let first = c.remove-island.ensures.value in
     let rest = c.remove-island.ensures.rest in
-    let leads = first_leads d m s net cost b c.args.worker found others island c.in_ok-reach.field-0 can of c.in_ok-others.ensures first rest
+    let leads = first_leads d m s net cost b c.args.worker found others island c.in_ok-reach.field-0 can of
+    c.in_ok-others.ensures first rest
     (λ place. c.in_ok-reach.ensures.leads b place of) in
     let shut = subst (LeadsFrom m cost b c.args.worker island others) c.in-Shut.is leads.1 in
     let several : 1 < length found = omega (arith, c.if-len-le1.false, c.len.ensures) in
@@ -47,7 +48,8 @@ returns-clause-plan g c = λ b of.
     let cost = c.args.via_cost in
     let island = c.remove-island.result in
     let others = c.remove-island.new.self in
-    let leads = first_leads c.args.d.now m c.args.snap.now c.args.net cost b c.args.worker c.in_ok-others.others others island c.in_ok-reach.field-0
+    let leads = first_leads c.args.d.now m c.args.snap.now c.args.net cost b c.args.worker c.in_ok-others.others others
+    island c.in_ok-reach.field-0
     c.requires.can_plan of c.in_ok-others.ensures c.remove-island.ensures.value c.remove-island.ensures.rest
     (λ place. c.in_ok-reach.ensures.leads b place of) in
     let offer = subst (LeadsFrom m cost b c.args.worker island others) c.in-Offer.is leads.1 in

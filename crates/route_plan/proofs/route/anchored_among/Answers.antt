@@ -7,7 +7,8 @@ use Rattle.route_plan.proofs.route.anchored_among.Goals as goal
 pub loop-id-preserved-in_default : goal.loop-id-preserved-in_default
 loop-id-preserved-in_default g c =
     let items = g.C.Copper.items c.args.c.now in
-    none_more c.args.d.now c.args.lat.now items c.args.node c.args.ids.now c.loop-id.id-index c.loop-id-test.true c.loop-id.invariant (none_there c.args.d.now c.args.lat.now items c.args.node _ c.in_default.ensures)
+    none_more c.args.d.now c.args.lat.now items c.args.node c.args.ids.now c.loop-id.id-index c.loop-id-test.true
+    c.loop-id.invariant (none_there c.args.d.now c.args.lat.now items c.args.node _ c.in_default.ensures)
 
 pub anchor-requires-clause-item : goal.anchor-requires-clause-item
 anchor-requires-clause-item g c =
@@ -18,9 +19,12 @@ anchor-requires-clause-item g c =
 pub loop-id-preserved : goal.loop-id-preserved
 loop-id-preserved g c =
     let items = g.C.Copper.items c.args.c.now in
-    none_more c.args.d.now c.args.lat.now items c.args.node c.args.ids.now c.loop-id.id-index c.loop-id-test.true c.loop-id.invariant
-    (not_there c.args.d.now c.args.lat.now items c.args.node _ c.in-Some.item.now c.in_order.ensures.ascends c.in-Some.ensures.0 c.in-Some.ensures.1 (λ h. true≢false (sym (c.anchor.ensures.1 h) ∙ c.if-anchor.false)))
+    none_more c.args.d.now c.args.lat.now items c.args.node c.args.ids.now c.loop-id.id-index c.loop-id-test.true
+    c.loop-id.invariant
+    (not_there c.args.d.now c.args.lat.now items c.args.node _ c.in-Some.item.now c.in_order.ensures.ascends
+    c.in-Some.ensures.0 c.in-Some.ensures.1 (λ h. true≢false (sym (c.anchor.ensures.1 h) ∙ c.if-anchor.false)))
 
 pub returns : goal.returns
 returns g c = none_among c.args.d.now c.args.lat.now
-    (g.C.Copper.items c.args.c.now) c.args.node c.args.ids.now c.loop-id.id-index c.loop-id-test.false c.loop-id.invariant
+    (g.C.Copper.items c.args.c.now) c.args.node c.args.ids.now c.loop-id.id-index c.loop-id-test.false
+    c.loop-id.invariant

@@ -6,10 +6,12 @@ use Rattle.route_plan.proofs.route.anchored_at_goal.Goals as goal
 pub loop-other-preserved : goal.loop-other-preserved
 loop-other-preserved g c =
     let items = g.C.Copper.items c.args.c.now in
-    others_more c.args.d.now c.args.lat.now items c.args.node c.args.others.now c.loop-other.other-index c.other-item.result c.other-item.result c.loop-other-test.true c.other-item.is c.loop-other.invariant
+    others_more c.args.d.now c.args.lat.now items c.args.node c.args.others.now c.loop-other.other-index
+    c.other-item.result c.other-item.result c.loop-other-test.true c.other-item.is c.loop-other.invariant
     (subst (λ (ids : List ℕ). AnchorsAmong c.args.d.now c.args.lat.now items ids c.args.node
     → ⊥) c.as_slice.ensures c.in_default.ensures)
 
 pub unreachable-requires : goal.unreachable-requires
 unreachable-requires g c = not_among c.args.d.now c.args.lat.now
-    (g.C.Copper.items c.args.c.now) c.args.node c.args.others.now c.loop-other.other-index c.loop-other-test.false c.loop-other.invariant c.requires.goal
+    (g.C.Copper.items c.args.c.now) c.args.node c.args.others.now c.loop-other.other-index c.loop-other-test.false
+    c.loop-other.invariant c.requires.goal

@@ -13,6 +13,10 @@ true_then false r e t = cc
 
 pub loop-q-preserved : goal.loop-q-preserved
 loop-q-preserved c = elim c.if-ne.branch [
-  | then-ne+in_ok-push-2 w ↦ fresh_more c.args.first c.args.rest.now c.loop-q.q-index _ c.loop-q.last c.loop-q.fresh c.if-ne.fresh false c.loop-q-test.true c.loop-q.invariant (untrue _ _ c.ne.ensures w.if-ne.true) (w.fresh-is ∙ w.in_ok-push-2.ensures.ok)
-  | else-ne w ↦ fresh_more c.args.first c.args.rest.now c.loop-q.q-index _ c.loop-q.last c.loop-q.fresh c.if-ne.fresh true c.loop-q-test.true c.loop-q.invariant (true_then _ _ c.ne.ensures w.if-ne.false) (nothing_more _ _ w.fresh-is)
+  | then-ne+in_ok-push-2 w ↦ fresh_more c.args.first c.args.rest.now c.loop-q.q-index _ c.loop-q.last c.loop-q.fresh
+      c.if-ne.fresh false c.loop-q-test.true c.loop-q.invariant (untrue _ _ c.ne.ensures w.if-ne.true) (w.fresh-is
+      ∙ w.in_ok-push-2.ensures.ok)
+  | else-ne w ↦ fresh_more c.args.first c.args.rest.now c.loop-q.q-index _ c.loop-q.last c.loop-q.fresh c.if-ne.fresh
+      true c.loop-q-test.true c.loop-q.invariant (true_then _ _ c.ne.ensures w.if-ne.false)
+      (nothing_more _ _ w.fresh-is)
 ]

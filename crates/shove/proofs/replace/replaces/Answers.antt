@@ -7,4 +7,6 @@ returns-then-not-inside_board g c = refused _
 
 pub returns : goal.returns
 returns g c =
-    replaced c.args.d.now (g.C.Copper.items c.args.c.now) c.args.old.now c.args.new.now c.requires.one_id c.touches_all.result (c.inside_board.ensures.0 c.if-not-inside_board.false) c.in_default.ensures.finds c.touches_all.ensures
+    replaced c.args.d.now (g.C.Copper.items c.args.c.now) c.args.old.now c.args.new.now c.requires.one_id
+    c.touches_all.result (c.inside_board.ensures.0 c.if-not-inside_board.false) c.in_default.ensures.finds
+    c.touches_all.ensures

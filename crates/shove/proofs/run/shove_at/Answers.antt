@@ -12,7 +12,8 @@ origin = record { x = pos 0; y = pos 0 }
 pub returns-in_default-moved_run : goal.returns-in_default-moved_run
 returns-in_default-moved_run g c =
     none c.args.d.now c.args.lat.now
-    (g.C.Copper.items c.args.c.now) c.args.item.now c.args.run c.args.up c.in-Wire.layer c.in-Wire.width c.as_slice-points.result.now
+    (g.C.Copper.items c.args.c.now) c.args.item.now c.args.run c.args.up c.in-Wire.layer c.in-Wire.width
+    c.as_slice-points.result.now
     (c.in-Wire.is ∙ ap (λ (ps : List Point). Wire c.in-Wire.layer c.in-Wire.width ps)
     (sym c.as_slice-points.ensures)) origin c.in_default-moved_run.ensures
 
@@ -24,9 +25,11 @@ make_item-requires-clause-place g c =
     let run : c.args.run + 1 < length points = subst (λ (ps : List Point). c.args.run + 1 < length ps)
     (ap chain_of metal_is) c.requires.run in
     let shoved = shoved_by c.args.d.now c.args.lat.now
-    (g.C.Copper.items c.args.c.now) c.args.item.now c.args.run c.args.up c.in-Wire.layer c.in-Wire.width points metal_is origin c.in-Some.to_a c.in-Some.to_b c.in_ok-shoved.shoved run c.in-Some.ensures c.in_ok-shoved.ensures in
+    (g.C.Copper.items c.args.c.now) c.args.item.now c.args.run c.args.up c.in-Wire.layer c.in-Wire.width points metal_is
+    origin c.in-Some.to_a c.in-Some.to_b c.in_ok-shoved.shoved run c.in-Some.ensures c.in_ok-shoved.ensures in
     new_metal_fits c.args.d.now c.args.lat.now
-    (g.C.Copper.items c.args.c.now) c.args.item.now c.args.run c.args.up c.in-Wire.layer c.in-Wire.width points metal_is origin c.in_ok-shoved.shoved shoved c.requires.fits c.requires.item.metal_fits
+    (g.C.Copper.items c.args.c.now) c.args.item.now c.args.run c.args.up c.in-Wire.layer c.in-Wire.width points metal_is
+    origin c.in_ok-shoved.shoved shoved c.requires.fits c.requires.item.metal_fits
 
 pub can_replace-requires-clause-new_fits : goal.can_replace-requires-clause-new_fits
 can_replace-requires-clause-new_fits g c =
@@ -36,9 +39,12 @@ can_replace-requires-clause-new_fits g c =
     let run : c.args.run + 1 < length points = subst (λ (ps : List Point). c.args.run + 1 < length ps)
     (ap chain_of metal_is) c.requires.run in
     let shoved = shoved_by c.args.d.now c.args.lat.now
-    (g.C.Copper.items c.args.c.now) c.args.item.now c.args.run c.args.up c.in-Wire.layer c.in-Wire.width points metal_is origin c.in-Some.to_a c.in-Some.to_b c.in_ok-shoved.shoved run c.in-Some.ensures c.in_ok-shoved.ensures in
+    (g.C.Copper.items c.args.c.now) c.args.item.now c.args.run c.args.up c.in-Wire.layer c.in-Wire.width points metal_is
+    origin c.in-Some.to_a c.in-Some.to_b c.in_ok-shoved.shoved run c.in-Some.ensures c.in_ok-shoved.ensures in
     new_fits c.args.d.now c.args.lat.now
-    (g.C.Copper.items c.args.c.now) c.args.item.now c.args.run c.args.up c.in-Wire.layer c.in-Wire.width points metal_is origin c.in_ok-shoved.shoved shoved c.requires.fits c.requires.item.metal_fits c.in_ok-new.new c.in_ok-new.ensures
+    (g.C.Copper.items c.args.c.now) c.args.item.now c.args.run c.args.up c.in-Wire.layer c.in-Wire.width points metal_is
+    origin c.in_ok-shoved.shoved shoved c.requires.fits c.requires.item.metal_fits c.in_ok-new.new
+    c.in_ok-new.ensures
 
 pub returns-then-not-can_replace : goal.returns-then-not-can_replace
 returns-then-not-can_replace g c =
@@ -48,9 +54,12 @@ returns-then-not-can_replace g c =
     let run : c.args.run + 1 < length points = subst (λ (ps : List Point). c.args.run + 1 < length ps)
     (ap chain_of metal_is) c.requires.run in
     let shoved = shoved_by c.args.d.now c.args.lat.now
-    (g.C.Copper.items c.args.c.now) c.args.item.now c.args.run c.args.up c.in-Wire.layer c.in-Wire.width points metal_is origin c.in-Some.to_a c.in-Some.to_b c.in_ok-shoved.shoved run c.in-Some.ensures c.in_ok-shoved.ensures in
+    (g.C.Copper.items c.args.c.now) c.args.item.now c.args.run c.args.up c.in-Wire.layer c.in-Wire.width points metal_is
+    origin c.in-Some.to_a c.in-Some.to_b c.in_ok-shoved.shoved run c.in-Some.ensures c.in_ok-shoved.ensures in
     fits_not c.args.d.now c.args.lat.now
-    (g.C.Copper.items c.args.c.now) c.args.item.now c.args.run c.args.up c.in-Wire.layer c.in-Wire.width points metal_is origin c.in_ok-shoved.shoved shoved c.requires.fits c.requires.item.metal_fits c.in_ok-new.new c.in_ok-new.ensures
+    (g.C.Copper.items c.args.c.now) c.args.item.now c.args.run c.args.up c.in-Wire.layer c.in-Wire.width points metal_is
+    origin c.in_ok-shoved.shoved shoved c.requires.fits c.requires.item.metal_fits c.in_ok-new.new
+    c.in_ok-new.ensures
     (unless c.can_replace.result _ c.can_replace.ensures c.if-not-can_replace.true)
 
 pub returns : goal.returns
@@ -61,7 +70,10 @@ returns g c =
     let run : c.args.run + 1 < length points = subst (λ (ps : List Point). c.args.run + 1 < length ps)
     (ap chain_of metal_is) c.requires.run in
     let shoved = shoved_by c.args.d.now c.args.lat.now
-    (g.C.Copper.items c.args.c.now) c.args.item.now c.args.run c.args.up c.in-Wire.layer c.in-Wire.width points metal_is origin c.in-Some.to_a c.in-Some.to_b c.in_ok-shoved.shoved run c.in-Some.ensures c.in_ok-shoved.ensures in
+    (g.C.Copper.items c.args.c.now) c.args.item.now c.args.run c.args.up c.in-Wire.layer c.in-Wire.width points metal_is
+    origin c.in-Some.to_a c.in-Some.to_b c.in_ok-shoved.shoved run c.in-Some.ensures c.in_ok-shoved.ensures in
     is_shove c.args.d.now c.args.lat.now
-    (g.C.Copper.items c.args.c.now) c.args.item.now c.args.run c.args.up c.in-Wire.layer c.in-Wire.width points metal_is origin c.in_ok-shoved.shoved shoved c.requires.fits c.requires.item.metal_fits c.in_ok-new.new c.in-Wire-metal.chain c.in-Wire-metal.layer c.in-Wire-metal.width c.in_ok-new.ensures c.in-Wire-metal.is
+    (g.C.Copper.items c.args.c.now) c.args.item.now c.args.run c.args.up c.in-Wire.layer c.in-Wire.width points metal_is
+    origin c.in_ok-shoved.shoved shoved c.requires.fits c.requires.item.metal_fits c.in_ok-new.new
+    c.in-Wire-metal.chain c.in-Wire-metal.layer c.in-Wire-metal.width c.in_ok-new.ensures c.in-Wire-metal.is
     (c.can_replace.ensures.0 c.if-not-can_replace.false)

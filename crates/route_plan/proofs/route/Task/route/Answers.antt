@@ -9,16 +9,21 @@ use Rattle.route_plan.proofs.Routing.{net_walk_of, ends_at, last_place, first_pl
 use Rattle.route_plan.proofs.route.Task.route.Goals as goal
 
 pub walk-requires-clause-starts : goal.walk-requires-clause-starts
-walk-requires-clause-starts g c = let s = c.args.self.now in starts_in_lattice s.d.now s.lat.now s.snap.now.items c.args.island.now c.in_ok-starts.starts c.in_ok-starts.ensures
+walk-requires-clause-starts g c = let s = c.args.self.now in
+    starts_in_lattice s.d.now s.lat.now s.snap.now.items c.args.island.now c.in_ok-starts.starts c.in_ok-starts.ensures
 
 pub anchored_among-requires-clause-node : goal.anchored_among-requires-clause-node
 anchored_among-requires-clause-node g c =
     let s = c.args.self.now in
     let least : IsLeastWalk
-    (moves_of s.d.now s.lat.now s.snap.now.items s.net s.via_cost s.penalty) c.in_ok-starts.starts c.in_ok-goals.goals c.in-Walk.walk =
-    subst (Answers (moves_of s.d.now s.lat.now s.snap.now.items s.net s.via_cost s.penalty) c.in_ok-starts.starts c.in_ok-goals.goals) c.in-Walk.is c.in_ok-reach.ensures.answers in
-    let net_walk = net_walk_of s.d.now s.lat.now s.snap.now.items s.net s.via_cost s.penalty c.in_ok-starts.starts c.in_ok-goals.goals c.in-Walk.walk
-    (starts_in_lattice s.d.now s.lat.now s.snap.now.items c.args.island.now c.in_ok-starts.starts c.in_ok-starts.ensures) least.walk in
+    (moves_of s.d.now s.lat.now s.snap.now.items s.net s.via_cost s.penalty) c.in_ok-starts.starts c.in_ok-goals.goals
+    c.in-Walk.walk =
+    subst (Answers (moves_of s.d.now s.lat.now s.snap.now.items s.net s.via_cost s.penalty) c.in_ok-starts.starts
+    c.in_ok-goals.goals) c.in-Walk.is c.in_ok-reach.ensures.answers in
+    let net_walk = net_walk_of s.d.now s.lat.now s.snap.now.items s.net s.via_cost s.penalty c.in_ok-starts.starts
+    c.in_ok-goals.goals c.in-Walk.walk
+    (starts_in_lattice s.d.now s.lat.now s.snap.now.items c.args.island.now c.in_ok-starts.starts
+    c.in_ok-starts.ensures) least.walk in
     subst (λ (ns : List ℕ). get_or ns 0 0 < node_count s.lat.now) (sym c.as_slice-nodes.ensures)
     (net_walk.there 0 0 (some_node c.in-Walk.walk.nodes least.walk.from
     (map to_of least.walk.hops) least.walk.nodes))
@@ -43,8 +48,10 @@ walk_items-requires g c =
     let graph = moves_of s.d.now s.lat.now s.snap.now.items s.net s.via_cost s.penalty in
     let least : IsLeastWalk graph c.in_ok-starts.starts c.in_ok-goals.goals c.in-Walk.walk = subst
     (Answers graph c.in_ok-starts.starts c.in_ok-goals.goals) c.in-Walk.is c.in_ok-reach.ensures.answers in
-    net_walk_of s.d.now s.lat.now s.snap.now.items s.net s.via_cost s.penalty c.in_ok-starts.starts c.in_ok-goals.goals c.in-Walk.walk
-    (starts_in_lattice s.d.now s.lat.now s.snap.now.items c.args.island.now c.in_ok-starts.starts c.in_ok-starts.ensures) least.walk
+    net_walk_of s.d.now s.lat.now s.snap.now.items s.net s.via_cost s.penalty c.in_ok-starts.starts c.in_ok-goals.goals
+    c.in-Walk.walk
+    (starts_in_lattice s.d.now s.lat.now s.snap.now.items c.args.island.now c.in_ok-starts.starts
+    c.in_ok-starts.ensures) least.walk
 
 pub returns-clause-finds : goal.returns-clause-finds
 returns-clause-finds g c =

@@ -2,68 +2,134 @@ use Rattle.std.proofs.Common.{arith, ◌≡◌, ℕ, ◌+◌, Option, Some, refl
 use Rattle.wave_search.specs.Waiting.{IsAdded}
 use Rattle.wave_search.specs.declared.labels.Label.{Label}
 use Rattle.wave_search.specs.State.{label_at, improves_on, is_done_by, entry}
-use Rattle.wave_search.proofs.Steps.{price_room, relabel_keeps, relabelled, better_from, unchanged, done_before, cheap_from}
+use Rattle.wave_search.proofs.Steps.{price_room, relabel_keeps, relabelled, better_from, unchanged, done_before}
+use Rattle.wave_search.proofs.Steps.{cheap_from}
 use Rattle.wave_search.proofs.task.Task.relax_one.Goals as goal
 
 pub overflow_add-price : goal.overflow_add-price
 overflow_add-price g c =
-    let room = price_room (g.M.Moves.graph c.args.self.now.m.now) c.args.self.now.starts.now c.args.self.now.goals.now (g.B.Bound.low_of c.args.self.now.b.now) c.requires.sound c.requires.bound _ _ _ _ _ _ c.requires.state c.args.node c.args.label c.requires.there c.requires.is_done in
-    omega (arith, room, c.requires.sound.small_price c.args.node c.args.i c.price.result c.requires.node c.requires.index c.price.ensures)
+    let room = price_room (g.M.Moves.graph c.args.self.now.m.now) c.args.self.now.starts.now c.args.self.now.goals.now
+    (g.B.Bound.low_of c.args.self.now.b.now) c.requires.sound c.requires.bound _ _ _ _ _ _ c.requires.state
+    c.args.node c.args.label c.requires.there c.requires.is_done in
+    omega (
+      arith,
+      room,
+      c.requires.sound.small_price c.args.node c.args.i c.price.result c.requires.node
+          c.requires.index c.price.ensures,
+    )
 
 pub get-old-requires : goal.get-old-requires
-get-old-requires g c = omega (arith, c.requires.state.roots.size, c.requires.sound.leads c.args.node c.args.i c.in-Some.field-0-0 c.in-Some.to c.requires.node c.requires.index (sym c.at.ensures ∙ c.in-Some.is))
+get-old-requires g c = omega (
+  arith,
+  c.requires.state.roots.size,
+  c.requires.sound.leads c.args.node c.args.i c.in-Some.field-0-0 c.in-Some.to c.requires.node c.requires.index
+      (sym c.at.ensures ∙ c.in-Some.is),
+)
 
 pub put-requires-clause-node : goal.put-requires-clause-node
-put-requires-clause-node g c = omega (arith, c.requires.state.roots.size, c.requires.sound.leads c.args.node c.args.i c.in-Some.field-0-0 c.in-Some.to c.requires.node c.requires.index (sym c.at.ensures ∙ c.in-Some.is))
+put-requires-clause-node g c = omega (
+  arith,
+  c.requires.state.roots.size,
+  c.requires.sound.leads c.args.node c.args.i c.in-Some.field-0-0 c.in-Some.to c.requires.node c.requires.index
+      (sym c.at.ensures ∙ c.in-Some.is),
+)
 
 pub overflow_add-key : goal.overflow_add-key
 overflow_add-key g c =
-    let room = price_room (g.M.Moves.graph c.args.self.now.m.now) c.args.self.now.starts.now c.args.self.now.goals.now (g.B.Bound.low_of c.args.self.now.b.now) c.requires.sound c.requires.bound _ _ _ _ _ _ c.requires.state c.args.node c.args.label c.requires.there c.requires.is_done in
+    let room = price_room (g.M.Moves.graph c.args.self.now.m.now) c.args.self.now.starts.now c.args.self.now.goals.now
+    (g.B.Bound.low_of c.args.self.now.b.now) c.requires.sound c.requires.bound _ _ _ _ _ _ c.requires.state
+    c.args.node c.args.label c.requires.there c.requires.is_done in
     omega (
       arith,
       room,
       c.low-low.ensures,
       c.requires.sound.small_price c.args.node c.args.i c.price.result c.requires.node c.requires.index c.price.ensures,
-      c.requires.bound.limit c.in-Some.to (c.requires.sound.leads c.args.node c.args.i c.in-Some.field-0-0 c.in-Some.to c.requires.node c.requires.index (sym c.at.ensures ∙ c.in-Some.is)),
+      c.requires.bound.limit c.in-Some.to
+          (c.requires.sound.leads c.args.node c.args.i c.in-Some.field-0-0 c.in-Some.to c.requires.node c.requires.index
+          (sym c.at.ensures ∙ c.in-Some.is)),
     )
 
 pub returns-clause-state : goal.returns-clause-state
 returns-clause-state g c =
     let l : Label = record { price = c.args.label.price + c.price.result; rank = 0; origin = Some c.args.node } in
-    let better : improves_on l.price (label_at c.args.table.now c.in-Some.to) ≡ true = subst (λ (o : Option Label). improves_on (c.args.label.price + c.price.result) o ≡ true) c.get-old.ensures (sym c.if-not-improves.ensures) in
-    relabelled (g.M.Moves.graph c.args.self.now.m.now) c.args.self.now.starts.now c.args.self.now.goals.now (g.B.Bound.low_of c.args.self.now.b.now) c.requires.sound c.requires.bound
-    c.args.table.now c.args.front.now (c.args.label.price + g.B.Bound.low_of c.args.self.now.b.now c.args.node) c.args.label.rank c.args.node c.args.i c.args.label c.requires.state c.requires.there c.requires.is_done refl
-    c.in-Some.field-0-0 c.in-Some.to c.price.result (record { listed = c.requires.index; leads = sym c.at.ensures ∙ c.in-Some.is; is_open = c.if-not-is_open.ensures.opens; costs = c.price.ensures })
+    let better : improves_on l.price (label_at c.args.table.now c.in-Some.to) ≡ true =
+    subst (λ (o : Option Label). improves_on (c.args.label.price + c.price.result) o ≡ true) c.get-old.ensures
+    (sym c.if-not-improves.ensures) in
+    relabelled (g.M.Moves.graph c.args.self.now.m.now) c.args.self.now.starts.now c.args.self.now.goals.now
+    (g.B.Bound.low_of c.args.self.now.b.now) c.requires.sound c.requires.bound
+    c.args.table.now c.args.front.now
+    (c.args.label.price + g.B.Bound.low_of c.args.self.now.b.now c.args.node) c.args.label.rank c.args.node c.args.i
+    c.args.label c.requires.state c.requires.there c.requires.is_done refl
+    c.in-Some.field-0-0 c.in-Some.to c.price.result
+    (record {
+      listed = c.requires.index;
+      leads = sym c.at.ensures
+          ∙ c.in-Some.is;
+      is_open = c.if-not-is_open.ensures.opens;
+      costs = c.price.ensures;
+    })
     l refl refl refl (better_from c.args.table.now c.in-Some.to l.price better)
-    c.put.new.self c.push.new.self c.in_ok-put.ensures.ok (subst (λ (x : ℕ). IsAdded c.args.front.now (entry (c.args.label.price + c.price.result + x) c.in-Some.to) c.push.new.self) c.low-low.ensures c.in_ok-push.ensures.ok)
+    c.put.new.self c.push.new.self c.in_ok-put.ensures.ok
+    (subst (λ (x : ℕ). IsAdded c.args.front.now
+    (entry (c.args.label.price + c.price.result + x) c.in-Some.to) c.push.new.self) c.low-low.ensures
+    c.in_ok-push.ensures.ok)
 
 pub returns-clause-kept : goal.returns-clause-kept
 returns-clause-kept g c =
     let l : Label = record { price = c.args.label.price + c.price.result; rank = 0; origin = Some c.args.node } in
-    let better : improves_on l.price (label_at c.args.table.now c.in-Some.to) ≡ true = subst (λ (o : Option Label). improves_on (c.args.label.price + c.price.result) o ≡ true) c.get-old.ensures (sym c.if-not-improves.ensures) in
-    relabel_keeps (g.M.Moves.graph c.args.self.now.m.now) c.args.self.now.starts.now c.args.self.now.goals.now (g.B.Bound.low_of c.args.self.now.b.now) c.requires.sound c.requires.bound
-    c.args.table.now c.args.front.now (c.args.label.price + g.B.Bound.low_of c.args.self.now.b.now c.args.node) c.args.label.rank c.args.node c.args.i c.args.label c.requires.state c.requires.there c.requires.is_done refl
-    c.in-Some.field-0-0 c.in-Some.to c.price.result (record { listed = c.requires.index; leads = sym c.at.ensures ∙ c.in-Some.is; is_open = c.if-not-is_open.ensures.opens; costs = c.price.ensures })
+    let better : improves_on l.price (label_at c.args.table.now c.in-Some.to) ≡ true =
+    subst (λ (o : Option Label). improves_on (c.args.label.price + c.price.result) o ≡ true) c.get-old.ensures
+    (sym c.if-not-improves.ensures) in
+    relabel_keeps (g.M.Moves.graph c.args.self.now.m.now) c.args.self.now.starts.now c.args.self.now.goals.now
+    (g.B.Bound.low_of c.args.self.now.b.now) c.requires.sound c.requires.bound
+    c.args.table.now c.args.front.now
+    (c.args.label.price + g.B.Bound.low_of c.args.self.now.b.now c.args.node) c.args.label.rank c.args.node c.args.i
+    c.args.label c.requires.state c.requires.there c.requires.is_done refl
+    c.in-Some.field-0-0 c.in-Some.to c.price.result
+    (record {
+      listed = c.requires.index;
+      leads = sym c.at.ensures
+          ∙ c.in-Some.is;
+      is_open = c.if-not-is_open.ensures.opens;
+      costs = c.price.ensures;
+    })
     l refl refl refl (better_from c.args.table.now c.in-Some.to l.price better)
     c.put.new.self c.in_ok-put.ensures.ok
 
 pub returns-then-not-improves-clause-state : goal.returns-then-not-improves-clause-state
 returns-then-not-improves-clause-state g c =
-    let worse : improves_on (c.args.label.price + c.price.result) (label_at c.args.table.now c.in-Some.to) ≡ false = subst (λ (o : Option Label). improves_on (c.args.label.price + c.price.result) o ≡ false) c.get-old.ensures (sym c.if-not-improves.ensures) in
-    unchanged (g.M.Moves.graph c.args.self.now.m.now) c.args.self.now.starts.now c.args.self.now.goals.now (g.B.Bound.low_of c.args.self.now.b.now) c.requires.sound c.requires.bound
-    c.args.table.now c.args.front.now (c.args.label.price + g.B.Bound.low_of c.args.self.now.b.now c.args.node) c.args.label.rank c.args.node c.args.i c.args.label c.requires.state c.requires.there
-    c.in-Some.field-0-0 c.in-Some.to c.price.result (sym c.at.ensures ∙ c.in-Some.is) c.price.ensures (cheap_from c.args.table.now c.in-Some.to (c.args.label.price + c.price.result) worse)
+    let worse : improves_on (c.args.label.price + c.price.result) (label_at c.args.table.now c.in-Some.to) ≡ false =
+    subst (λ (o : Option Label). improves_on (c.args.label.price + c.price.result) o ≡ false) c.get-old.ensures
+    (sym c.if-not-improves.ensures) in
+    unchanged (g.M.Moves.graph c.args.self.now.m.now) c.args.self.now.starts.now c.args.self.now.goals.now
+    (g.B.Bound.low_of c.args.self.now.b.now) c.requires.sound c.requires.bound
+    c.args.table.now c.args.front.now
+    (c.args.label.price + g.B.Bound.low_of c.args.self.now.b.now c.args.node) c.args.label.rank c.args.node c.args.i
+    c.args.label c.requires.state c.requires.there
+    c.in-Some.field-0-0 c.in-Some.to c.price.result (sym c.at.ensures ∙ c.in-Some.is) c.price.ensures
+    (cheap_from c.args.table.now c.in-Some.to (c.args.label.price + c.price.result) worse)
 
 pub returns-then-is_done-clause-state : goal.returns-then-is_done-clause-state
 returns-then-is_done-clause-state g c =
-    done_before (g.M.Moves.graph c.args.self.now.m.now) c.args.self.now.starts.now c.args.self.now.goals.now (g.B.Bound.low_of c.args.self.now.b.now) c.requires.sound c.requires.bound
-    c.args.table.now c.args.front.now (c.args.label.price + g.B.Bound.low_of c.args.self.now.b.now c.args.node) c.args.label.rank c.args.node c.args.i c.args.label c.requires.state c.requires.there refl
-    c.in-Some.field-0-0 c.in-Some.to (sym c.at.ensures ∙ c.in-Some.is) (subst (λ (o : Option Label). is_done_by o ≡ true) c.get-old.ensures (sym c.if-is_done.ensures))
+    done_before (g.M.Moves.graph c.args.self.now.m.now) c.args.self.now.starts.now c.args.self.now.goals.now
+    (g.B.Bound.low_of c.args.self.now.b.now) c.requires.sound c.requires.bound
+    c.args.table.now c.args.front.now
+    (c.args.label.price + g.B.Bound.low_of c.args.self.now.b.now c.args.node) c.args.label.rank c.args.node c.args.i
+    c.args.label c.requires.state c.requires.there refl
+    c.in-Some.field-0-0 c.in-Some.to (sym c.at.ensures ∙ c.in-Some.is)
+    (subst (λ (o : Option Label). is_done_by o ≡ true) c.get-old.ensures (sym c.if-is_done.ensures))
 
 pub put-requires-clause-price : goal.put-requires-clause-price
 put-requires-clause-price g c =
-    let room = price_room (g.M.Moves.graph c.args.self.now.m.now) c.args.self.now.starts.now c.args.self.now.goals.now (g.B.Bound.low_of c.args.self.now.b.now) c.requires.sound c.requires.bound _ _ _ _ _ _ c.requires.state c.args.node c.args.label c.requires.there c.requires.is_done in
-    omega (arith, room, c.requires.sound.small_price c.args.node c.args.i c.price.result c.requires.node c.requires.index c.price.ensures)
+    let room = price_room (g.M.Moves.graph c.args.self.now.m.now) c.args.self.now.starts.now c.args.self.now.goals.now
+    (g.B.Bound.low_of c.args.self.now.b.now) c.requires.sound c.requires.bound _ _ _ _ _ _ c.requires.state
+    c.args.node c.args.label c.requires.there c.requires.is_done in
+    omega (
+      arith,
+      room,
+      c.requires.sound.small_price c.args.node c.args.i c.price.result c.requires.node
+          c.requires.index c.price.ensures,
+    )
 
 pub put-requires-clause-origin : goal.put-requires-clause-origin
 put-requires-clause-origin g c = omega (arith, c.requires.node, c.requires.sound.nodes)

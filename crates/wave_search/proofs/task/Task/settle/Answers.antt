@@ -1,46 +1,76 @@
 use Rattle.std.proofs.Common.{◌+◌, arith, sym, ◌∙◌, length}
 use Rattle.wave_search.proofs.Steps.{whole}
-use Rattle.wave_search.proofs.Run.{node_in, node_below, price_small, origin_small, room, none_in, put_keeps, state_now, taken_now, falls}
+use Rattle.wave_search.proofs.Run.{node_in, node_below, price_small, origin_small, room, none_in, put_keeps, state_now}
+use Rattle.wave_search.proofs.Run.{taken_now, falls}
 use Rattle.wave_search.proofs.task.Task.settle.Goals as goal
 
 pub get-requires : goal.get-requires
-get-requires g c = node_in c.requires.sound c.requires.bound c.settle.invariant.state (taken_now c.settle.front c.pop.new.self _ c.in-Some.entry c.in_ok-entry.ensures c.in-Some.is)
+get-requires g c = node_in c.requires.sound c.requires.bound c.settle.invariant.state
+    (taken_now c.settle.front c.pop.new.self _ c.in-Some.entry c.in_ok-entry.ensures c.in-Some.is)
 
 pub overflow_add-label : goal.overflow_add-label
 overflow_add-label g c =
-    let r = room c.requires.sound c.requires.bound c.settle.invariant.state (taken_now c.settle.front c.pop.new.self _ c.in-Some.entry c.in_ok-entry.ensures c.in-Some.is) (sym c.get.ensures ∙ c.in-Some-get.is) c.if-found-ne0.false in omega (arith, r, c.requires.sound.nodes)
+    let r = room c.requires.sound c.requires.bound c.settle.invariant.state
+    (taken_now c.settle.front c.pop.new.self _ c.in-Some.entry c.in_ok-entry.ensures c.in-Some.is)
+    (sym c.get.ensures ∙ c.in-Some-get.is) c.if-found-ne0.false in omega (arith, r, c.requires.sound.nodes)
 
 pub put-requires-clause-node : goal.put-requires-clause-node
-put-requires-clause-node g c = node_in c.requires.sound c.requires.bound c.settle.invariant.state (taken_now c.settle.front c.pop.new.self _ c.in-Some.entry c.in_ok-entry.ensures c.in-Some.is)
+put-requires-clause-node g c = node_in c.requires.sound c.requires.bound c.settle.invariant.state
+    (taken_now c.settle.front c.pop.new.self _ c.in-Some.entry c.in_ok-entry.ensures c.in-Some.is)
 
 pub put-requires-clause-price : goal.put-requires-clause-price
-put-requires-clause-price g c = omega (arith, price_small c.requires.sound c.settle.invariant.state.1 c.in-Some.entry.node c.in-Some-get.found (sym c.get.ensures ∙ c.in-Some-get.is))
+put-requires-clause-price g c =
+    omega (
+      arith,
+      price_small c.requires.sound c.settle.invariant.state.1 c.in-Some.entry.node c.in-Some-get.found
+          (sym c.get.ensures ∙ c.in-Some-get.is),
+    )
 
 pub put-requires-clause-origin : goal.put-requires-clause-origin
-put-requires-clause-origin g c = origin_small c.requires.sound c.settle.invariant.state.1.roots c.in-Some.entry.node c.in-Some-get.found (sym c.get.ensures ∙ c.in-Some-get.is)
+put-requires-clause-origin g c =
+    origin_small c.requires.sound c.settle.invariant.state.1.roots c.in-Some.entry.node c.in-Some-get.found
+    (sym c.get.ensures ∙ c.in-Some-get.is)
 
 pub overflow_add-finished : goal.overflow_add-finished
 overflow_add-finished g c =
-    let r = room c.requires.sound c.requires.bound c.settle.invariant.state (taken_now c.settle.front c.pop.new.self _ c.in-Some.entry c.in_ok-entry.ensures c.in-Some.is) (sym c.get.ensures ∙ c.in-Some-get.is) c.if-found-ne0.false in omega (arith, r, c.requires.sound.nodes)
+    let r = room c.requires.sound c.requires.bound c.settle.invariant.state
+    (taken_now c.settle.front c.pop.new.self _ c.in-Some.entry c.in_ok-entry.ensures c.in-Some.is)
+    (sym c.get.ensures ∙ c.in-Some-get.is) c.if-found-ne0.false in omega (arith, r, c.requires.sound.nodes)
 
 pub relax-requires-clause-node : goal.relax-requires-clause-node
-relax-requires-clause-node g c = node_below c.requires.sound c.requires.bound c.settle.invariant.state (taken_now c.settle.front c.pop.new.self _ c.in-Some.entry c.in_ok-entry.ensures c.in-Some.is)
+relax-requires-clause-node g c = node_below c.requires.sound c.requires.bound c.settle.invariant.state
+    (taken_now c.settle.front c.pop.new.self _ c.in-Some.entry c.in_ok-entry.ensures c.in-Some.is)
 
 pub relax-requires-clause-state : goal.relax-requires-clause-state
-relax-requires-clause-state g c = state_now c.requires.sound c.requires.bound c.settle.invariant.state (taken_now c.settle.front c.pop.new.self _ c.in-Some.entry c.in_ok-entry.ensures c.in-Some.is) (sym c.get.ensures ∙ c.in-Some-get.is) c.if-found-ne0.false
+relax-requires-clause-state g c = state_now c.requires.sound c.requires.bound c.settle.invariant.state
+    (taken_now c.settle.front c.pop.new.self _ c.in-Some.entry c.in_ok-entry.ensures c.in-Some.is) (sym c.get.ensures
+    ∙ c.in-Some-get.is) c.if-found-ne0.false
     (none_in c.args.self.now.goals.now c.requires.no_goals c.in-Some.entry.node) c.put.new.self c.in_ok-put.ensures.ok
 
 pub settle-smaller : goal.settle-smaller
-settle-smaller g c = falls (g.M.Moves.graph c.args.self.now.m.now).count c.settle.finished (g.M.Moves.graph c.args.self.now.m.now).arity (length c.settle.front) (length c.pop.new.self) (length c.relax.new.front)
-    (room c.requires.sound c.requires.bound c.settle.invariant.state (taken_now c.settle.front c.pop.new.self _ c.in-Some.entry c.in_ok-entry.ensures c.in-Some.is) (sym c.get.ensures ∙ c.in-Some-get.is) c.if-found-ne0.false) (taken_now c.settle.front c.pop.new.self _ c.in-Some.entry c.in_ok-entry.ensures c.in-Some.is).len c.in_ok-relax.ensures.len
+settle-smaller g c = falls (g.M.Moves.graph c.args.self.now.m.now).count c.settle.finished
+    (g.M.Moves.graph c.args.self.now.m.now).arity (length c.settle.front) (length c.pop.new.self)
+    (length c.relax.new.front)
+    (room c.requires.sound c.requires.bound c.settle.invariant.state
+    (taken_now c.settle.front c.pop.new.self _ c.in-Some.entry c.in_ok-entry.ensures c.in-Some.is)
+    (sym c.get.ensures ∙ c.in-Some-get.is) c.if-found-ne0.false)
+    (taken_now c.settle.front c.pop.new.self _ c.in-Some.entry c.in_ok-entry.ensures c.in-Some.is).len
+    c.in_ok-relax.ensures.len
 
 pub settle-preserved : goal.settle-preserved
 settle-preserved g c = record {
   size = c.in_ok-relax.ensures.size ∙ c.in_ok-put.ensures.size ∙ c.settle.invariant.size;
-  kept = λ v l h d. c.in_ok-relax.ensures.kept v l (put_keeps c.requires.sound c.requires.bound c.settle.invariant.state (taken_now c.settle.front c.pop.new.self _ c.in-Some.entry c.in_ok-entry.ensures c.in-Some.is) (sym c.get.ensures ∙ c.in-Some-get.is) c.if-found-ne0.false _ c.put.new.self c.in_ok-put.ensures.ok v l (c.settle.invariant.kept v l h d) d) d;
+  kept = λ v l h d. c.in_ok-relax.ensures.kept v l
+      (put_keeps c.requires.sound c.requires.bound c.settle.invariant.state
+      (taken_now c.settle.front c.pop.new.self _ c.in-Some.entry c.in_ok-entry.ensures c.in-Some.is) (sym c.get.ensures
+      ∙ c.in-Some-get.is) c.if-found-ne0.false _ c.put.new.self c.in_ok-put.ensures.ok v l
+      (c.settle.invariant.kept v l h d) d) d;
   state = (
     c.in-Some-get.found.price + g.B.Bound.low_of c.args.self.now.b.now c.in-Some.entry.node,
-    whole (g.M.Moves.graph c.args.self.now.m.now) c.args.self.now.starts.now c.args.self.now.goals.now (g.B.Bound.low_of c.args.self.now.b.now) c.requires.sound c.requires.bound c.relax.new.table c.relax.new.front (c.in-Some-get.found.price + g.B.Bound.low_of c.args.self.now.b.now c.in-Some.entry.node) (c.settle.finished + 1) c.in-Some.entry.node 0 c.in_ok-relax.ensures.state,
+    whole (g.M.Moves.graph c.args.self.now.m.now) c.args.self.now.starts.now c.args.self.now.goals.now
+        (g.B.Bound.low_of c.args.self.now.b.now) c.requires.sound c.requires.bound c.relax.new.table c.relax.new.front
+        (c.in-Some-get.found.price + g.B.Bound.low_of c.args.self.now.b.now c.in-Some.entry.node)
+        (c.settle.finished + 1) c.in-Some.entry.node 0 c.in_ok-relax.ensures.state,
   );
 }
 

@@ -48,7 +48,14 @@ impl Shut<'_> {
         ensures { IfOk result (CutsOff self.now.d.now self.now.lat.now self.now.snap.now.items self.now.via_cost
             island.now others.now) }
     {
-        match maps.moves(self.lat, self.d, self.snap, island.net, self.via_cost) {
+        match maps.net_moves(
+            alloc,
+            self.lat,
+            self.d,
+            self.snap,
+            island.net,
+            self.via_cost,
+        )? {
             Some(legal) => make_cut_with(
                 alloc,
                 self.lat,

@@ -72,7 +72,7 @@ pub fn offer_by_maps(
         → LeadsFrom lat.now via_cost b worker island.now others.now r) }
     ensures size { search.new ≡ search.old }
 {
-    match maps.moves(lat, d, snap, island.net, via_cost) {
+    match maps.net_moves(alloc, lat, d, snap, island.net, via_cost)? {
         Some(legal) => offer_with(
             alloc, search, lat, d, snap, &legal, via_cost, worker, island, others,
         ),
@@ -149,7 +149,7 @@ fn plan_legal_by_maps(
     ensures plan { IfOk result (λ p. (b : BoardOf) → IsSnapOf snap.now b → Plans lat.now via_cost b worker net None p) }
     ensures size { search.new ≡ search.old }
 {
-    match maps.moves(lat, d, snap, net, via_cost) {
+    match maps.net_moves(alloc, lat, d, snap, net, via_cost)? {
         Some(legal) => plan_legal_with(alloc, search, lat, d, snap, &legal, via_cost, worker, net),
         None => plan_legal_in(alloc, search, lat, d, snap, via_cost, worker, net),
     }

@@ -1,5 +1,6 @@
 mod Boards
 mod Rows
+mod Following
 mod Seen
 mod Knowing
 mod Ending

@@ -10,6 +10,8 @@ use Rattle.pcb_board.specs.declared.answer.Answer.TheVariants.{Committed, Stale}
 use Rattle.pcb_board.specs.Boards.{BoardOf, is_worker, worker_entries}
 use Rattle.pcb_board.specs.Keeping.{IsBoard}
 use Rattle.board_offers.specs.declared.offer.Offer.{Offer}
+use Rattle.board_sight.specs.declared.sight.Sight.{Sight}
+use Rattle.board_sight.specs.Sights.{IsSeenOn}
 use Rattle.route_plan.specs.Plans.{IsOfferOf}
 use Rattle.claim_counter.specs.Claims.{CounterOf}
 use Rattle.board_turn.specs.declared.Deed.{Deed}
@@ -93,6 +95,10 @@ pub record IsPlanned (p : PassOf) (t : TurnOf) (w : Worker) (net : ℕ) (o : Off
   pub board : BoardOf
   pub reached : Reaches (opening t) w.pass.seen board
   pub plan : IsOfferOf p.lattice p.via_cost board w.number net p.penalty o
+
+-- what was seen last of the board, if anything, is of one that has grown into the one that the events leave
+pub record HasSeen (p : PassOf) (t : TurnOf) (events : List Event) (o : Option Sight) : Type 0 where
+  pub seen : (b : BoardOf) → Reaches (opening t) events b → IfSome o (IsSeenOn p.lattice b)
 
 -- ---- steps
 -- the worker went on: its pass has seen more, and it has noted more

@@ -1,18 +1,24 @@
 //! A worker: it plans on a snapshot of the board, offers in its turn, and notes the answer.
 
-ghost use Rattle.std.specs.Prelude.{◌≡◌, ◌<◌, ◌≤◌, ◌^◌, IfOk, OnOk, length};
+ghost use Rattle.std.specs.Prelude.{◌≡◌, ◌<◌, ◌≤◌, ◌^◌, IfOk, IfSome, OnOk, length};
+ghost use Rattle.route_lattice.specs.Mesh.{node_count};
+ghost use Rattle.pcb_board.specs.Boards.{BoardOf};
+ghost use Rattle.board_sight.specs.Sights.{IsLater, IsSightOf};
+ghost use Rattle.route_plan.specs.Plans.{CanPlan, IsSnapOf, Plans};
 ghost use Rattle.board_turn.specs.Turns.{opening};
 ghost use Rattle.searcher_pool.specs.Working.{pass_of, IsTurnOf, IsReady, IsDrawn, IsPlanned, IsAfter, Attempts};
 ghost use Rattle.searcher_pool.specs.Working.{attempt_of, EndsSeen, EndsDrawn, IsSeated, MayWork, Worked};
+ghost use Rattle.searcher_pool.specs.Working.{HasSeen};
 
 use crate::log::OfferNote;
+use board_sight::{Sight, see};
 use board_turn::{Pass, Turn, events_keep};
 use claim_counter::{Claimer, Counter};
 use desk_io::Gate;
 use late_offer::late_offers_are_fair;
-use pcb_board::{Answer, Offer, boards_serve, copy_offer};
+use pcb_board::{Answer, Offer, Snap, boards_serve, copy_offer, ids_stay};
 use route_lattice::Lattice;
-use route_plan::{Planned, plan_in};
+use route_plan::{Planned, plan_by_maps};
 use std::alloc::{AllocError, Global};
 use std::sync::Wait;
 use wave_search::Search;
@@ -103,6 +109,42 @@ fn make<R: Wait, G: Gate>(
     }
 }
 
+// Plans for a net on a snapshot, by the maps of its moves, and keeps both for the next plan.
+fn plan_on(
+    alloc: Global,
+    search: &mut Search,
+    job: Job<'_>,
+    snap: Snap,
+    number: u32,
+    net: u32,
+    sight: &mut Option<Sight>,
+) -> Result<Planned, AllocError>
+    requires can_plan { CanPlan snap.design job.lat.now snap net job.via_cost job.penalty }
+    requires number { number ≤ 16 }
+    requires size { search.old ≡ node_count job.lat.now }
+    requires sight { IfSome sight.old (λ s. IsLater job.lat.now s snap) }
+    ensures plan { IfOk result (λ p. (b : BoardOf) → IsSnapOf snap b
+        → Plans job.entry.lat.now job.entry.via_cost b number net job.entry.penalty p) }
+    ensures size { search.new ≡ search.old }
+    ensures sight { IfSome sight.new (IsSightOf job.entry.lat.now snap) }
+{
+    let seen = see(alloc, job.lat, sight.take(), snap)?;
+    let planned = plan_by_maps(
+        alloc,
+        search,
+        job.lat,
+        seen.snap.design(),
+        &seen.snap,
+        &seen.maps,
+        job.via_cost,
+        number,
+        net,
+        job.penalty,
+    );
+    *sight = Some(seen);
+    planned
+}
+
 // Plans for a net on the board as it is, and offers.
 fn plan_and_offer<R: Wait, G: Gate>(
     rt: &R,
@@ -112,30 +154,24 @@ fn plan_and_offer<R: Wait, G: Gate>(
     gate: &G,
     w: &mut Worker,
     net: u32,
+    sight: &mut Option<Sight>,
 ) -> Result<Attempt, AllocError>
     requires turn { IsTurnOf (pass_of job) turn.now }
     requires drawn { IsDrawn (pass_of job) w.old.drawn.items net }
     requires net { net < length (opening turn.now).design.nets }
     requires ready { IsReady (pass_of job) turn.now w.old }
+    requires sight { HasSeen (pass_of job) turn.now w.old.pass.seen sight.old }
     ensures ready { IsReady (pass_of job.entry) turn.now w.new }
     ensures after { IsAfter w.old w.new }
+    ensures sight { HasSeen (pass_of job.entry) turn.now w.new.pass.seen sight.new }
     ensures attempt { IfOk result (Attempts (pass_of job.entry) turn.now w.old.pass w.old.notes.items
         w.new.pass w.new.notes.items net) }
 {
     events_keep();
     boards_serve();
+    ids_stay();
     let snap = turn.snap(rt, &mut w.pass)?;
-    let planned = plan_in(
-        alloc,
-        &mut w.search,
-        job.lat,
-        snap.design(),
-        &snap,
-        job.via_cost,
-        w.number,
-        net,
-        job.penalty,
-    )?;
+    let planned = plan_on(alloc, &mut w.search, job, snap, w.number, net, sight)?;
     match planned {
         Planned::Offer(offer) => make(rt, alloc, job, turn, gate, w, net, offer),
         Planned::Shut(_) => Ok(Attempt::Ended),
@@ -153,18 +189,21 @@ fn work_off<R: Wait, G: Gate>(
     gate: &G,
     w: &mut Worker,
     net: u32,
+    sight: &mut Option<Sight>,
 ) -> Result<(), AllocError>
     requires turn { IsTurnOf (pass_of job) turn.now }
     requires drawn { IsDrawn (pass_of job) w.old.drawn.items net }
     requires net { net < length (opening turn.now).design.nets }
     requires ready { IsReady (pass_of job) turn.now w.old }
+    requires sight { HasSeen (pass_of job) turn.now w.old.pass.seen sight.old }
     ensures ready { IsReady (pass_of job.entry) turn.now w.new }
     ensures after { IsAfter w.old w.new }
+    ensures sight { HasSeen (pass_of job.entry) turn.now w.new.pass.seen sight.new }
     ensures ended { OnOk result (EndsSeen (pass_of job.entry) turn.now w.new.pass w.new.notes.items net) }
 {
     let mut late = 0;
     while late < MOST_LATE {
-        match plan_and_offer(rt, alloc, job, turn, gate, w, net)? {
+        match plan_and_offer(rt, alloc, job, turn, gate, w, net, sight)? {
             Attempt::Ended => return Ok(()),
             Attempt::Joined => {}
             Attempt::Late => late += 1,
@@ -182,11 +221,13 @@ fn draw_all<R: Wait, G: Gate>(
     counter: &Counter,
     gate: &G,
     w: &mut Worker,
+    sight: &mut Option<Sight>,
 ) -> Result<(), AllocError>
     requires turn { IsTurnOf (pass_of job) turn.now }
     requires few { length job.tasks.now < 2 ^ 32 }
     requires counter { counter.now.tasks ≡ length job.tasks.now }
     requires may_work { MayWork (pass_of job) turn.now counter.now w.old }
+    requires sight { HasSeen (pass_of job) turn.now w.old.pass.seen sight.old }
     ensures ready { IsReady (pass_of job.entry) turn.now w.new }
     ensures seated { IsSeated counter.now w.new }
     ensures name { w.new.pass.name ≡ w.old.pass.name }
@@ -200,7 +241,7 @@ fn draw_all<R: Wait, G: Gate>(
         };
         w.drawn.push_reserved(place as u32);
         let net = job.tasks[place as usize];
-        work_off(rt, alloc, job, turn, gate, w, net)?;
+        work_off(rt, alloc, job, turn, gate, w, net, sight)?;
     }
     unreachable!()
 }
@@ -221,6 +262,7 @@ pub(crate) fn work<R: Wait, G: Gate>(
     requires may_work { MayWork (pass_of job) turn.now counter.now w.old }
     ensures { Worked (pass_of job.entry) turn.now counter.now w.old.pass.name w.new }
 {
-    let drew = draw_all(rt, alloc, job, turn, counter, gate, w);
+    let mut sight = None;
+    let drew = draw_all(rt, alloc, job, turn, counter, gate, w, &mut sight);
     w.failed = drew.is_err();
 }

@@ -5,19 +5,22 @@ use Rattle.route_plan.proofs.searches.offer_by_maps.Goals as goal
 
 pub offer_with-requires-clause-ready : goal.offer_with-requires-clause-ready
 offer_with-requires-clause-ready c =
-    let e = c.in-Some.ensures in
+    let e = c.in_ok-legal.ensures in
+    let is = c.in-Some.is in
     let can = c.requires.can_plan in
-    rw (e.d, e.lat, e.c, e.net, e.via_cost) (
+    rw (rw is at e.d, rw is at e.lat, rw is at e.c, rw is at e.net, rw is at e.via_cost) (
       (
         can_move c.args.d.now c.args.lat.now c.args.snap.now c.args.island.now.net c.args.via_cost _ can,
         (can.own, can.serves),
       ),
-      e.map,
-      e.alike,
+      rw is at e.map,
+      rw is at e.alike,
+      rw is at e.own,
     )
 
 pub offer_with-requires-clause-legal : goal.offer_with-requires-clause-legal
 offer_with-requires-clause-legal c =
-    let e = c.in-Some.ensures in
-    rw (e.d, e.lat, e.c, e.net, e.via_cost)
+    let e = c.in_ok-legal.ensures in
+    let is = c.in-Some.is in
+    rw (rw is at e.d, rw is at e.lat, rw is at e.c, rw is at e.net, rw is at e.via_cost)
     (same_self (legal_graph c.args.d.now c.args.lat.now c.args.snap.now.items c.args.island.now.net c.args.via_cost))

@@ -52,4 +52,5 @@ loop-preserved g c =
             after.notes before.ended));
       };
       name = after.name ∙ c.loop.invariant.name;
+      sight = c.work_off.ensures.sight;
     }

@@ -3,7 +3,9 @@ use Rattle.route_plan.specs.Plans.{Plans}
 use Rattle.board_turn.specs.declared.event.Deed.TheVariants.{Looked, Idle}
 use Rattle.searcher_pool.specs.declared.worker.Worker.{Worker}
 use Rattle.searcher_pool.specs.Working.{Attempts, pass_of}
-use Rattle.searcher_pool.proofs.Steps.{attempt_on, board_seen, ends_shut, ends_whole, on_ok, quiet, snap_is}
+use Rattle.searcher_pool.proofs.Following.{seen_still, seen_last, seen_before}
+use Rattle.searcher_pool.proofs.Knowing.{legal}
+use Rattle.searcher_pool.proofs.Steps.{attempt_on, board_kept, board_seen, ends_shut, ends_whole, on_ok, quiet, snap_is}
 use Rattle.searcher_pool.proofs.worker.plan_and_offer.Goals as goal
 
 pub returns-in_err-snap-clause-ready : goal.returns-in_err-snap-clause-ready
@@ -23,7 +25,7 @@ returns-in_err-planned-clause-ready g c =
     (quiet (pass_of c.args.job) c.args.turn.now c.args.w.now _ Looked c.in_ok-snap.ensures.ok.0 c.requires.ready
     (record {
       number = refl;
-      size = c.plan_in.ensures.size ∙ c.requires.ready.size;
+      size = c.plan_on.ensures.size ∙ c.requires.ready.size;
       drawn = refl;
       seat = refl;
       failed = refl;
@@ -34,7 +36,7 @@ returns-in_err-planned-clause-after g c =
     (quiet (pass_of c.args.job) c.args.turn.now c.args.w.now _ Looked c.in_ok-snap.ensures.ok.0 c.requires.ready
     (record {
       number = refl;
-      size = c.plan_in.ensures.size ∙ c.requires.ready.size;
+      size = c.plan_on.ensures.size ∙ c.requires.ready.size;
       drawn = refl;
       seat = refl;
       failed = refl;
@@ -45,7 +47,7 @@ make-requires-clause-ready g c =
     (quiet (pass_of c.args.job) c.args.turn.now c.args.w.now _ Looked c.in_ok-snap.ensures.ok.0 c.requires.ready
     (record {
       number = refl;
-      size = c.plan_in.ensures.size ∙ c.requires.ready.size;
+      size = c.plan_on.ensures.size ∙ c.requires.ready.size;
       drawn = refl;
       seat = refl;
       failed = refl;
@@ -69,7 +71,7 @@ make-requires-clause-plan g c =
 
 pub returns-in-Offer-clause-attempt : goal.returns-in-Offer-clause-attempt
 returns-in-Offer-clause-attempt g c =
-    let looked : Worker = record c.args.w.now { pass = c.snap.new.pass; search = c.plan_in.new.search } in
+    let looked : Worker = record c.args.w.now { pass = c.snap.new.pass; search = c.plan_on.new.search } in
     on_ok (Attempts (pass_of c.args.job) c.args.turn.now c.snap.new.pass c.args.w.now.notes.items c.make.new.w.pass
     c.make.new.w.notes.items c.args.net) (Attempts (pass_of c.args.job) c.args.turn.now c.args.w.now.pass
     c.args.w.now.notes.items c.make.new.w.pass c.make.new.w.notes.items c.args.net) c.make.result
@@ -78,7 +80,7 @@ returns-in-Offer-clause-attempt g c =
     (quiet (pass_of c.args.job) c.args.turn.now c.args.w.now looked Looked c.in_ok-snap.ensures.ok.0 c.requires.ready
     (record {
       number = refl;
-      size = c.plan_in.ensures.size ∙ c.requires.ready.size;
+      size = c.plan_on.ensures.size ∙ c.requires.ready.size;
       drawn = refl;
       seat = refl;
       failed = refl;
@@ -89,7 +91,7 @@ returns-in-Shut-clause-ready g c =
     (quiet (pass_of c.args.job) c.args.turn.now c.args.w.now _ Looked c.in_ok-snap.ensures.ok.0 c.requires.ready
     (record {
       number = refl;
-      size = c.plan_in.ensures.size ∙ c.requires.ready.size;
+      size = c.plan_on.ensures.size ∙ c.requires.ready.size;
       drawn = refl;
       seat = refl;
       failed = refl;
@@ -100,7 +102,7 @@ returns-in-Shut-clause-after g c =
     (quiet (pass_of c.args.job) c.args.turn.now c.args.w.now _ Looked c.in_ok-snap.ensures.ok.0 c.requires.ready
     (record {
       number = refl;
-      size = c.plan_in.ensures.size ∙ c.requires.ready.size;
+      size = c.plan_on.ensures.size ∙ c.requires.ready.size;
       drawn = refl;
       seat = refl;
       failed = refl;
@@ -122,7 +124,7 @@ returns-clause-ready g c =
     (quiet (pass_of c.args.job) c.args.turn.now c.args.w.now _ Looked c.in_ok-snap.ensures.ok.0 c.requires.ready
     (record {
       number = refl;
-      size = c.plan_in.ensures.size ∙ c.requires.ready.size;
+      size = c.plan_on.ensures.size ∙ c.requires.ready.size;
       drawn = refl;
       seat = refl;
       failed = refl;
@@ -133,7 +135,7 @@ returns-clause-after g c =
     (quiet (pass_of c.args.job) c.args.turn.now c.args.w.now _ Looked c.in_ok-snap.ensures.ok.0 c.requires.ready
     (record {
       number = refl;
-      size = c.plan_in.ensures.size ∙ c.requires.ready.size;
+      size = c.plan_on.ensures.size ∙ c.requires.ready.size;
       drawn = refl;
       seat = refl;
       failed = refl;
@@ -149,3 +151,63 @@ returns-clause-attempt g c =
     c.in-Whole.is (c.in_ok-planned.ensures.plan b (snap_is (pass_of c.args.job) c.args.turn.now c.requires.turn
     c.events_keep.ensures.boards c.args.w.now c.snap.new.pass b c.requires.ready calls c.in_ok-snap.snap
     c.in_ok-snap.ensures.ok.2)))
+
+-- ---- what was seen last
+pub returns-in_err-snap-clause-sight : goal.returns-in_err-snap-clause-sight
+returns-in_err-snap-clause-sight g c =
+    let looked : Worker = record c.args.w.now { pass = c.snap.new.pass } in
+    seen_still (pass_of c.args.job) c.args.turn.now c.args.w.now.pass.seen c.snap.new.pass.seen c.args.sight.now
+    (quiet (pass_of c.args.job) c.args.turn.now c.args.w.now looked Idle c.in_err-snap.ensures.err.0 c.requires.ready
+    (record { number = refl; size = c.requires.ready.size; drawn = refl; seat = refl; failed = refl }) refl refl refl
+    c.in_err-snap.ensures.err.1).after.seen c.requires.sight
+
+pub plan_on-requires-clause-sight : goal.plan_on-requires-clause-sight
+plan_on-requires-clause-sight g c =
+    let p = pass_of c.args.job in
+    let t = c.args.turn.now in
+    let v = c.args.w.now in
+    let b = c.in_ok-snap.ensures.ok.0 in
+    let calls = c.in_ok-snap.ensures.ok.1 in
+    seen_before p t v.pass.seen calls.events b c.in_ok-snap.snap c.args.sight.now
+    (board_kept p t c.requires.turn c.events_keep.ensures.boards v c.snap.new.pass b c.requires.ready calls)
+    c.boards_serve.ensures.serves c.ids_stay.ensures calls.before
+    (legal p t v.pass c.snap.new.pass v.drawn.items v.notes.items Looked b c.requires.ready.knows calls)
+    c.in_ok-snap.ensures.ok.2 c.requires.sight
+
+pub returns-in_err-planned-clause-sight : goal.returns-in_err-planned-clause-sight
+returns-in_err-planned-clause-sight g c =
+    let b = c.in_ok-snap.ensures.ok.0 in
+    seen_last (pass_of c.args.job) c.args.turn.now c.snap.new.pass.seen b c.in_ok-snap.snap c.plan_on.new.sight
+    (board_kept (pass_of c.args.job) c.args.turn.now c.requires.turn c.events_keep.ensures.boards c.args.w.now
+    c.snap.new.pass b c.requires.ready c.in_ok-snap.ensures.ok.1)
+    (board_seen (pass_of c.args.job) c.args.turn.now c.requires.turn c.events_keep.ensures.boards c.args.w.now
+    c.snap.new.pass b c.requires.ready c.in_ok-snap.ensures.ok.1) c.in_ok-snap.ensures.ok.2 c.plan_on.ensures.sight
+
+pub returns-in-Shut-clause-sight : goal.returns-in-Shut-clause-sight
+returns-in-Shut-clause-sight g c =
+    let b = c.in_ok-snap.ensures.ok.0 in
+    seen_last (pass_of c.args.job) c.args.turn.now c.snap.new.pass.seen b c.in_ok-snap.snap c.plan_on.new.sight
+    (board_kept (pass_of c.args.job) c.args.turn.now c.requires.turn c.events_keep.ensures.boards c.args.w.now
+    c.snap.new.pass b c.requires.ready c.in_ok-snap.ensures.ok.1)
+    (board_seen (pass_of c.args.job) c.args.turn.now c.requires.turn c.events_keep.ensures.boards c.args.w.now
+    c.snap.new.pass b c.requires.ready c.in_ok-snap.ensures.ok.1) c.in_ok-snap.ensures.ok.2 c.plan_on.ensures.sight
+
+pub returns-clause-sight : goal.returns-clause-sight
+returns-clause-sight g c =
+    let b = c.in_ok-snap.ensures.ok.0 in
+    seen_last (pass_of c.args.job) c.args.turn.now c.snap.new.pass.seen b c.in_ok-snap.snap c.plan_on.new.sight
+    (board_kept (pass_of c.args.job) c.args.turn.now c.requires.turn c.events_keep.ensures.boards c.args.w.now
+    c.snap.new.pass b c.requires.ready c.in_ok-snap.ensures.ok.1)
+    (board_seen (pass_of c.args.job) c.args.turn.now c.requires.turn c.events_keep.ensures.boards c.args.w.now
+    c.snap.new.pass b c.requires.ready c.in_ok-snap.ensures.ok.1) c.in_ok-snap.ensures.ok.2 c.plan_on.ensures.sight
+
+pub returns-in-Offer-clause-sight : goal.returns-in-Offer-clause-sight
+returns-in-Offer-clause-sight g c =
+    let b = c.in_ok-snap.ensures.ok.0 in
+    seen_still (pass_of c.args.job) c.args.turn.now c.snap.new.pass.seen c.make.new.w.pass.seen c.plan_on.new.sight
+    c.make.ensures.after.seen
+    (seen_last (pass_of c.args.job) c.args.turn.now c.snap.new.pass.seen b c.in_ok-snap.snap c.plan_on.new.sight
+    (board_kept (pass_of c.args.job) c.args.turn.now c.requires.turn c.events_keep.ensures.boards c.args.w.now
+    c.snap.new.pass b c.requires.ready c.in_ok-snap.ensures.ok.1)
+    (board_seen (pass_of c.args.job) c.args.turn.now c.requires.turn c.events_keep.ensures.boards c.args.w.now
+    c.snap.new.pass b c.requires.ready c.in_ok-snap.ensures.ok.1) c.in_ok-snap.ensures.ok.2 c.plan_on.ensures.sight)

@@ -13,6 +13,7 @@ loop-late-preserved-in-Joined g c =
       ready = c.plan_and_offer.ensures.ready;
       after = after_on c.args.w.now c.loop-late.w c.plan_and_offer.new.w before.after went;
       within = before.within;
+      sight = c.plan_and_offer.ensures.sight;
       late = late_still c.loop-late.w.notes.items c.plan_and_offer.new.w.notes.items c.args.net c.loop-late.late
           went.notes before.late;
     }
@@ -30,6 +31,7 @@ loop-late-preserved g c =
       ready = c.plan_and_offer.ensures.ready;
       after = after_on c.args.w.now c.loop-late.w c.plan_and_offer.new.w before.after went;
       within = (let test = c.loop-late-test.true in omega (arith, test));
+      sight = c.plan_and_offer.ensures.sight;
       late = late_more c.loop-late.w.notes.items c.plan_and_offer.new.w.notes.items c.args.net c.loop-late.late late.0
           late.1 late.2 before.late;
     }

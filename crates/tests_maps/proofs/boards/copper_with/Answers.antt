@@ -1,4 +1,4 @@
-use Rattle.std.proofs.Common.{◌≡◌, ◌<◌, List, All, sym, ◌∙◌, ap, subst, length}
+use Rattle.std.proofs.Common.{◌<◌, List, All, sym, ◌∙◌, ap, subst}
 use Rattle.pcb_model.specs.declared.item.Item.{Item}
 use Rattle.pcb_model.specs.Bounds.{IsItemFit}
 use Rattle.tests_maps.proofs.Serving.{below}

@@ -28,7 +28,8 @@ use Rattle.move_maps.specs.Clear.{IsClearOf}
 use Rattle.move_maps.specs.Maps.{Misses, IsOutside, IsTally, IsMapOf, place_at}
 use Rattle.move_maps.specs.declared.map.GroupMap.{GroupMap}
 use Rattle.move_maps.specs.Paint.{IsClearAt}
-use Rattle.move_maps.specs.OwnCopper.{IsOutOfAll, IsOwnCopper, IsStepThere}
+use Rattle.move_maps.specs.Windows.{IsOutOfAll}
+use Rattle.move_maps.specs.OwnCopper.{IsOwnCopper, IsStepThere}
 use Rattle.move_maps.proofs.Alike.{same_clearance, same_probe, same_way_count}
 
 -- ---- steps

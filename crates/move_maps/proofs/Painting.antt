@@ -55,6 +55,17 @@ module _ (stroke : Stroke) (d : Design) (m : Mesh) (g : ℕ) (b : Item) where
       → IsClearAt d g b (probe_at d m g v i)) → Painted f t xs xs
   off f t xs h = record { size = refl; painted = λ v i k l u. inl (h v i k l u, refl); kept = λ k h. refl }
 
+  -- a node whose moves are all clear
+  pub node_off : (v : ℕ) (xs : List ℕ)
+      → ((i : ℕ) → i < way_count d m g → IsClearAt d g b (probe_at d m g v i))
+      → Painted (v * way_count d m g) ((v + 1) * way_count d m g) xs xs
+  node_off v xs h = off (v * way_count d m g) ((v + 1) * way_count d m g) xs (λ w i k l u.
+      let e = meet v w (from_node v (way_count d m g) w i k l) (to_node (v + 1) (way_count d m g) w i u) in
+      subst (λ n. IsClearAt d g b (probe_at d m g n i)) e (h i k))
+    where
+      meet : (x y : ℕ) → x ≤ y → y < x + 1 → x ≡ y
+      meet x y l u = omega (arith, l, u)
+
   -- one part, and the next
   pub go_on : (f t u : ℕ) (xs ys zs : List ℕ) → f ≤ t → t ≤ u → Painted f t xs ys → Painted t u ys zs
       → Painted f u xs zs

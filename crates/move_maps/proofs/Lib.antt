@@ -23,5 +23,6 @@ pub mod Mapped
 pub mod Following
 pub mod Windowed
 pub mod Linking
+pub mod Layered
 pub mod Foreign
 pub mod Strides

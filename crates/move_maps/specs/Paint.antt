@@ -5,7 +5,7 @@ use Rattle.pcb_model.specs.declared.item.Item.{Item}
 use Rattle.pcb_model.specs.declared.item.Probe.{Probe}
 use Rattle.pcb_model.specs.declared.item.Probe.TheVariants as probe
 use Rattle.pcb_model.specs.declared.design.Design.{Design}
-use Rattle.route_lattice.specs.Mesh.{Mesh, node_count, point_of}
+use Rattle.route_lattice.specs.Mesh.{Mesh, node_count, level, point_of}
 use Rattle.pcb_model.specs.declared.near.Extent.{Extent}
 use Rattle.pcb_model.specs.Bounds.{HasRulesWithin}
 use Rattle.pcb_model.specs.Near.{IsExtentOf}
@@ -94,6 +94,11 @@ pub record IsHeld (w u : Window) : Type 0 where
   pub right : w.right ≤ u.right
   pub bottom : u.bottom ≤ w.bottom
   pub top : w.top ≤ u.top
+
+-- the moves below a number, at each node of a signal layer, are clear of the item
+pub record AreFirstClear (d : Design) (m : Mesh) (g : ℕ) (b : Item) (l first : ℕ) : Type 0 where
+  pub within : first ≤ way_count d m g
+  pub each : (v i : ℕ) → v < node_count m → level m v ≡ l → i < first → IsClearAt d g b (probe_at d m g v i)
 
 -- what is needed to paint an item into the counts of a group: the moves of its first net, the item's extent, a distance
 -- that no clearance is above, and the windows of the nodes whose moves it may shut: one of all, and those of its parts

@@ -20,7 +20,7 @@ use geo_kernel::{Point, Spine};
 use pcb_model::{Design, Extent, Item, Piece, Probe};
 use route_lattice::Lattice;
 
-/// So many windows stand apart; those of further links are joined to the last.
+/// So many windows stand apart in a list; further ones are joined to the last.
 pub(crate) const MOST_APART: usize = 32;
 
 // Adds a window, or joins it to the last of many.

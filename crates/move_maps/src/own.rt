@@ -11,14 +11,12 @@ ghost use Rattle.move_maps.specs.Windows.{IsOutOfAll, Widens};
 ghost use Rattle.move_maps.specs.OwnCopper.{IsOwnCopper, TakesOwn};
 
 use crate::cover::{joined, step_window};
+use crate::links::MOST_APART;
 use crate::window::{Window, is_out_of_all};
 use pcb_model::{Copper, Design, Extent, Item, reach_of};
 use route_lattice::Lattice;
 use std::alloc::{AllocError, Global};
 use std::marker::Model;
-
-/// So many windows stand apart; those of further items are joined to the last.
-const MOST_APART: usize = 32;
 
 /// Windows round the copper of a net. Contracts see them as their list.
 #[derive(Drop)]

@@ -4,11 +4,11 @@ ghost use Rattle.std.specs.Prelude.{◌≡◌, ◌+◌, ◌*◌, ◌<◌, ◌≤
 ghost use Rattle.pcb_model.specs.Bounds.{IsProbeFit, HasRulesWithin};
 ghost use Rattle.pcb_model.specs.Sound.{IsSound, IsItemOf};
 ghost use Rattle.route_lattice.specs.Fits.{FitsDesign};
-ghost use Rattle.route_lattice.specs.Mesh.{node_count, column as column_of, row as row_of};
-ghost use Rattle.route_lattice.specs.Ways.{way_count};
+ghost use Rattle.route_lattice.specs.Mesh.{node_count, column as column_of, row as row_of, level as level_of};
+ghost use Rattle.route_lattice.specs.Ways.{way_count, has_copper as has_copper_on};
 ghost use Rattle.route_lattice.specs.Legal.{probe_at};
 ghost use Rattle.move_maps.specs.Clear.{IsClearOf};
-ghost use Rattle.move_maps.specs.Paint.{IsClearAt, turned as turned_by, Paints, IsBrush};
+ghost use Rattle.move_maps.specs.Paint.{IsClearAt, turned as turned_by, Paints, IsBrush, AreFirstClear};
 
 use crate::clear::is_clear;
 use crate::counts::Counts;
@@ -17,7 +17,7 @@ use crate::links::{MOST_APART, windows_near};
 use crate::span::row_span;
 use crate::window::{Window, is_out_of_all};
 use arrayvec::ArrayVec;
-use pcb_model::{Copper, Design, Extent, Item, Probe};
+use pcb_model::{Copper, Design, Extent, Item, Piece, Probe};
 use route_lattice::{Lattice, LegalMoves};
 
 /// What becomes of the counts of the moves that an item shuts: one more where it comes, one fewer where it goes; where
@@ -38,6 +38,13 @@ fn turned(stroke: Stroke, n: u8) -> u8
         Stroke::Goes if n < u8::MAX => n.saturating_sub(1),
         _ => u8::MAX,
     }
+}
+
+// Whether some piece lies on the layer.
+fn has_copper(pieces: &[Piece], layer: u8) -> bool
+    ensures { result ≡ has_copper_on pieces.now layer }
+{
+    pieces.iter().any(|q| q.layer == layer)
 }
 
 /// An item that comes, goes or stays, with the moves of a group's first net, and the windows of the nodes whose moves
@@ -143,25 +150,27 @@ impl<'a, C: Copper> Brush<'a, C> {
         counts.set(place, turned(self.stroke, n));
     }
 
-    // Paints the moves of a node.
-    fn paint_node(&self, counts: &mut Counts, node: u32)
+    // Paints the moves of a node, from the first that the item may shut.
+    fn paint_node(&self, counts: &mut Counts, node: u32, first: u32)
         requires ready { let s = self.now in let t = s.moves in
             IsBrush t.d.now t.lat.now t.net t.via_cost s.item.now s.extent s.reach s.window s.windows.items }
         requires size { let s = self.now.moves in
             length counts.old ≡ node_count s.lat.now * way_count s.d.now s.lat.now s.net }
         requires node { node < node_count self.now.moves.lat.now }
+        requires clear { let s = self.now.moves in let m = s.lat.now in
+            AreFirstClear s.d.now m s.net self.now.item.now (level_of m node) first }
         ensures { let s = self.now.moves in let d = s.d.now in let m = s.lat.now in
             let a = way_count d m s.net in
             Paints self.now.stroke d m s.net self.now.item.now (node * a) ((node + 1) * a)
             counts.old counts.new }
     {
-        for i in 0..self.moves.arity {
+        for i in first..self.moves.arity {
             self.paint_place(counts, node, i);
         }
     }
 
     // Paints the moves of a node, if it is in one of the windows.
-    fn paint_crossing(&self, counts: &mut Counts, node: u32, column: usize, row: usize)
+    fn paint_crossing(&self, counts: &mut Counts, node: u32, column: usize, row: usize, first: u32)
         requires ready { let s = self.now in let t = s.moves in
             IsBrush t.d.now t.lat.now t.net t.via_cost s.item.now s.extent s.reach s.window s.windows.items }
         requires size { let s = self.now.moves in
@@ -169,6 +178,8 @@ impl<'a, C: Copper> Brush<'a, C> {
         requires node { node < node_count self.now.moves.lat.now }
         requires column { column_of self.now.moves.lat.now node ≡ column }
         requires row { row_of self.now.moves.lat.now node ≡ row }
+        requires clear { let s = self.now.moves in let m = s.lat.now in
+            AreFirstClear s.d.now m s.net self.now.item.now (level_of m node) first }
         ensures { let s = self.now.moves in let d = s.d.now in let m = s.lat.now in
             let a = way_count d m s.net in
             Paints self.now.stroke d m s.net self.now.item.now (node * a) ((node + 1) * a)
@@ -177,11 +188,11 @@ impl<'a, C: Copper> Brush<'a, C> {
         if is_out_of_all(self.windows.as_slice(), column, row) {
             return;
         }
-        self.paint_node(counts, node);
+        self.paint_node(counts, node, first);
     }
 
     // Paints a line of nodes across: those in the columns that the windows hold there.
-    fn paint_line(&self, counts: &mut Counts, level: usize, row: usize)
+    fn paint_line(&self, counts: &mut Counts, level: usize, row: usize, first: u32)
         requires ready { let s = self.now in let t = s.moves in
             IsBrush t.d.now t.lat.now t.net t.via_cost s.item.now s.extent s.reach s.window s.windows.items }
         requires size { let s = self.now.moves in
@@ -189,6 +200,8 @@ impl<'a, C: Copper> Brush<'a, C> {
         requires some { 0 < node_count self.now.moves.lat.now }
         requires level { level < length self.now.moves.lat.now.layers }
         requires row { row < length self.now.moves.lat.now.ys }
+        requires clear { let s = self.now.moves in
+            AreFirstClear s.d.now s.lat.now s.net self.now.item.now level first }
         ensures { let s = self.now.moves in let d = s.d.now in let m = s.lat.now in
             let a = way_count d m s.net in
             Paints self.now.stroke d m s.net self.now.item.now ((level * length m.ys + row) * length m.xs * a)
@@ -196,11 +209,24 @@ impl<'a, C: Copper> Brush<'a, C> {
             counts.old counts.new }
     {
         let width = self.moves.lat.xs().len();
-        let first = (level * self.moves.lat.ys().len() + row) * width;
+        let start = (level * self.moves.lat.ys().len() + row) * width;
         let span = row_span(self.windows.as_slice(), width, row);
         for column in span.left..span.right {
-            self.paint_crossing(counts, (first + column) as u32, column, row);
+            self.paint_crossing(counts, (start + column) as u32, column, row, first);
         }
+    }
+
+    // The first move that the item may shut at the nodes of a signal layer: where it has no copper, no step.
+    fn first_move(&self, level: usize) -> u32
+        requires { level < length self.now.moves.lat.now.layers }
+        ensures { let s = self.now.moves in
+            AreFirstClear s.d.now s.lat.now s.net self.now.item.now level result }
+    {
+        let layer = self.moves.lat.layers().as_slice()[level];
+        if has_copper(self.item.pieces.as_slice(), layer) {
+            return 0;
+        }
+        4
     }
 
     // Paints the nodes of a signal layer: those in the window's rows.
@@ -217,8 +243,9 @@ impl<'a, C: Copper> Brush<'a, C> {
             ((level + 1) * length m.ys * length m.xs * a)
             counts.old counts.new }
     {
+        let first = self.first_move(level);
         for row in self.window.bottom..self.window.top {
-            self.paint_line(counts, level, row);
+            self.paint_line(counts, level, row, first);
         }
     }
 

@@ -19,3 +19,6 @@ returns-then-is_out_of_all g c =
 
 pub paint_node-requires-clause-ready : goal.paint_node-requires-clause-ready
 paint_node-requires-clause-ready g c = c.requires.ready
+
+pub paint_node-requires-clause-clear : goal.paint_node-requires-clause-clear
+paint_node-requires-clause-clear g c = c.requires.clear

@@ -38,3 +38,6 @@ returns g c =
     level_end s.stroke t.d.now t.lat.now t.net s.item.now s.window c.requires.ready.covers w c.args.counts.now
     c.loop-row.counts c.args.level c.loop-row.row c.requires.level
     (equal c.loop-row.row s.window.top (c.loop-row.auto.row-end w.rows) c.loop-row-test.false) c.loop-row.invariant
+
+pub paint_line-requires-clause-clear : goal.paint_line-requires-clause-clear
+paint_line-requires-clause-clear g c = c.first_move-first.ensures

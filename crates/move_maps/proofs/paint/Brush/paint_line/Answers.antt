@@ -3,6 +3,7 @@ use Rattle.route_lattice.specs.Ways.{way_count}
 use Rattle.move_maps.specs.Paint.{Paints}
 use Rattle.move_maps.proofs.Lines.{left_of, line_next, line_end, row_small, place_small}
 use Rattle.move_maps.proofs.Spanning.{line_sides}
+use Rattle.move_maps.proofs.Layered.{clear_at}
 use Rattle.move_maps.proofs.paint.Brush.paint_line.Goals as goal
 
 inside : (col right n : ℕ) → col < right → right ≤ n → col < n
@@ -40,8 +41,8 @@ loop-column-preserved g c =
     (((c.args.level * c.len.result + c.args.row) * n + col) * a)
     (((c.args.level * c.len.result + c.args.row) * n + col + 1) * a) xs ys) ew c.paint_crossing.ensures))
 
-pub overflow_add-first-in-loop-column : goal.overflow_add-first-in-loop-column
-overflow_add-first-in-loop-column g c =
+pub overflow_add-start-in-loop-column : goal.overflow_add-start-in-loop-column
+overflow_add-start-in-loop-column g c =
     let m = c.args.self.now.moves.lat.now in let r = c.requires in
     let ew = c.len-width.ensures ∙ ap length c.xs.ensures in
     let k = (place_small (length m.layers) (length m.ys) (length m.xs) c.args.level c.args.row c.loop-column.column
@@ -51,8 +52,8 @@ overflow_add-first-in-loop-column g c =
     (subst (λ n. c.row_span-span.result.right ≤ n) ew c.row_span-span.ensures.span.within))).1 in
     omega (arith, k)
 
-pub overflow_cast-first : goal.overflow_cast-first
-overflow_cast-first g c =
+pub overflow_cast-start : goal.overflow_cast-start
+overflow_cast-start g c =
     let m = c.args.self.now.moves.lat.now in let r = c.requires in
     let ew = c.len-width.ensures ∙ ap length c.xs.ensures in
     let k = (place_small (length m.layers) (length m.ys) (length m.xs) c.args.level c.args.row c.loop-column.column
@@ -61,6 +62,15 @@ overflow_cast-first g c =
     (inside c.loop-column.column c.row_span-span.result.right (length m.xs) c.loop-column-test.true
     (subst (λ n. c.row_span-span.result.right ≤ n) ew c.row_span-span.ensures.span.within))).1 in
     omega (arith, k)
+
+pub paint_crossing-requires-clause-clear : goal.paint_crossing-requires-clause-clear
+paint_crossing-requires-clause-clear g c =
+    let s = c.args.self.now in let t = s.moves in let m = t.lat.now in
+    let ew = c.len-width.ensures ∙ ap length c.xs.ensures in
+    clear_at t.d.now m t.net s.item.now c.args.level c.args.row c.loop-column.column c.args.first c.len.result
+    c.len-width.result (c.len.ensures ∙ ap length c.ys.ensures) ew c.requires.row
+    (inside c.loop-column.column c.row_span-span.result.right (length m.xs) c.loop-column-test.true
+    (subst (λ n. c.row_span-span.result.right ≤ n) ew c.row_span-span.ensures.span.within)) c.requires.clear
 
 pub returns : goal.returns
 returns g c =

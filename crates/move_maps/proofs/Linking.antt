@@ -1,6 +1,6 @@
 -- Windows link by link: a node out of those of all links has moves that are clear of the item.
-use Rattle.std.proofs.Common.{◌≡◌, ℕ, ◌+◌, ◌-◌, ◌<◌, ◌≤◌, ◌^◌, List, [], ◌∷◌, ◌++◌, map, flat_map, length, All, refl, sym}
-use Rattle.std.proofs.Common.{ap, subst, arith, take, drop, get_or, add-one, drop-cons, length-drop}
+use Rattle.std.proofs.Common.{◌≡◌, ℕ, ◌+◌, ◌-◌, ◌<◌, ◌≤◌, ◌^◌, List, [], ◌∷◌, ◌++◌, map, flat_map, length, All, refl}
+use Rattle.std.proofs.Common.{sym, ap, subst, arith, take, drop, get_or, add-one, drop-cons, length-drop}
 use Rattle.std.proofs.lemmas.List.{drop_all, take_all}
 use Rattle.std.proofs.lemmas.List.Elements.{All-nil, All-cons, All-append, All-weaker, All-drop}
 use Rattle.geo_kernel.specs.declared.point.Point.{Point}

@@ -1,10 +1,7 @@
-use Rattle.std.proofs.Common.{◌≡◌, ℕ, ◌+◌, ◌*◌, ◌≤◌, ◌<◌, refl, ◌∙◌, subst, arith}
+use Rattle.std.proofs.Common.{◌≡◌, ℕ, ◌+◌, ◌*◌, ◌≤◌, ◌<◌, refl, sym, ◌∙◌, subst, arith}
 use Rattle.route_lattice.specs.Ways.{way_count}
-use Rattle.move_maps.proofs.Painting.{begins, goes_on, at_ends}
+use Rattle.move_maps.proofs.Painting.{firsts_off, goes_on, at_ends}
 use Rattle.move_maps.proofs.paint.Brush.paint_node.Goals as goal
-
-start : (n : ℕ) → n + 0 ≡ n
-start n = omega arith
 
 after : (n i : ℕ) → n + i + 1 ≡ n + (i + 1)
 after n i = omega arith
@@ -21,8 +18,8 @@ equal i n h k = omega (arith, h, k)
 pub loop-i-init : goal.loop-i-init
 loop-i-init g c =
     let s = c.args.self.now in let t = s.moves in
-    let n = c.args.node * way_count t.d.now t.lat.now t.net in
-    begins s.stroke t.d.now t.lat.now t.net s.item.now n (n + 0) c.args.counts.now (start n)
+    firsts_off s.stroke t.d.now t.lat.now t.net s.item.now c.args.node c.args.first c.args.counts.now
+    c.requires.clear.within (λ i h. c.requires.clear.each c.args.node i c.requires.node refl h)
 
 pub loop-i-preserved : goal.loop-i-preserved
 loop-i-preserved g c =
@@ -44,10 +41,11 @@ returns g c =
     let s = c.args.self.now in let t = s.moves in
     let a = way_count t.d.now t.lat.now t.net in
     let n = c.args.node * a in
+    let few = subst (λ k. c.args.first ≤ k) (sym t.arity_is) c.requires.clear.within in
     at_ends s.stroke t.d.now t.lat.now t.net s.item.now n n (n + c.loop-i.i)
     ((c.args.node + 1) * a) c.args.counts.now c.loop-i.counts refl
-    (last c.args.node a c.loop-i.i (equal c.loop-i.i t.arity c.loop-i.auto.i-end c.loop-i-test.false ∙ t.arity_is))
-    c.loop-i.invariant
+    (last c.args.node a c.loop-i.i
+    (equal c.loop-i.i t.arity (c.loop-i.auto.i-end few) c.loop-i-test.false ∙ t.arity_is)) c.loop-i.invariant
 
 pub paint_place-requires-clause-ready : goal.paint_place-requires-clause-ready
 paint_place-requires-clause-ready g c = c.requires.ready

@@ -23,3 +23,5 @@ pub mod Following
 pub mod Windowed
 pub mod Foreign
 pub mod Strides
+pub mod Fences
+pub mod Spotting

@@ -2,7 +2,7 @@
 use Rattle.std.proofs.Common.{◌≡◌, ◌≢◌, IsTrue, ◌↔◌, ℕ, ◌+◌, ◌*◌, ◌/◌, ◌%◌, ◌<◌, ◌≤◌, Bool, true, false, ltb-true, List}
 use Rattle.std.proofs.Common.{length, set, refl, sym, ap, ◌∙◌, subst, arith, ◌⊎◌, inl, inr, get_or-set_same}
 use Rattle.std.proofs.Common.{get_or-set_other}
-use Rattle.std.specs.Prelude.{nat_lt, slice_index}
+use Rattle.std.specs.Prelude.{nat_lt, not, slice_index}
 use Rattle.std.proofs.lemmas.Bool.{ltb-false}
 use Rattle.std.proofs.lemmas.Nat.{mul-add-lt, div-mul-add, mod-mul-add}
 use Rattle.std.proofs.lemmas.List.{length-set}
@@ -167,10 +167,15 @@ pub place_within : (n a v i k : ℕ) → v < n → i < a → k ≡ n * a → v *
 place_within n a v i k hv hi e = let l = mul-add-lt v a i n hv hi in omega (arith, l, e)
 
 -- a test isn't both
-not_both : (t : Bool) → t ≡ true → t ≡ false → ⊥
+pub not_both : (t : Bool) → t ≡ true → t ≡ false → ⊥
 not_both true e k = cc
 not_both false e k = cc
 
 -- what a failed test denies
 pub not_clear : (t : Bool) (P : Type 0) → IsTrue t ↔ P → t ≡ false → ¬ P
 not_clear t P h e = λ p. not_both t (h.1 p) e
+
+-- a negation that holds
+pub not_true : (t : Bool) → not t ≡ true → t ≡ false
+not_true true e = cc
+not_true false e = refl

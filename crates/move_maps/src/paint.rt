@@ -1,20 +1,32 @@
 //! An item painted into the counts of a group: each place in the item's window is tested once.
 
-ghost use Rattle.std.specs.Prelude.{◌≡◌, ◌+◌, ◌*◌, ◌<◌, ◌≤◌, ◌^◌, ◌↔◌, length, IsTrue};
-ghost use Rattle.pcb_model.specs.Bounds.{IsProbeFit, HasRulesWithin};
+ghost use Rattle.std.specs.Prelude.{◌≡◌, ◌+◌, ◌*◌, ◌<◌, ◌≤◌, ◌^◌, ◌↔◌, [], ◌∷◌, true, length, slice_index, IsTrue};
+ghost use Rattle.std.specs.Bool.{OnTrue};
+ghost use Rattle.geo_kernel.specs.Plane.{IsWithin};
+ghost use Rattle.pcb_model.specs.declared.item.Probe.TheVariants as probe;
+ghost use Rattle.pcb_model.specs.Bounds.{HasRulesWithin, IsFit};
+ghost use Rattle.pcb_model.specs.Pieces.{padstack_pieces as padstack_pieces_of, wire_piece};
 ghost use Rattle.pcb_model.specs.Sound.{IsSound, IsItemOf};
 ghost use Rattle.route_lattice.specs.Fits.{FitsDesign};
-ghost use Rattle.route_lattice.specs.Mesh.{node_count};
-ghost use Rattle.route_lattice.specs.Ways.{way_count};
+ghost use Rattle.route_lattice.specs.Mesh.{node_count, node_at};
+ghost use Rattle.route_lattice.specs.Near.{are_near_at};
+ghost use Rattle.route_lattice.specs.Ways.{way_count, vias_of};
 ghost use Rattle.route_lattice.specs.Legal.{probe_at};
 ghost use Rattle.move_maps.specs.Clear.{IsClearOf};
+ghost use Rattle.move_maps.specs.Margins.{ShutsSteps};
+ghost use Rattle.move_maps.specs.Maps.{place_at};
 ghost use Rattle.move_maps.specs.Paint.{IsClearAt, turned as turned_by, Paints, IsBrush};
+ghost use Rattle.move_maps.specs.Spots.{IsSpotOf};
 
-use crate::clear::is_clear;
+use crate::clear::{is_via_clear, padstack_pieces};
 use crate::counts::Counts;
 use crate::cover::cover;
+use crate::joins::{join_layers, pieces_near};
+use crate::margins::Margins;
+use crate::spot::{Spot, next_point};
 use crate::window::Window;
-use pcb_model::{Copper, Design, Extent, Item, Probe};
+use geo_kernel::Point;
+use pcb_model::{Copper, Design, Extent, Item};
 use route_lattice::{Lattice, LegalMoves};
 
 /// What becomes of the counts of the moves that an item shuts: one more where it comes, one fewer where it goes; where
@@ -43,8 +55,7 @@ fn turned(stroke: Stroke, n: u8) -> u8
 pub(crate) struct Brush<'a, C: Copper> {
     moves: LegalMoves<'a, C>,
     item: &'a Item,
-    extent: Extent,
-    reach: u64,
+    margins: Margins,
     window: Window,
     stroke: Stroke,
 }
@@ -73,110 +84,268 @@ impl<'a, C: Copper> Brush<'a, C> {
         ensures item { result.item.now ≡ item.now }
         ensures stroke { result.stroke ≡ stroke }
         ensures ready { let s = result in let t = s.moves in
-            IsBrush t.d.now t.lat.now t.net t.via_cost s.item.now s.extent s.reach s.window }
+            IsBrush t.d.now t.lat.now t.net t.via_cost s.item.now s.margins s.window }
     {
         let window = cover(lat, d, g, item, reach);
         Brush {
             moves: LegalMoves::of(lat, d, c, g, 0),
             item,
-            extent: Extent::of_item(item),
-            reach,
+            margins: Margins::of(d, g, item, Extent::of_item(item)),
             window,
             stroke,
         }
     }
 
-    fn is_clear_of(&self, p: &Probe) -> bool
+    // Whether a step between the spot and a point is clear. `shut` says that no step from the spot is.
+    fn is_clear_to(&self, spot: &Spot, to: Point, shut: bool) -> bool
         requires ready { let s = self.now in let t = s.moves in
-            IsBrush t.d.now t.lat.now t.net t.via_cost s.item.now s.extent s.reach s.window }
-        requires p_fits { IsProbeFit self.now.moves.d.now p.now }
-        ensures { IsTrue result ↔ IsClearOf self.now.moves.d.now self.now.moves.net p.now self.now.item.now }
+            IsBrush t.d.now t.lat.now t.net t.via_cost s.item.now s.margins s.window }
+        requires fit { IsFit (wire_piece spot.now.layer self.now.margins.width (spot.now.at ∷ to ∷ [])) }
+        requires shut { let s = self.now in
+            OnTrue shut (ShutsSteps s.margins.wires spot.now.layer s.margins.width spot.now.at s.item.now) }
+        ensures { let s = self.now in IsTrue result ↔ IsClearOf s.moves.d.now s.moves.net
+            (probe.Step spot.now.layer s.margins.width spot.now.at to) s.item.now }
     {
-        let extent = Extent::of_probe(self.moves.d, p);
-        if extent.is_far_from(&self.extent, self.reach) {
-            return true;
+        if shut {
+            return false;
         }
-        is_clear(self.moves.d, self.moves.net, p, self.item)
+        self.margins.step_keeps(spot.layer, spot.at, to, self.item)
     }
 
-    fn is_clear_at(&self, node: u32, i: u32) -> bool
+    // Whether the step of a direction is clear, or there is none.
+    fn is_step_clear(&self, spot: &Spot, dir: u32, shut: bool) -> bool
         requires ready { let s = self.now in let t = s.moves in
-            IsBrush t.d.now t.lat.now t.net t.via_cost s.item.now s.extent s.reach s.window }
-        requires node { node < node_count self.now.moves.lat.now }
-        requires index { let s = self.now.moves in i < way_count s.d.now s.lat.now s.net }
+            IsBrush t.d.now t.lat.now t.net t.via_cost s.item.now s.margins s.window }
+        requires spot { IsSpotOf self.now.moves.lat.now spot.now }
+        requires dir { dir < 4 }
+        requires shut { let s = self.now in
+            OnTrue shut (ShutsSteps s.margins.wires spot.now.layer s.margins.width spot.now.at s.item.now) }
         ensures { let s = self.now.moves in
-            IsTrue result ↔ IsClearAt s.d.now s.net self.now.item.now (probe_at s.d.now s.lat.now s.net node i) }
+            IsTrue result ↔ IsClearAt s.d.now s.net self.now.item.now (probe_at s.d.now s.lat.now s.net spot.now.node dir) }
     {
-        match self.moves.probe(node, i) {
-            Some(p) => self.is_clear_of(&p),
+        match next_point(self.moves.lat, spot, dir) {
+            Some(to) => self.is_clear_to(spot, to, shut),
             None => true,
         }
     }
 
-    // Paints a move.
-    fn paint_place(&self, counts: &mut Counts, node: u32, i: u32)
+    // Whether the vias of a padstack at a point are clear, or there is none.
+    fn is_stack_clear(&self, padstack: u32, at: Point) -> bool
         requires ready { let s = self.now in let t = s.moves in
-            IsBrush t.d.now t.lat.now t.net t.via_cost s.item.now s.extent s.reach s.window }
+            IsBrush t.d.now t.lat.now t.net t.via_cost s.item.now s.margins s.window }
+        requires at { IsWithin (2 ^ 29) at }
+        ensures { let s = self.now.moves in
+            IsTrue result ↔ (are_near_at at (padstack_pieces_of s.d.now padstack) ≡ true
+            → IsClearOf s.d.now s.net (probe.Via padstack at) self.now.item.now) }
+    {
+        let d = self.moves.d;
+        if !pieces_near(padstack_pieces(d, padstack), at) {
+            return true;
+        }
+        is_via_clear(d, self.moves.net, self.margins.vias, padstack, at, self.item)
+    }
+
+    // The place of a move's count.
+    fn place(&self, counts: &Counts, node: u32, i: usize) -> usize
+        requires size { let s = self.now.moves in
+            length counts.now ≡ node_count s.lat.now * way_count s.d.now s.lat.now s.net }
+        requires node { node < node_count self.now.moves.lat.now }
+        requires index { let s = self.now.moves in i < way_count s.d.now s.lat.now s.net }
+        ensures value { let s = self.now.moves in result ≡ place_at s.d.now s.lat.now s.net node i }
+        ensures there { result < length counts.now }
+    {
+        let _counts = counts;
+        node as usize * self.moves.arity as usize + i
+    }
+
+    // Whether a move's count is the top, which stays.
+    fn is_top(&self, counts: &Counts, node: u32, i: usize) -> bool
+        requires size { let s = self.now.moves in
+            length counts.now ≡ node_count s.lat.now * way_count s.d.now s.lat.now s.net }
+        requires node { node < node_count self.now.moves.lat.now }
+        requires index { let s = self.now.moves in i < way_count s.d.now s.lat.now s.net }
+        ensures { let s = self.now.moves in
+            OnTrue result (slice_index counts.now (place_at s.d.now s.lat.now s.net node i) ≡ 255) }
+    {
+        counts.get(self.place(counts, node, i)) == u8::MAX
+    }
+
+    // Paints a move that isn't clear.
+    fn turn(&self, counts: &mut Counts, node: u32, i: usize)
         requires size { let s = self.now.moves in
             length counts.old ≡ node_count s.lat.now * way_count s.d.now s.lat.now s.net }
         requires node { node < node_count self.now.moves.lat.now }
         requires index { let s = self.now.moves in i < way_count s.d.now s.lat.now s.net }
+        requires shut { let s = self.now.moves in
+            ¬ (IsClearAt s.d.now s.net self.now.item.now (probe_at s.d.now s.lat.now s.net node i)) }
         ensures { let s = self.now.moves in let d = s.d.now in let m = s.lat.now in
             let a = way_count d m s.net in
             Paints self.now.stroke d m s.net self.now.item.now (node * a + i) (node * a + i + 1)
             counts.old counts.new }
     {
-        let place = node as usize * self.moves.arity as usize + i as usize;
+        let place = self.place(counts, node, i);
         let n = counts.get(place);
-        if n == u8::MAX {
-            return;
-        }
-        if self.is_clear_at(node, i) {
-            return;
-        }
         counts.set(place, turned(self.stroke, n));
     }
 
-    // Paints the moves of a node.
-    fn paint_node(&self, counts: &mut Counts, node: u32)
+    // Paints a step.
+    fn paint_step(&self, counts: &mut Counts, spot: &Spot, dir: u32, shut: bool)
         requires ready { let s = self.now in let t = s.moves in
-            IsBrush t.d.now t.lat.now t.net t.via_cost s.item.now s.extent s.reach s.window }
+            IsBrush t.d.now t.lat.now t.net t.via_cost s.item.now s.margins s.window }
         requires size { let s = self.now.moves in
             length counts.old ≡ node_count s.lat.now * way_count s.d.now s.lat.now s.net }
-        requires node { node < node_count self.now.moves.lat.now }
+        requires spot { IsSpotOf self.now.moves.lat.now spot.now }
+        requires dir { dir < 4 }
+        requires shut { let s = self.now in
+            OnTrue shut (ShutsSteps s.margins.wires spot.now.layer s.margins.width spot.now.at s.item.now) }
         ensures { let s = self.now.moves in let d = s.d.now in let m = s.lat.now in
-            let a = way_count d m s.net in
-            Paints self.now.stroke d m s.net self.now.item.now (node * a) ((node + 1) * a)
-            counts.old counts.new }
+            let p = spot.now.node * way_count d m s.net + dir in
+            Paints self.now.stroke d m s.net self.now.item.now p (p + 1) counts.old counts.new }
     {
-        for i in 0..self.moves.arity {
-            self.paint_place(counts, node, i);
+        if self.is_top(counts, spot.node, dir as usize) {
+            return;
+        }
+        if self.is_step_clear(spot, dir, shut) {
+            return;
+        }
+        self.turn(counts, spot.node, dir as usize);
+    }
+
+    // Paints the steps of a node.
+    fn paint_steps(&self, counts: &mut Counts, spot: &Spot)
+        requires ready { let s = self.now in let t = s.moves in
+            IsBrush t.d.now t.lat.now t.net t.via_cost s.item.now s.margins s.window }
+        requires size { let s = self.now.moves in
+            length counts.old ≡ node_count s.lat.now * way_count s.d.now s.lat.now s.net }
+        requires spot { IsSpotOf self.now.moves.lat.now spot.now }
+        ensures { let s = self.now.moves in let d = s.d.now in let m = s.lat.now in
+            let p = spot.now.node * way_count d m s.net in
+            Paints self.now.stroke d m s.net self.now.item.now p (p + 4) counts.old counts.new }
+    {
+        let shut = self.margins.shuts_steps(spot.layer, spot.at, self.item);
+        for dir in 0..4 {
+            self.paint_step(counts, spot, dir, shut);
         }
     }
 
-    // Paints a line of nodes across: those in the window's columns.
-    fn paint_line(&self, counts: &mut Counts, line: usize)
+    // Paints the via of a padstack to signal layer `level`, where vias of the padstack aren't clear.
+    // `first` is the index of the padstack's first via.
+    fn paint_via(&self, counts: &mut Counts, spot: &Spot, number: usize, padstack: u32, level: usize)
         requires ready { let s = self.now in let t = s.moves in
-            IsBrush t.d.now t.lat.now t.net t.via_cost s.item.now s.extent s.reach s.window }
+            IsBrush t.d.now t.lat.now t.net t.via_cost s.item.now s.margins s.window }
         requires size { let s = self.now.moves in
             length counts.old ≡ node_count s.lat.now * way_count s.d.now s.lat.now s.net }
-        requires line { line < length self.now.moves.lat.now.layers * length self.now.moves.lat.now.ys }
+        requires spot { IsSpotOf self.now.moves.lat.now spot.now }
+        requires number { let s = self.now.moves in number < length (vias_of s.d.now s.net) }
+        requires padstack { let s = self.now.moves in slice_index (vias_of s.d.now s.net) number ≡ padstack }
+        requires level { level < length self.now.moves.lat.now.layers }
+        requires shut { let s = self.now.moves in
+            ¬ (are_near_at spot.now.at (padstack_pieces_of s.d.now padstack) ≡ true
+            → IsClearOf s.d.now s.net (probe.Via padstack spot.now.at) self.now.item.now) }
+        ensures { let s = self.now.moves in let d = s.d.now in let m = s.lat.now in
+            let p = spot.now.node * way_count d m s.net + (4 + number * length m.layers + level) in
+            Paints self.now.stroke d m s.net self.now.item.now p (p + 1) counts.old counts.new }
+    {
+        let layers = self.moves.lat.layers().as_slice();
+        let i = 4 + number * layers.len() + level;
+        if self.is_top(counts, spot.node, i) {
+            return;
+        }
+        let pieces = padstack_pieces(self.moves.d, padstack);
+        if !join_layers(pieces, spot.layer, layers[level]) {
+            return;
+        }
+        self.turn(counts, spot.node, i);
+    }
+
+    // Paints the vias of a node of one of the net's padstacks. Whether they are clear is asked once.
+    fn paint_stack(&self, counts: &mut Counts, spot: &Spot, number: usize)
+        requires ready { let s = self.now in let t = s.moves in
+            IsBrush t.d.now t.lat.now t.net t.via_cost s.item.now s.margins s.window }
+        requires size { let s = self.now.moves in
+            length counts.old ≡ node_count s.lat.now * way_count s.d.now s.lat.now s.net }
+        requires spot { IsSpotOf self.now.moves.lat.now spot.now }
+        requires number { let s = self.now.moves in number < length (vias_of s.d.now s.net) }
+        ensures { let s = self.now.moves in let d = s.d.now in let m = s.lat.now in
+            let p = spot.now.node * way_count d m s.net in
+            Paints self.now.stroke d m s.net self.now.item.now (p + (4 + number * length m.layers))
+            (p + (4 + (number + 1) * length m.layers)) counts.old counts.new }
+    {
+        let padstack = self.vias()[number];
+        if self.is_stack_clear(padstack, spot.at) {
+            return;
+        }
+        for level in 0..self.moves.lat.layers().len() {
+            self.paint_via(counts, spot, number, padstack, level);
+        }
+    }
+
+    // The padstacks of the net's vias.
+    fn vias(&self) -> &[u32]
+        requires net { self.now.moves.net < length self.now.moves.d.now.nets }
+        ensures { result.now ≡ vias_of self.now.moves.d.now self.now.moves.net }
+    {
+        self.moves.d.nets.as_slice()[self.moves.net as usize].vias.as_slice()
+    }
+
+    // Paints the vias of a node.
+    fn paint_vias(&self, counts: &mut Counts, spot: &Spot)
+        requires ready { let s = self.now in let t = s.moves in
+            IsBrush t.d.now t.lat.now t.net t.via_cost s.item.now s.margins s.window }
+        requires size { let s = self.now.moves in
+            length counts.old ≡ node_count s.lat.now * way_count s.d.now s.lat.now s.net }
+        requires spot { IsSpotOf self.now.moves.lat.now spot.now }
+        ensures { let s = self.now.moves in let d = s.d.now in let m = s.lat.now in
+            let a = way_count d m s.net in let p = spot.now.node * a in
+            Paints self.now.stroke d m s.net self.now.item.now (p + 4) (p + a) counts.old counts.new }
+    {
+        for number in 0..self.vias().len() {
+            self.paint_stack(counts, spot, number);
+        }
+    }
+
+    // Paints the moves of a node, given by the places of its signal layer and its lines.
+    fn paint_node(&self, counts: &mut Counts, level: usize, row: usize, column: usize)
+        requires ready { let s = self.now in let t = s.moves in
+            IsBrush t.d.now t.lat.now t.net t.via_cost s.item.now s.margins s.window }
+        requires size { let s = self.now.moves in
+            length counts.old ≡ node_count s.lat.now * way_count s.d.now s.lat.now s.net }
+        requires level { level < length self.now.moves.lat.now.layers }
+        requires row { row < length self.now.moves.lat.now.ys }
+        requires column { column < length self.now.moves.lat.now.xs }
+        ensures { let s = self.now.moves in let d = s.d.now in let m = s.lat.now in
+            let a = way_count d m s.net in let node = node_at m level row column in
+            Paints self.now.stroke d m s.net self.now.item.now (node * a) ((node + 1) * a) counts.old counts.new }
+    {
+        let spot = Spot::of(self.moves.lat, level, row, column);
+        self.paint_steps(counts, &spot);
+        self.paint_vias(counts, &spot);
+    }
+
+    // Paints a line of nodes across: those in the window's columns.
+    fn paint_line(&self, counts: &mut Counts, level: usize, row: usize)
+        requires ready { let s = self.now in let t = s.moves in
+            IsBrush t.d.now t.lat.now t.net t.via_cost s.item.now s.margins s.window }
+        requires size { let s = self.now.moves in
+            length counts.old ≡ node_count s.lat.now * way_count s.d.now s.lat.now s.net }
+        requires some { 0 < node_count self.now.moves.lat.now }
+        requires level { level < length self.now.moves.lat.now.layers }
+        requires row { row < length self.now.moves.lat.now.ys }
         ensures { let s = self.now.moves in let d = s.d.now in let m = s.lat.now in
             let a = way_count d m s.net in
-            Paints self.now.stroke d m s.net self.now.item.now (line * length m.xs * a)
-            ((line + 1) * length m.xs * a)
+            Paints self.now.stroke d m s.net self.now.item.now ((level * length m.ys + row) * length m.xs * a)
+            ((level * length m.ys + row + 1) * length m.xs * a)
             counts.old counts.new }
     {
-        let first = line * self.moves.lat.xs().len();
         for column in self.window.left..self.window.right {
-            self.paint_node(counts, (first + column) as u32);
+            self.paint_node(counts, level, row, column);
         }
     }
 
     // Paints the nodes of a signal layer: those in the window's rows.
     fn paint_level(&self, counts: &mut Counts, level: usize)
         requires ready { let s = self.now in let t = s.moves in
-            IsBrush t.d.now t.lat.now t.net t.via_cost s.item.now s.extent s.reach s.window }
+            IsBrush t.d.now t.lat.now t.net t.via_cost s.item.now s.margins s.window }
         requires size { let s = self.now.moves in
             length counts.old ≡ node_count s.lat.now * way_count s.d.now s.lat.now s.net }
         requires some { 0 < node_count self.now.moves.lat.now }
@@ -187,16 +356,15 @@ impl<'a, C: Copper> Brush<'a, C> {
             ((level + 1) * length m.ys * length m.xs * a)
             counts.old counts.new }
     {
-        let first = level * self.moves.lat.ys().len();
         for row in self.window.bottom..self.window.top {
-            self.paint_line(counts, first + row);
+            self.paint_line(counts, level, row);
         }
     }
 
     /// Paints the item into the counts, or takes it out of them.
     pub(crate) fn paint(&self, counts: &mut Counts)
         requires ready { let s = self.now in let t = s.moves in
-            IsBrush t.d.now t.lat.now t.net t.via_cost s.item.now s.extent s.reach s.window }
+            IsBrush t.d.now t.lat.now t.net t.via_cost s.item.now s.margins s.window }
         requires size { let s = self.now.moves in
             length counts.old ≡ node_count s.lat.now * way_count s.d.now s.lat.now s.net }
         ensures { let s = self.now.moves in let d = s.d.now in let m = s.lat.now in

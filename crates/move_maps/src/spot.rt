@@ -1,0 +1,122 @@
+//! Nodes whose places among the lines are known: what is looked up of them once, and where their steps lead.
+//! No number of a node is divided.
+
+ghost use Rattle.std.specs.Prelude.{◌≡◌, ◌+◌, ◌*◌, ◌<◌, ◌≤◌, ◌^◌, length};
+ghost use Rattle.std.specs.Option.{option_map};
+ghost use Rattle.route_lattice.specs.Mesh.{node_count, node_at};
+ghost use Rattle.move_maps.specs.Spots.{IsSpotOf, next_point as next_point_at, line_after as after};
+ghost use Rattle.move_maps.specs.Spots.{line_before as before, across as across_at, up as up_at};
+
+use geo_kernel::Point;
+use route_lattice::Lattice;
+
+/// A node with the places of its y line and its x line, its point and its layer.
+#[derive(Clone, Copy)]
+pub(crate) struct Spot {
+    pub node: u32,
+    pub row: usize,
+    pub column: usize,
+    pub at: Point,
+    pub layer: u8,
+}
+
+// The number of a node by its places.
+fn number_of(
+    width: usize,
+    height: usize,
+    layers: usize,
+    level: usize,
+    row: usize,
+    column: usize,
+) -> u32
+    requires few { layers * height * width ≤ 2 ^ 24 }
+    requires level { level < layers }
+    requires row { row < height }
+    requires column { column < width }
+    ensures value { result ≡ (level * height + row) * width + column }
+    ensures there { result < layers * height * width }
+{
+    ((level * height + row) * width + column) as u32
+}
+
+impl Spot {
+    /// That of a signal layer, a y line and an x line, each by its place.
+    pub(crate) fn of(lat: &Lattice, level: usize, row: usize, column: usize) -> Spot
+        requires few { node_count lat.now ≤ 2 ^ 24 }
+        requires level { level < length lat.now.layers }
+        requires row { row < length lat.now.ys }
+        requires column { column < length lat.now.xs }
+        ensures spot { IsSpotOf lat.now result }
+        ensures node { result.node ≡ node_at lat.now level row column }
+    {
+        let xs = lat.xs().as_slice();
+        let ys = lat.ys().as_slice();
+        let layers = lat.layers().as_slice();
+        Spot {
+            node: number_of(xs.len(), ys.len(), layers.len(), level, row, column),
+            row,
+            column,
+            at: Point {
+                x: xs[column],
+                y: ys[row],
+            },
+            layer: layers[level],
+        }
+    }
+}
+
+// The next line behind one.
+fn line_after(lines: &[i64], at: usize) -> Option<i64>
+    requires { at < length lines.now }
+    ensures { result ≡ after lines.now at }
+{
+    if at + 1 < lines.len() {
+        Some(lines[at + 1])
+    } else {
+        None
+    }
+}
+
+// The last line before one.
+fn line_before(lines: &[i64], at: usize) -> Option<i64>
+    requires { at < length lines.now }
+    ensures { result ≡ before lines.now at }
+{
+    if 0 < at { Some(lines[at - 1]) } else { None }
+}
+
+// The point of a line across at a height.
+fn across(x: Option<i64>, y: i64) -> Option<Point>
+    ensures { result ≡ option_map (across_at y) x }
+{
+    match x {
+        Some(x) => Some(Point { x, y }),
+        None => None,
+    }
+}
+
+// The point of a line up.
+fn up(x: i64, y: Option<i64>) -> Option<Point>
+    ensures { result ≡ option_map (up_at x) y }
+{
+    match y {
+        Some(y) => Some(Point { x, y }),
+        None => None,
+    }
+}
+
+/// Where the step of a direction leads, or None where there is no such step.
+pub(crate) fn next_point(lat: &Lattice, s: &Spot, dir: u32) -> Option<Point>
+    requires spot { IsSpotOf lat.now s.now }
+    requires dir { dir < 4 }
+    ensures { result ≡ next_point_at lat.now s.now.node dir }
+{
+    let xs = lat.xs().as_slice();
+    let ys = lat.ys().as_slice();
+    match dir {
+        0 => across(line_after(xs, s.column), s.at.y),
+        1 => across(line_before(xs, s.column), s.at.y),
+        2 => up(s.at.x, line_after(ys, s.row)),
+        _ => up(s.at.x, line_before(ys, s.row)),
+    }
+}

@@ -21,6 +21,7 @@ use Rattle.pcb_model.specs.Pieces.{wire_piece, moved_piece, padstack_pieces}
 use Rattle.pcb_model.specs.Rules.{clearance_of}
 use Rattle.pcb_model.proofs.Probes.{vias_met}
 use Rattle.move_maps.specs.Clear.{WireKeeps, ViaKeeps, StaysOffPad, IsClearOf}
+use Rattle.move_maps.specs.Margins.{ShutsSteps}
 use Rattle.move_maps.proofs.Painting.{not_both}
 
 -- which items a wire is compared with
@@ -81,6 +82,18 @@ module _ (d : Design) (g : ℕ) (b : Item) where
           stay_off = λ v k o. not_via _ k;
         },
         λ x. h.1 (λ m. subst F (sym e) (All-head K piece [] (x.keep (met ∙ m)).each)),
+      )
+
+  -- a step isn't clear where no wire from its first point is
+  pub step_shut : (c layer width : ℕ) (a q : Point) → c ≡ clearance_of d (Some g) kind.Wire b.net b.kind
+      → ShutsSteps c layer width a b → (IsTrue false ↔ IsClearOf d g (probe.Step layer width a q) b)
+  step_shut c layer width a q e h =
+      let piece = wire_piece layer width (a ∷ q ∷ []) in
+      let F : ℕ → Type 0 = λ n. KeepsFrom n b.pieces piece in
+      let K : Piece → Type 0 = KeepsFrom (clearance_of d (Some g) kind.Wire b.net b.kind) b.pieces in (
+        λ t. absurd (false≢true t),
+        λ x. absurd (h.each q (λ m. subst F (sym e) (All-head K piece []
+            (x.keep (wires_met layer width (a ∷ q ∷ []) b.metal ∙ m)).each))),
       )
 
   -- a via that doesn't keep the clearance isn't clear

@@ -10,7 +10,7 @@ use Rattle.std.proofs.Math.Nat.{mul-le-mul_right}
 use Rattle.pcb_model.specs.declared.item.Item.{Item}
 use Rattle.pcb_model.specs.declared.design.Design.{Design}
 use Rattle.route_lattice.specs.Mesh.{Mesh}
-use Rattle.route_lattice.specs.Ways.{way_count}
+use Rattle.route_lattice.specs.Ways.{vias_of, way_count}
 use Rattle.route_lattice.specs.Legal.{probe_at}
 use Rattle.move_maps.specs.Maps.{place_at}
 use Rattle.move_maps.specs.declared.paint.Stroke.{Stroke}
@@ -165,6 +165,13 @@ module _ (stroke : Stroke) (d : Design) (m : Mesh) (g : ℕ) (b : Item) where
 -- the place of a move is in the table
 pub place_within : (n a v i k : ℕ) → v < n → i < a → k ≡ n * a → v * a + i < k
 place_within n a v i k hv hi e = let l = mul-add-lt v a i n hv hi in omega (arith, l, e)
+
+-- a step's index is one of the node's
+pub step_index : (d : Design) (m : Mesh) (g i : ℕ) → i < 4 → i < way_count d m g
+step_index d m g i h = over i (length (vias_of d g) * length m.layers) h
+  where
+    over : (i k : ℕ) → i < 4 → i < 4 + k
+    over i k h = omega (arith, h)
 
 -- a test isn't both
 pub not_both : (t : Bool) → t ≡ true → t ≡ false → ⊥

@@ -30,13 +30,13 @@ use Rattle.route_lattice.proofs.Windows.{column_below}
 use Rattle.move_maps.specs.declared.spot.Spot.{Spot}
 use Rattle.move_maps.specs.Clear.{IsClearOf}
 use Rattle.move_maps.specs.Paint.{IsClearAt}
-use Rattle.move_maps.specs.Spots.{IsSpotOf, next_point, line_after, line_before, across, up}
+use Rattle.move_maps.specs.Spots.{IsSpotOf, next_point, line_after, line_before, across, up, join_layers}
 use Rattle.move_maps.specs.Starts.{crossing}
 use Rattle.move_maps.proofs.Strides.{column_at, row_at}
 
 -- ---- what is looked up
 -- points of equal coordinates
-point_is : (p q : Point) → p.x ≡ q.x → p.y ≡ q.y → p ≡ q
+pub point_is : (p q : Point) → p.x ≡ q.x → p.y ≡ q.y → p ≡ q
 point_is p q e f =
     let F : ℤ → ℤ → Point = λ x y. record { x = x; y = y } in ap (λ x. F x p.y) e ∙ ap (λ y. F q.x y) f
 
@@ -267,8 +267,7 @@ module _ (d : Design) (m : Mesh) (g v n t p layer to : ℕ) (at : Point) (ht : t
       last true true true n e = e
 
   -- there is none where the padstack doesn't join the layers
-  pub unjoined_clear : (s : Bool) → s ≡ (not (layer == to) && (has_copper (padstack_pieces d p) layer
-      && has_copper (padstack_pieces d p) to)) → s ≡ false
+  pub unjoined_clear : (s : Bool) → s ≡ join_layers (padstack_pieces d p) layer to → s ≡ false
       → IsClearAt d g b (probe_at d m g v (4 + n * length m.layers + t))
   unjoined_clear s es e =
       let ps = padstack_pieces d p in
@@ -277,8 +276,7 @@ module _ (d : Design) (m : Mesh) (g v n t p layer to : ℕ) (at : Point) (ht : t
       (not_joined (not (layer == to)) (has_copper ps layer) (has_copper ps to) (are_near_at at ps) (sym es ∙ e)))) tt
 
   -- one that joins them isn't clear where the padstack isn't
-  pub joined_shut : (s : Bool) → s ≡ (not (layer == to) && (has_copper (padstack_pieces d p) layer
-      && has_copper (padstack_pieces d p) to)) → s ≡ true
+  pub joined_shut : (s : Bool) → s ≡ join_layers (padstack_pieces d p) layer to → s ≡ true
       → ¬ (are_near_at at (padstack_pieces d p) ≡ true → IsClearOf d g (probe.Via p at) b)
       → ¬ (IsClearAt d g b (probe_at d m g v (4 + n * length m.layers + t)))
   joined_shut s es e h k =

@@ -1,10 +1,12 @@
 -- Nodes whose places among the lines are known.
-use Rattle.std.specs.Prelude.{◌≡◌, ℕ, ℤ, pos, ◌+◌, ◌-◌, ◌<◌, List, length, slice_index_or, nat_lt, cond, Option, Some, None}
+use Rattle.std.specs.Prelude.{◌≡◌, ℕ, ℤ, pos, ◌+◌, ◌-◌, ◌<◌, List, length, slice_index_or, nat_lt, cond}
+use Rattle.std.specs.Prelude.{Bool, not, ◌&&◌, ◌==◌, Option, Some, None}
 use Rattle.std.specs.Option.{option_map}
 use Rattle.geo_kernel.specs.declared.point.Point.{Point}
+use Rattle.pcb_model.specs.declared.item.Piece.{Piece}
 use Rattle.route_lattice.specs.declared.moves.Move.{Move}
 use Rattle.route_lattice.specs.Mesh.{Mesh, node_count, column, row, point_of, layer_of}
-use Rattle.route_lattice.specs.Ways.{step_at}
+use Rattle.route_lattice.specs.Ways.{step_at, has_copper}
 use Rattle.move_maps.specs.declared.spot.Spot.{Spot}
 
 -- the node's places, its point and its layer
@@ -32,3 +34,7 @@ across y x = record { x = x; y = y }
 
 abbrev pub up : ℤ → ℤ → Point
 up x y = record { x = x; y = y }
+
+-- the pieces have copper on both layers, which aren't one
+abbrev pub join_layers : List Piece → ℕ → ℕ → Bool
+join_layers ps from to = not (from == to) && (has_copper ps from && has_copper ps to)

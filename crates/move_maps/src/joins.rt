@@ -1,12 +1,13 @@
 //! Which layers a padstack joins, and whether it stays within 2^29 nm about a point.
 
-ghost use Rattle.std.specs.Prelude.{◌≡◌, ◌≤◌, ◌^◌, ◌==◌, ◌&&◌, ◌+ℤ◌, not, nat_le, unsigned_abs, All};
+ghost use Rattle.std.specs.Prelude.{◌≡◌, ◌≤◌, ◌^◌, ◌+ℤ◌, nat_le, unsigned_abs, All};
 ghost use Rattle.std.specs.List.{list_all, list_any};
 ghost use Rattle.geo_kernel.specs.Plane.{IsWithin};
 ghost use Rattle.geo_kernel.specs.Spine.{IsSpineWithin};
 ghost use Rattle.pcb_model.specs.Bounds.{IsFit};
 ghost use Rattle.route_lattice.specs.Near.{is_near_at, is_spine_near_at, are_near_at};
 ghost use Rattle.route_lattice.specs.Ways.{has_copper as has_copper_on};
+ghost use Rattle.move_maps.specs.Spots.{join_layers as joins_layers};
 
 use geo_kernel::{List, Point, Spine};
 use pcb_model::Piece;
@@ -74,7 +75,7 @@ fn has_copper(pieces: &[Piece], layer: u8) -> bool
 
 /// Whether two layers are not one, and the pieces have copper on both.
 pub(crate) fn join_layers(pieces: &[Piece], from: u8, to: u8) -> bool
-    ensures { result ≡ (not (from == to) && (has_copper_on pieces.now from && has_copper_on pieces.now to)) }
+    ensures { result ≡ joins_layers pieces.now from to }
 {
     from != to && has_copper(pieces, from) && has_copper(pieces, to)
 }

@@ -16,7 +16,7 @@ ghost use Rattle.move_maps.specs.Clear.{IsClearOf};
 ghost use Rattle.move_maps.specs.Margins.{ShutsSteps};
 ghost use Rattle.move_maps.specs.Maps.{place_at};
 ghost use Rattle.move_maps.specs.Paint.{IsClearAt, turned as turned_by, Paints, IsBrush};
-ghost use Rattle.move_maps.specs.Spots.{IsSpotOf};
+ghost use Rattle.move_maps.specs.Spots.{IsSpotOf, join_layers as joins_layers};
 
 use crate::clear::{is_via_clear, padstack_pieces};
 use crate::counts::Counts;
@@ -146,15 +146,10 @@ impl<'a, C: Copper> Brush<'a, C> {
     }
 
     // The place of a move's count.
-    fn place(&self, counts: &Counts, node: u32, i: usize) -> usize
-        requires size { let s = self.now.moves in
-            length counts.now ≡ node_count s.lat.now * way_count s.d.now s.lat.now s.net }
-        requires node { node < node_count self.now.moves.lat.now }
+    fn place(&self, node: u32, i: usize) -> usize
         requires index { let s = self.now.moves in i < way_count s.d.now s.lat.now s.net }
-        ensures value { let s = self.now.moves in result ≡ place_at s.d.now s.lat.now s.net node i }
-        ensures there { result < length counts.now }
+        ensures { let s = self.now.moves in result ≡ place_at s.d.now s.lat.now s.net node i }
     {
-        let _counts = counts;
         node as usize * self.moves.arity as usize + i
     }
 
@@ -167,7 +162,7 @@ impl<'a, C: Copper> Brush<'a, C> {
         ensures { let s = self.now.moves in
             OnTrue result (slice_index counts.now (place_at s.d.now s.lat.now s.net node i) ≡ 255) }
     {
-        counts.get(self.place(counts, node, i)) == u8::MAX
+        counts.get(self.place(node, i)) == u8::MAX
     }
 
     // Paints a move that isn't clear.
@@ -183,7 +178,7 @@ impl<'a, C: Copper> Brush<'a, C> {
             Paints self.now.stroke d m s.net self.now.item.now (node * a + i) (node * a + i + 1)
             counts.old counts.new }
     {
-        let place = self.place(counts, node, i);
+        let place = self.place(node, i);
         let n = counts.get(place);
         counts.set(place, turned(self.stroke, n));
     }
@@ -228,37 +223,36 @@ impl<'a, C: Copper> Brush<'a, C> {
         }
     }
 
-    // Paints the via of a padstack to signal layer `level`, where vias of the padstack aren't clear.
-    // `first` is the index of the padstack's first via.
-    fn paint_via(&self, counts: &mut Counts, spot: &Spot, number: usize, padstack: u32, level: usize)
+    // Paints the via to signal layer `level` of the padstack of that number. `clear` says whether its vias are clear.
+    fn paint_via(&self, counts: &mut Counts, spot: &Spot, number: usize, level: usize, clear: bool)
         requires ready { let s = self.now in let t = s.moves in
             IsBrush t.d.now t.lat.now t.net t.via_cost s.item.now s.margins s.window }
         requires size { let s = self.now.moves in
             length counts.old ≡ node_count s.lat.now * way_count s.d.now s.lat.now s.net }
         requires spot { IsSpotOf self.now.moves.lat.now spot.now }
         requires number { let s = self.now.moves in number < length (vias_of s.d.now s.net) }
-        requires padstack { let s = self.now.moves in slice_index (vias_of s.d.now s.net) number ≡ padstack }
         requires level { level < length self.now.moves.lat.now.layers }
-        requires shut { let s = self.now.moves in
-            ¬ (are_near_at spot.now.at (padstack_pieces_of s.d.now padstack) ≡ true
-            → IsClearOf s.d.now s.net (probe.Via padstack spot.now.at) self.now.item.now) }
+        requires clear { let s = self.now.moves in let p = slice_index (vias_of s.d.now s.net) number in
+            IsTrue clear ↔ (are_near_at spot.now.at (padstack_pieces_of s.d.now p) ≡ true
+            → IsClearOf s.d.now s.net (probe.Via p spot.now.at) self.now.item.now) }
         ensures { let s = self.now.moves in let d = s.d.now in let m = s.lat.now in
             let p = spot.now.node * way_count d m s.net + (4 + number * length m.layers + level) in
             Paints self.now.stroke d m s.net self.now.item.now p (p + 1) counts.old counts.new }
     {
-        let layers = self.moves.lat.layers().as_slice();
-        let i = 4 + number * layers.len() + level;
+        if clear {
+            return;
+        }
+        let i = self.via_index(number, level);
         if self.is_top(counts, spot.node, i) {
             return;
         }
-        let pieces = padstack_pieces(self.moves.d, padstack);
-        if !join_layers(pieces, spot.layer, layers[level]) {
+        if !self.joins(spot.layer, number, level) {
             return;
         }
         self.turn(counts, spot.node, i);
     }
 
-    // Paints the vias of a node of one of the net's padstacks. Whether they are clear is asked once.
+    // Paints the vias of a node of the padstack of that number. Whether they are clear is asked once.
     fn paint_stack(&self, counts: &mut Counts, spot: &Spot, number: usize)
         requires ready { let s = self.now in let t = s.moves in
             IsBrush t.d.now t.lat.now t.net t.via_cost s.item.now s.margins s.window }
@@ -271,13 +265,35 @@ impl<'a, C: Copper> Brush<'a, C> {
             Paints self.now.stroke d m s.net self.now.item.now (p + (4 + number * length m.layers))
             (p + (4 + (number + 1) * length m.layers)) counts.old counts.new }
     {
-        let padstack = self.vias()[number];
-        if self.is_stack_clear(padstack, spot.at) {
-            return;
-        }
+        let clear = self.is_stack_clear(self.vias()[number], spot.at);
         for level in 0..self.moves.lat.layers().len() {
-            self.paint_via(counts, spot, number, padstack, level);
+            self.paint_via(counts, spot, number, level, clear);
         }
+    }
+
+    // Whether the padstack of that number joins a layer and signal layer `level`.
+    fn joins(&self, from: u8, number: usize, level: usize) -> bool
+        requires net { self.now.moves.net < length self.now.moves.d.now.nets }
+        requires number { let s = self.now.moves in number < length (vias_of s.d.now s.net) }
+        requires level { level < length self.now.moves.lat.now.layers }
+        ensures { let s = self.now.moves in result
+            ≡ joins_layers (padstack_pieces_of s.d.now (slice_index (vias_of s.d.now s.net) number)) from
+            (slice_index s.lat.now.layers level) }
+    {
+        let padstack = self.vias()[number];
+        let to = self.moves.lat.layers().as_slice()[level];
+        join_layers(padstack_pieces(self.moves.d, padstack), from, to)
+    }
+
+    // The index of the via to signal layer `level` of the padstack of that number.
+    fn via_index(&self, number: usize, level: usize) -> usize
+        requires number { let s = self.now.moves in number < length (vias_of s.d.now s.net) }
+        requires level { level < length self.now.moves.lat.now.layers }
+        ensures value { result ≡ 4 + number * length self.now.moves.lat.now.layers + level }
+        ensures there { let s = self.now.moves in result < way_count s.d.now s.lat.now s.net }
+    {
+        let _arity = self.moves.arity;
+        4 + number * self.moves.lat.layers().len() + level
     }
 
     // The padstacks of the net's vias.

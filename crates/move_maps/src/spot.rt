@@ -1,7 +1,7 @@
 //! Nodes whose places among the lines are known: what is looked up of them once, and where their steps lead.
 //! No number of a node is divided.
 
-ghost use Rattle.std.specs.Prelude.{◌≡◌, ◌+◌, ◌*◌, ◌<◌, ◌≤◌, ◌^◌, length};
+ghost use Rattle.std.specs.Prelude.{◌≡◌, ◌+◌, ◌*◌, ◌<◌, ◌≤◌, ◌^◌, pos, length, slice_index_or};
 ghost use Rattle.std.specs.Option.{option_map};
 ghost use Rattle.route_lattice.specs.Mesh.{node_count, node_at};
 ghost use Rattle.move_maps.specs.Spots.{IsSpotOf, next_point as next_point_at, line_after as after};
@@ -39,6 +39,19 @@ fn number_of(
     ((level * height + row) * width + column) as u32
 }
 
+// Where a y line and an x line cross.
+fn crossing_at(xs: &[i64], ys: &[i64], row: usize, column: usize) -> Point
+    requires row { row < length ys.now }
+    requires column { column < length xs.now }
+    ensures x { result.x ≡ slice_index_or xs.now column (pos 0) }
+    ensures y { result.y ≡ slice_index_or ys.now row (pos 0) }
+{
+    Point {
+        x: xs[column],
+        y: ys[row],
+    }
+}
+
 impl Spot {
     /// That of a signal layer, a y line and an x line, each by its place.
     pub(crate) fn of(lat: &Lattice, level: usize, row: usize, column: usize) -> Spot
@@ -56,10 +69,7 @@ impl Spot {
             node: number_of(xs.len(), ys.len(), layers.len(), level, row, column),
             row,
             column,
-            at: Point {
-                x: xs[column],
-                y: ys[row],
-            },
+            at: crossing_at(xs, ys, row, column),
             layer: layers[level],
         }
     }
@@ -85,22 +95,22 @@ fn line_before(lines: &[i64], at: usize) -> Option<i64>
     if 0 < at { Some(lines[at - 1]) } else { None }
 }
 
-// The point of a line across at a height.
-fn across(x: Option<i64>, y: i64) -> Option<Point>
-    ensures { result ≡ option_map (across_at y) x }
+// Where a line crosses the way across through a point.
+fn across(at: Point, x: Option<i64>) -> Option<Point>
+    ensures { result ≡ option_map (across_at at.y) x }
 {
     match x {
-        Some(x) => Some(Point { x, y }),
+        Some(x) => Some(Point { x, y: at.y }),
         None => None,
     }
 }
 
-// The point of a line up.
-fn up(x: i64, y: Option<i64>) -> Option<Point>
-    ensures { result ≡ option_map (up_at x) y }
+// Where a line crosses the way up through a point.
+fn up(at: Point, y: Option<i64>) -> Option<Point>
+    ensures { result ≡ option_map (up_at at.x) y }
 {
     match y {
-        Some(y) => Some(Point { x, y }),
+        Some(y) => Some(Point { x: at.x, y }),
         None => None,
     }
 }
@@ -114,9 +124,9 @@ pub(crate) fn next_point(lat: &Lattice, s: &Spot, dir: u32) -> Option<Point>
     let xs = lat.xs().as_slice();
     let ys = lat.ys().as_slice();
     match dir {
-        0 => across(line_after(xs, s.column), s.at.y),
-        1 => across(line_before(xs, s.column), s.at.y),
-        2 => up(s.at.x, line_after(ys, s.row)),
-        _ => up(s.at.x, line_before(ys, s.row)),
+        0 => across(s.at, line_after(xs, s.column)),
+        1 => across(s.at, line_before(xs, s.column)),
+        2 => up(s.at, line_after(ys, s.row)),
+        _ => up(s.at, line_before(ys, s.row)),
     }
 }

@@ -204,34 +204,52 @@ pieces_still [] = refl
 pieces_still (p ∷ ps) = let e = piece_still p in let h = pieces_still ps in cc
 
 -- ---- via by via
--- the window covers the steps, and the vias of these padstacks; its sides are places of lines
-pub record IsSoFar (d : Design) (m : Mesh) (g : ℕ) (b : Item) (padstacks : List ℕ) (w : Window) : Type 0 where
+-- the window covers the steps, and the vias of these padstacks
+pub record IsCovered (d : Design) (m : Mesh) (g : ℕ) (padstacks : List ℕ) (w : Window) (b : Item) : Type 0 where
   pub steps : CoversSteps d m g b w
   pub vias : All (λ p. CoversVia d m g b p w) padstacks
+
+-- it does so for each item of the extent; its sides are places of lines
+pub record IsSoFar (d : Design) (m : Mesh) (g : ℕ) (f : Extent) (padstacks : List ℕ) (w : Window) : Type 0 where
+  pub covered : (b : Item) → IsExtentOf b.pieces f → IsCovered d m g padstacks w b
   pub left : w.left ≤ length m.xs
   pub right : w.right ≤ length m.xs
   pub bottom : w.bottom ≤ length m.ys
   pub top : w.top ≤ length m.ys
 
 -- at first the steps are covered
-pub so_far_first : (d : Design) (m : Mesh) (g : ℕ) (b : Item) (vias : List ℕ) (w : Window) → CoversSteps d m g b w
-    → w.left ≤ length m.xs → w.right ≤ length m.xs → w.bottom ≤ length m.ys → w.top ≤ length m.ys
-    → IsSoFar d m g b (take 0 vias) w
-so_far_first d m g b vias w s l r bo t =
-    record { steps = s; vias = All-nil (λ p. CoversVia d m g b p w); left = l; right = r; bottom = bo; top = t }
+pub so_far_first : (d : Design) (m : Mesh) (g : ℕ) (f : Extent) (vias : List ℕ) (w : Window)
+    → ((b : Item) → IsExtentOf b.pieces f → CoversSteps d m g b w) → w.left ≤ length m.xs → w.right ≤ length m.xs
+    → w.bottom ≤ length m.ys → w.top ≤ length m.ys → IsSoFar d m g f (take 0 vias) w
+so_far_first d m g f vias w s l r bo t = record {
+  covered = λ b h. record { steps = s b h; vias = All-nil (λ p. CoversVia d m g b p w) };
+  left = l;
+  right = r;
+  bottom = bo;
+  top = t;
+}
 
--- one more via, and the window over both
-pub so_far_next : (d : Design) (m : Mesh) (g : ℕ) (b : Item) (vias : List ℕ) (k : ℕ) (w u z : Window) → k < length vias
-    → IsSoFar d m g b (take k vias) w → CoversVia d m g b (slice_index vias k) u
-    → IsHeld w z → IsHeld u z → z.left ≤ length m.xs → z.right ≤ length m.xs → z.bottom ≤ length m.ys
-    → z.top ≤ length m.ys → IsSoFar d m g b (take (k + 1) vias) z
-so_far_next d m g b vias k w u z h s c hw hu l r bo t = record {
+-- one more via of an item
+covered_next : (d : Design) (m : Mesh) (g : ℕ) (vias : List ℕ) (k : ℕ) (w u z : Window) (b : Item) → k < length vias
+    → IsCovered d m g (take k vias) w b → CoversVia d m g b (slice_index vias k) u → IsHeld w z → IsHeld u z
+    → IsCovered d m g (take (k + 1) vias) z b
+covered_next d m g vias k w u z b h s c hw hu = record {
   steps = steps_wider d m g b w z hw s.steps;
   vias = subst (All (λ p. CoversVia d m g b p z)) (sym (take_more vias k 0 h))
       (All-append (λ p. CoversVia d m g b p z) (take k vias) (slice_index vias k ∷ [])
       (vias_wider d m g b w z (take k vias) hw s.vias)
       (All-cons (λ p. CoversVia d m g b p z) (slice_index vias k) [] (via_wider d m g b u z hu (slice_index vias k) c)
       (All-nil (λ p. CoversVia d m g b p z))));
+}
+
+-- one more via, and the window over both
+pub so_far_next : (d : Design) (m : Mesh) (g : ℕ) (f : Extent) (vias : List ℕ) (k : ℕ) (w u z : Window)
+    → k < length vias → IsSoFar d m g f (take k vias) w
+    → ((b : Item) → IsExtentOf b.pieces f → CoversVia d m g b (slice_index vias k) u)
+    → IsHeld w z → IsHeld u z → z.left ≤ length m.xs → z.right ≤ length m.xs → z.bottom ≤ length m.ys
+    → z.top ≤ length m.ys → IsSoFar d m g f (take (k + 1) vias) z
+so_far_next d m g f vias k w u z h s c hw hu l r bo t = record {
+  covered = λ b e. covered_next d m g vias k w u z b h (s.covered b e) (c b e) hw hu;
   left = l;
   right = r;
   bottom = bo;
@@ -246,11 +264,13 @@ vias_at (x ∷ nets) zero n h = refl
 vias_at (x ∷ nets) (suc g) n h = vias_at nets g n (omega (arith, h))
 
 -- at last all padstacks are
-pub so_far_all : (d : Design) (m : Mesh) (g : ℕ) (b : Item) (nets : List Net) (n : Net) (vias : List ℕ) (k : ℕ)
+pub so_far_all : (d : Design) (m : Mesh) (g : ℕ) (f : Extent) (nets : List Net) (n : Net) (vias : List ℕ) (k : ℕ)
     (w u : Window) → nets ≡ d.nets → g < length d.nets → vias ≡ (slice_index_or nets g n).vias
-    → length vias ≤ k → IsSoFar d m g b (take k vias) w → IsHeld w u → Covers d m g b u
-so_far_all d m g b nets n vias k w u e h v last s hw =
+    → length vias ≤ k → IsSoFar d m g f (take k vias) w → IsHeld w u
+    → (b : Item) → IsExtentOf b.pieces f → Covers d m g b u
+so_far_all d m g f nets n vias k w u e h v last s hw b of_b =
     let is : vias ≡ vias_of d g = v
     ∙ (ap (λ (ns : List Net). (slice_index_or ns g n).vias) e ∙ sym (vias_at d.nets g n h)) in
-    let all = subst (All (λ p. CoversVia d m g b p w)) (take_all k vias last ∙ is) s.vias in
-    all_covered d m g b u (steps_wider d m g b w u hw s.steps) (vias_wider d m g b w u (vias_of d g) hw all)
+    let c = s.covered b of_b in
+    let all = subst (All (λ p. CoversVia d m g b p w)) (take_all k vias last ∙ is) c.vias in
+    all_covered d m g b u (steps_wider d m g b w u hw c.steps) (vias_wider d m g b w u (vias_of d g) hw all)

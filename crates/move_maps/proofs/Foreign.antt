@@ -28,12 +28,13 @@ use Rattle.move_maps.specs.Clear.{IsClearOf}
 use Rattle.move_maps.specs.Maps.{Misses, IsOutside, IsTally, IsMapOf, place_at}
 use Rattle.move_maps.specs.declared.map.GroupMap.{GroupMap}
 use Rattle.move_maps.specs.Paint.{IsClearAt}
-use Rattle.move_maps.specs.OwnCopper.{IsOutOfAll, IsOwnCopper, IsStepThere}
+use Rattle.move_maps.specs.Windows.{IsOutOfAll}
+use Rattle.move_maps.specs.OwnCopper.{IsOwnCopper, IsStepThere}
 use Rattle.move_maps.proofs.Alike.{same_clearance, same_probe, same_way_count}
 
 -- ---- steps
 -- no via, if it is there
-abbrev IsNoVia : Option (Move × ℕ) → Type 0
+abbrev pub IsNoVia : Option (Move × ℕ) → Type 0
 IsNoVia None = Unit {0}
 IsNoVia (Some (Step dir, to)) = Unit {0}
 IsNoVia (Some (Via padstack layer, to)) = ⊥
@@ -44,7 +45,7 @@ either P true x y f g = f
 either P false x y f g = g
 
 -- a step is no via
-step_no_via : (m : Mesh) (v dir : ℕ) → IsNoVia (step_at m v dir)
+pub step_no_via : (m : Mesh) (v dir : ℕ) → IsNoVia (step_at m v dir)
 step_no_via m v dir =
     let P : Option (Move × ℕ) → Type 0 = λ o. IsNoVia o in
     let l = level m v in let j = row m v in let i = column m v in
@@ -62,7 +63,7 @@ step_no_via m v dir =
     (either P (nat_lt 0 j) (Some (Step 3, node_at m l (j - 1) i)) None tt tt)))
 
 -- the first four moves are steps
-way_step : (d : Design) (m : Mesh) (net v i : ℕ) → i < 4 → way d m net v i ≡ step_at m v i
+pub way_step : (d : Design) (m : Mesh) (net v i : ℕ) → i < 4 → way d m net v i ≡ step_at m v i
 way_step d m net v i h = picks (nat_lt i 4) (step_at m v i)
     (via_at d m v (slice_index (vias_of d net) ((i - 4) / length m.layers)) ((i - 4) % length m.layers))
     (below-true i 4 h)

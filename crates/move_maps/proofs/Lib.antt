@@ -8,6 +8,7 @@ pub mod Vias
 pub mod Clearing
 pub mod Painting
 pub mod Lines
+pub mod Spanning
 pub mod Covering
 pub mod Tallied
 pub mod Starting
@@ -21,6 +22,8 @@ pub mod Grouping
 pub mod Mapped
 pub mod Following
 pub mod Windowed
+pub mod Linking
+pub mod Layered
 pub mod Foreign
 pub mod Strides
 pub mod Fences

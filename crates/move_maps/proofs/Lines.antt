@@ -1,16 +1,17 @@
 -- The lines and levels of nodes, and what of them lies out of a window.
 use Rattle.std.proofs.Common.{◌≡◌, ℕ, ◌+◌, ◌-◌, ◌*◌, ◌/◌, ◌%◌, ◌<◌, ◌≤◌, ◌^◌, Bool, List, length, refl, sym, ap, ◌∙◌}
-use Rattle.std.proofs.Common.{subst, arith, inl, inr}
-use Rattle.std.proofs.lemmas.Nat.{mul-add-lt, mod-mul-add, div-add-mod', mod_below}
+use Rattle.std.proofs.Common.{subst, arith, ◌⊎◌, inl, inr}
+use Rattle.std.proofs.lemmas.Nat.{mul-add-lt, mod-mul-add, div-mul-add, div-add-mod', mod_below}
 use Rattle.std.proofs.Math.Nat.{mul-le-mul_right, mul-le-mul_left}
 use Rattle.pcb_model.specs.declared.item.Item.{Item}
 use Rattle.pcb_model.specs.declared.design.Design.{Design}
-use Rattle.route_lattice.specs.Mesh.{Mesh, row}
+use Rattle.route_lattice.specs.Mesh.{Mesh, node_count, column, row}
 use Rattle.route_lattice.specs.Ways.{way_count}
+use Rattle.route_lattice.specs.Legal.{probe_at}
 use Rattle.route_lattice.proofs.Places.{width_positive}
 use Rattle.move_maps.specs.declared.window.Window.{Window}
 use Rattle.move_maps.specs.declared.paint.Stroke.{Stroke}
-use Rattle.move_maps.specs.Paint.{Covers, IsWindowIn, Paints}
+use Rattle.move_maps.specs.Paint.{IsClearAt, Covers, IsWindowIn, Paints}
 use Rattle.move_maps.proofs.Painting.{from_node, to_node, off, goes_on}
 
 -- the place of a number in its block of w
@@ -19,6 +20,13 @@ within_block w f v l h =
     let e : v ≡ f * w + (v - f * w) = omega (arith, l) in
     let k : v - f * w < w = omega (arith, l, h) in
     ap (λ n. n % w) e ∙ mod-mul-add f w (v - f * w) k
+
+-- and the block itself
+block_of : (w f v : ℕ) → f * w ≤ v → v < f * w + w → v / w ≡ f
+block_of w f v l h =
+    let e : v ≡ f * w + (v - f * w) = omega (arith, l) in
+    let k : v - f * w < w = omega (arith, l, h) in
+    ap (λ n. n / w) e ∙ div-mul-add f w (v - f * w) k
 
 -- the line of a node is from one on where the node is from the line's first on
 pub line_from : (w f v : ℕ) → 0 < w → f * w ≤ v → f ≤ v / w
@@ -29,21 +37,28 @@ line_from w f v p l = from_node f w (v / w) (v % w) (mod_below v w p)
 pub line_to : (w t v : ℕ) → v < t * w → v / w < t
 line_to w t v l = to_node t w (v / w) (v % w) (subst (λ n. n < t * w) (sym (div-add-mod' v w)) l)
 
-module _ (stroke : Stroke) (d : Design) (m : Mesh) (g : ℕ) (b : Item) (w : Window) (covers : Covers d m g b w)
-    (fits : IsWindowIn m w) (xs : List ℕ) where
-  -- the columns left of the window
-  pub left_of : (line : ℕ) → line < length m.layers * length m.ys
-      → Paints stroke d m g b (line * length m.xs * way_count d m g)
-      ((line * length m.xs + w.left) * way_count d m g) xs xs
-  left_of line h = off stroke d m g b (line * length m.xs * way_count d m g)
-      ((line * length m.xs + w.left) * way_count d m g) xs (λ v i k l u.
+-- the moves of a line's nodes are clear of the item left of a column, and from another on
+pub record AreSidesClear (d : Design) (m : Mesh) (g : ℕ) (b : Item) (line left right : ℕ) : Type 0 where
+  pub each : (v i : ℕ) → v < node_count m → i < way_count d m g → v / length m.xs ≡ line
+      → column m v < left ⊎ right ≤ column m v → IsClearAt d g b (probe_at d m g v i)
+
+-- the sides of a line
+module _ (stroke : Stroke) (d : Design) (m : Mesh) (g : ℕ) (b : Item) (line left right : ℕ)
+    (sides : AreSidesClear d m g b line left right) (ordered : left ≤ right) (within : right ≤ length m.xs)
+    (inner : line < length m.layers * length m.ys) where
+  -- the columns on the left
+  pub left_of : (xs : List ℕ) → Paints stroke d m g b (line * length m.xs * way_count d m g)
+      ((line * length m.xs + left) * way_count d m g) xs xs
+  left_of xs = off stroke d m g b (line * length m.xs * way_count d m g)
+      ((line * length m.xs + left) * way_count d m g) xs (λ v i k l u.
       let lo = from_node (line * length m.xs) (way_count d m g) v i k l in
-      let hi = to_node (line * length m.xs + w.left) (way_count d m g) v i u in
-      let left_in : w.left ≤ length m.xs = omega (arith, fits.columns, fits.right) in
-      let top = mul-le-mul_right (length m.xs) (next line (length m.layers * length m.ys) h) in
-      let is = within_block (length m.xs) line v lo (omega (arith, hi, left_in)) in
-      covers.each v i (ends line (length m.xs) v (length m.layers * length m.ys * length m.xs) w.left hi left_in top) k
-      (inl (inl (low (v % length m.xs) v (line * length m.xs) w.left is lo hi))))
+      let hi = to_node (line * length m.xs + left) (way_count d m g) v i u in
+      let left_in : left ≤ length m.xs = omega (arith, ordered, within) in
+      let top = mul-le-mul_right (length m.xs) (next line (length m.layers * length m.ys) inner) in
+      let over : v < line * length m.xs + length m.xs = omega (arith, hi, left_in) in
+      sides.each v i (ends line (length m.xs) v (length m.layers * length m.ys * length m.xs) left hi left_in top) k
+      (block_of (length m.xs) line v lo over)
+      (inl (low (v % length m.xs) v (line * length m.xs) left (within_block (length m.xs) line v lo over) lo hi)))
     where
       next : (x y : ℕ) → x < y → x + 1 ≤ y
       next x y h = omega (arith, h)
@@ -54,19 +69,19 @@ module _ (stroke : Stroke) (d : Design) (m : Mesh) (g : ℕ) (b : Item) (w : Win
       low : (c v f left : ℕ) → c ≡ v - f → f ≤ v → v < f + left → c < left
       low c v f left e l h = omega (arith, e, l, h)
 
-  -- the columns right of it
-  pub right_of : (line : ℕ) → line < length m.layers * length m.ys
-      → Paints stroke d m g b ((line * length m.xs + w.right) * way_count d m g)
+  -- the columns on the right
+  right_of : (xs : List ℕ) → Paints stroke d m g b ((line * length m.xs + right) * way_count d m g)
       ((line + 1) * length m.xs * way_count d m g) xs xs
-  right_of line h = off stroke d m g b ((line * length m.xs + w.right) * way_count d m g)
+  right_of xs = off stroke d m g b ((line * length m.xs + right) * way_count d m g)
       ((line + 1) * length m.xs * way_count d m g) xs (λ v i k l u.
-      let lo = from_node (line * length m.xs + w.right) (way_count d m g) v i k l in
+      let lo = from_node (line * length m.xs + right) (way_count d m g) v i k l in
       let hi = to_node ((line + 1) * length m.xs) (way_count d m g) v i u in
-      let top = mul-le-mul_right (length m.xs) (next line (length m.layers * length m.ys) h) in
-      let is = within_block (length m.xs) line v (under line (length m.xs) w.right v lo)
-      (over line (length m.xs) v hi) in
-      covers.each v i (ends v ((line + 1) * length m.xs) (length m.layers * length m.ys * length m.xs) hi top) k
-      (inl (inr (high (v % length m.xs) v (line * length m.xs) w.right is lo))))
+      let top = mul-le-mul_right (length m.xs) (next line (length m.layers * length m.ys) inner) in
+      let from = under line (length m.xs) right v lo in
+      let to = over line (length m.xs) v hi in
+      sides.each v i (ends v ((line + 1) * length m.xs) (length m.layers * length m.ys * length m.xs) hi top) k
+      (block_of (length m.xs) line v from to)
+      (inr (high (v % length m.xs) v (line * length m.xs) right (within_block (length m.xs) line v from to) lo)))
     where
       next : (x y : ℕ) → x < y → x + 1 ≤ y
       next x y h = omega (arith, h)
@@ -83,6 +98,27 @@ module _ (stroke : Stroke) (d : Design) (m : Mesh) (g : ℕ) (b : Item) (w : Win
       high : (c v f right : ℕ) → c ≡ v - f → f + right ≤ v → right ≤ c
       high c v f right e l = omega (arith, e, l)
 
+  -- the columns on the right need no paint
+  pub line_end : (col : ℕ) (xs ys : List ℕ) → col ≡ right
+      → Paints stroke d m g b (line * length m.xs * way_count d m g)
+      ((line * length m.xs + col) * way_count d m g) xs ys
+      → Paints stroke d m g b (line * length m.xs * way_count d m g) ((line + 1) * length m.xs * way_count d m g) xs ys
+  line_end col xs ys e p =
+      let n = line * length m.xs in let k = way_count d m g in
+      goes_on stroke d m g b (n * k) ((n + right) * k) ((line + 1) * length m.xs * k)
+      ((line + 1) * length m.xs * k) xs ys ys (mul-le-mul_right k (first n right))
+      (mul-le-mul_right k (last line (length m.xs) right within)) refl
+      (subst (λ x. Paints stroke d m g b (n * k) ((n + x) * k) xs ys) e p) (right_of ys)
+    where
+      first : (n r : ℕ) → n ≤ n + r
+      first n r = omega arith
+
+      last : (line n r : ℕ) → r ≤ n → line * n + r ≤ (line + 1) * n
+      last line n r h = omega (arith, h)
+
+-- the rows beside a window
+module _ (stroke : Stroke) (d : Design) (m : Mesh) (g : ℕ) (b : Item) (w : Window) (covers : Covers d m g b w)
+    (fits : IsWindowIn m w) (xs : List ℕ) where
   -- the rows below it
   pub below_of : (level : ℕ) → level < length m.layers
       → Paints stroke d m g b (level * length m.ys * length m.xs * way_count d m g)
@@ -206,30 +242,10 @@ module _ (stroke : Stroke) (d : Design) (m : Mesh) (g : ℕ) (b : Item) (w : Win
       low : (n : ℕ) → 0 ≤ n
       low n = omega arith
 
--- the ends of lines and levels
+-- the ends of levels
 module _ (stroke : Stroke) (d : Design) (m : Mesh) (g : ℕ) (b : Item) (w : Window) (covers : Covers d m g b w)
     (fits : IsWindowIn m w) (xs ys : List ℕ) where
-  -- the nodes right of the window need no paint
-  pub line_end : (line col : ℕ) → line < length m.layers * length m.ys → col ≡ w.right
-      → Paints stroke d m g b (line * length m.xs * way_count d m g)
-      ((line * length m.xs + col) * way_count d m g) xs ys
-      → Paints stroke d m g b (line * length m.xs * way_count d m g) ((line + 1) * length m.xs * way_count d m g) xs ys
-  line_end line col h e p =
-      let n = line * length m.xs in let k = way_count d m g in
-      let f = fits.right in
-      goes_on stroke d m g b (n * k) ((n + w.right) * k) ((line + 1) * length m.xs * k)
-      ((line + 1) * length m.xs * k) xs ys ys (mul-le-mul_right k (first n w.right))
-      (mul-le-mul_right k (last line (length m.xs) w.right f)) refl
-      (subst (λ x. Paints stroke d m g b (n * k) ((n + x) * k) xs ys) e p)
-      (right_of stroke d m g b w covers fits ys line h)
-    where
-      first : (n r : ℕ) → n ≤ n + r
-      first n r = omega arith
-
-      last : (line n r : ℕ) → r ≤ n → line * n + r ≤ (line + 1) * n
-      last line n r h = omega (arith, h)
-
-  -- nor do the lines above it
+  -- the lines above the window need no paint
   pub level_end : (level row : ℕ) → level < length m.layers → row ≡ w.top
       → Paints stroke d m g b (level * length m.ys * length m.xs * way_count d m g)
       ((level * length m.ys + row) * length m.xs * way_count d m g) xs ys
@@ -273,6 +289,16 @@ row_small layers h w level row p s l r =
     let b = width_positive w (layers * h) 0 p in
     let c = mul-le-mul_left (layers * h) b in
     (omega (arith, a), omega (arith, a, c, s))
+
+-- and a node's number, as it is computed from its level, row and column
+pub place_small : (layers h w level row col y x : ℕ) → y ≡ h → x ≡ w → 0 < layers * h * w → layers * h * w ≤ 2 ^ 24
+    → level < layers → row < h → col < w
+    → ((level * y + row) * x + col < layers * h * w) × ((level * y + row) * x + col ≤ 2 ^ 24)
+place_small layers h w level row col y x ey ex p s l r c =
+    let n = layers * h * w in
+    subst (λ k. ((level * k + row) * x + col < n) × ((level * k + row) * x + col ≤ 2 ^ 24)) (sym ey)
+    (subst (λ k. ((level * h + row) * k + col < n) × ((level * h + row) * k + col ≤ 2 ^ 24)) (sym ex)
+    (node_small (layers * h) n (level * h + row) w col refl s (row_small layers h w level row p s l r).0 c))
 
 -- and that of a level's first line
 pub level_small : (layers h w level : ℕ) → 0 < layers * h * w → layers * h * w ≤ 2 ^ 24 → level < layers

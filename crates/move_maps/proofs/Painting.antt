@@ -55,6 +55,25 @@ module _ (stroke : Stroke) (d : Design) (m : Mesh) (g : ℕ) (b : Item) where
       → IsClearAt d g b (probe_at d m g v i)) → Painted f t xs xs
   off f t xs h = record { size = refl; painted = λ v i k l u. inl (h v i k l u, refl); kept = λ k h. refl }
 
+  -- the first moves of a node, where they are clear
+  pub firsts_off : (v first : ℕ) (xs : List ℕ) → first ≤ way_count d m g
+      → ((i : ℕ) → i < first → IsClearAt d g b (probe_at d m g v i))
+      → Painted (v * way_count d m g) (v * way_count d m g + first) xs xs
+  firsts_off v first xs few h = off (v * way_count d m g) (v * way_count d m g + first) xs (λ w i k l u.
+      let a = way_count d m g in
+      let e = meet v w (from_node v a w i k l) (to_node (v + 1) a w i (over v w a i first few u)) in
+      subst (λ n. IsClearAt d g b (probe_at d m g n i)) e
+      (h i (rest (v * a) i first (subst (λ n. n * a + i < v * a + first) (sym e) u))))
+    where
+      meet : (x y : ℕ) → x ≤ y → y < x + 1 → x ≡ y
+      meet x y l u = omega (arith, l, u)
+
+      over : (v w a i first : ℕ) → first ≤ a → w * a + i < v * a + first → w * a + i < (v + 1) * a
+      over v w a i first few u = omega (arith, few, u)
+
+      rest : (n i first : ℕ) → n + i < n + first → i < first
+      rest n i first u = omega (arith, u)
+
   -- one part, and the next
   pub go_on : (f t u : ℕ) (xs ys zs : List ℕ) → f ≤ t → t ≤ u → Painted f t xs ys → Painted t u ys zs
       → Painted f u xs zs
@@ -86,6 +105,20 @@ module _ (stroke : Stroke) (d : Design) (m : Mesh) (g : ℕ) (b : Item) where
   -- the same ends, written otherwise
   pub at_ends : (f h t u : ℕ) (xs ys : List ℕ) → f ≡ h → t ≡ u → Painted f t xs ys → Painted h u xs ys
   at_ends f h t u xs ys e k p = subst (λ n. Painted h n xs ys) k (subst (λ n. Painted n t xs ys) e p)
+
+  -- a node whose moves are all clear
+  pub node_off : (v : ℕ) (xs : List ℕ)
+      → ((i : ℕ) → i < way_count d m g → IsClearAt d g b (probe_at d m g v i))
+      → Painted (v * way_count d m g) ((v + 1) * way_count d m g) xs xs
+  node_off v xs h =
+      let a = way_count d m g in
+      at_ends (v * a) (v * a) (v * a + a) ((v + 1) * a) xs xs refl (last v a) (firsts_off v a xs (all a) h)
+    where
+      all : (a : ℕ) → a ≤ a
+      all a = omega arith
+
+      last : (v a : ℕ) → v * a + a ≡ (v + 1) * a
+      last v a = omega arith
 
   -- nothing is painted at first
   pub begins : (f t : ℕ) (xs : List ℕ) → t ≡ f → Painted f t xs xs

@@ -40,27 +40,21 @@ pub point_is : (p q : Point) → p.x ≡ q.x → p.y ≡ q.y → p ≡ q
 point_is p q e f =
     let F : ℤ → ℤ → Point = λ x y. record { x = x; y = y } in ap (λ x. F x p.y) e ∙ ap (λ y. F q.x y) f
 
--- the level of the node at three places
-level_at : (m : Mesh) (l j i : ℕ) → j < length m.ys → i < length m.xs → level m (node_at m l j i) ≡ l
-level_at m l j i hj hi = ap (λ n. n / length m.ys) (div-mul-add (l * length m.ys + j) (length m.xs) i hi)
-    ∙ div-mul-add l (length m.ys) j hj
-
--- and its point
+-- the point of the node at three places
 point_at : (m : Mesh) (l j i : ℕ) → j < length m.ys → i < length m.xs → crossing m j i ≡ point_of m (node_at m l j i)
 point_at m l j i hj hi = point_is (crossing m j i) (point_of m (node_at m l j i))
     (ap (λ n. slice_index_or m.xs n (pos 0)) (sym (column_at m l j i hi)))
     (ap (λ n. slice_index_or m.ys n (pos 0)) (sym (row_at m l j i hj hi)))
 
--- a spot of three places
-pub spot_of : (m : Mesh) (l j i : ℕ) (s : Spot) → l < length m.layers → j < length m.ys → i < length m.xs
-    → s.node ≡ node_at m l j i → s.row ≡ j → s.column ≡ i → s.at ≡ crossing m j i → s.layer ≡ slice_index m.layers l
-    → IsSpotOf m s
-spot_of m l j i s hl hj hi e er ec ea el = record {
-  there = subst (λ n. n < node_count m) (sym e) (node_below (length m.xs) (length m.ys) (length m.layers) l j i hl hj hi);
-  row_is = ap (λ n. row m n) e ∙ row_at m l j i hj hi ∙ sym er;
-  column_is = ap (λ n. column m n) e ∙ column_at m l j i hi ∙ sym ec;
-  at_is = ea ∙ point_at m l j i hj hi ∙ ap (λ n. point_of m n) (sym e);
-  layer_is = el ∙ ap (λ n. slice_index m.layers n) (sym (level_at m l j i hj hi)) ∙ ap (λ n. layer_of m n) (sym e);
+-- a spot of a node's places
+pub spot_of : (m : Mesh) (s : Spot) (l : ℕ) → s.node < node_count m → level m s.node ≡ l → row m s.node ≡ s.row
+    → column m s.node ≡ s.column → s.at ≡ crossing m s.row s.column → s.layer ≡ slice_index m.layers l → IsSpotOf m s
+spot_of m s l h hl hr hc ea el = record {
+  there = h;
+  row_is = hr;
+  column_is = hc;
+  at_is = ea ∙ ap (λ n. crossing m n s.column) (sym hr) ∙ ap (λ n. crossing m (row m s.node) n) (sym hc);
+  layer_is = el ∙ ap (λ n. slice_index m.layers n) (sym hl);
 }
 
 -- ---- where steps lead

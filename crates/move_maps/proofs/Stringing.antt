@@ -1,7 +1,7 @@
--- A ban of chains and its parts: a move that is clear of each part is clear of the item.
+-- An item of chains and its parts: a move that is clear of each part is clear of the item.
 use Prim.Native.Nat.{zero, suc}
 use Rattle.std.proofs.Common.{◌≡◌, ℕ, ◌+◌, ◌*◌, ◌<◌, ◌≤◌, ◌^◌, Bool, true, List, [], ◌∷◌, ◌++◌, map, flat_map, length}
-use Rattle.std.proofs.Common.{max, All, Option, Some, None, refl, sym}
+use Rattle.std.proofs.Common.{max, All, IfSome, Option, Some, None, refl, sym}
 use Rattle.std.proofs.Common.{ap, ◌∙◌, subst, arith, take, drop, get_or, append_assoc}
 use Rattle.std.proofs.lemmas.List.{flat_map_more, take_more}
 use Rattle.std.proofs.lemmas.List.Elements.{All-nil, All-cons, All-head, All-tail, All-append, All-weaker}
@@ -24,7 +24,7 @@ use Rattle.pcb_model.specs.Inner.{meets_wires, meets_vias}
 use Rattle.pcb_model.specs.Rules.{clearance_of}
 use Rattle.pcb_model.specs.Pieces.{pieces_of, metal_of, kind_of, wire_piece}
 use Rattle.pcb_model.specs.Pairs.{PieceKeeps, KeepsFrom, PiecesKeep, is_compared}
-use Rattle.pcb_model.specs.Sound.{IsItemOf, IsLayerOf}
+use Rattle.pcb_model.specs.Sound.{IsItemOf, IsLayerOf, IsNetOf}
 use Rattle.move_maps.specs.Clear.{IsOwnPad, IsClearOf}
 use Rattle.move_maps.specs.Paint.{IsClearAt}
 use Rattle.move_maps.specs.Parts.{IsString, IsStrung, part, parts_by, parts}
@@ -114,23 +114,16 @@ same_compared (probe.Via s a) (Ban n v) = refl
 probe_strung : (d : Design) (g : ℕ) (b : Item) (p : Probe) → IsStrung b
     → All (λ (a : Item). IsClearOf d g p a) (parts b) → IsClearOf d g p b
 probe_strung d g b p s f =
-    let ps = pieces_of d (metal_of p) in
-    let c = clearance_of d (Some g) (kind_of (metal_of p)) None b.kind in
+    let c = clearance_of d (Some g) (kind_of (metal_of p)) b.net b.kind in
     let each = part_each (λ (a : Item). IsClearOf d g p a) b b.pieces f in record {
-      keep = λ m.
-          subst (λ (o : Option ℕ). PiecesKeep (clearance_of d (Some g) (kind_of (metal_of p)) o b.kind) ps b.pieces)
-          (sym s.no_net) (record {
-            each = λ i e hi. record {
-              each = λ j q hj. piece_kept c _ _ (s.strings j q hj) (λ k h hk.
-                  (((each j q hj k h hk).keep (same_compared p b.metal ∙ m)).each i e hi).each 0 q (omega arith));
-            };
-          });
-      stay_off = λ v k o. absurd (never b.net o.net s.no_net o.net_is);
+      keep = λ m. record {
+        each = λ i e hi. record {
+          each = λ j q hj. piece_kept c _ _ (s.strings j q hj) (λ k h hk.
+              (((each j q hj k h hk).keep (same_compared p b.metal ∙ m)).each i e hi).each 0 q (omega arith));
+        };
+      };
+      stay_off = λ v k o. absurd (s.not_smd o.smd);
     }
-  where
-    never : (o : Option ℕ) (n : ℕ) → o ≡ None → o ≡ Some n → ⊥
-    never None n e h = cc
-    never (Some x) n e h = cc
 
 -- so is a move
 pub move_strung : (d : Design) (g : ℕ) (b : Item) (o : Option Probe) → IsStrung b
@@ -159,9 +152,9 @@ chain_within p q rest f = links_within p (q ∷ rest) (All-head (IsWithin (2 ^ 2
     (All-tail (IsWithin (2 ^ 29)) p (q ∷ rest) f)
 
 -- one part
-one_part : (d : Design) (b : Item) (q : Piece) (h : Segment) → IsFit q → IsLayerOf d q → AreEndsWithin h
-    → IsItemOf d (part b q h)
-one_part d b q h f l w =
+one_part : (d : Design) (b : Item) (q : Piece) (h : Segment) → IfSome b.net (IsNetOf d) → IsFit q → IsLayerOf d q
+    → AreEndsWithin h → IsItemOf d (part b q h)
+one_part d b q h n f l w =
     let piece = wire_piece q.layer q.width (h.from ∷ h.to ∷ []) in record {
       fits = record {
         pieces_fit =
@@ -176,7 +169,7 @@ one_part d b q h f l w =
       metal_fits = tt;
       metal_in_range = tt;
       layers_in_range = All-cons (IsLayerOf d) piece [] l (All-nil (IsLayerOf d));
-      net_in_range = tt;
+      net_in_range = n;
     }
 
 -- all parts
@@ -188,7 +181,7 @@ parts_fit d b s f = part_all (IsItemOf d) b b.pieces (λ j q hj.
         → All (λ h. IsItemOf d (part b q h)) (spine_segments q.spine)
     of_piece q k fit l =
         subst (λ (t : Spine). All (λ h. IsItemOf d (part b q h)) (spine_segments t)) (sym k.is)
-        (All-weaker AreEndsWithin (λ h. IsItemOf d (part b q h)) (λ h w. one_part d b q h fit l w)
+        (All-weaker AreEndsWithin (λ h. IsItemOf d (part b q h)) (λ h w. one_part d b q h f.net_in_range fit l w)
         (chain_segments (k.first ∷ k.second ∷ k.rest))
         (chain_within k.first k.second k.rest (subst (IsSpineWithin (2 ^ 29)) k.is fit.within)))
 

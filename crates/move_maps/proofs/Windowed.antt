@@ -11,9 +11,9 @@ use Rattle.pcb_model.specs.Copper.{Ascends, IsFirstFrom}
 use Rattle.route_lattice.specs.Mesh.{Mesh, column, row}
 use Rattle.route_lattice.proofs.Among.{same_item}
 use Rattle.move_maps.specs.declared.window.Window.{Window}
-use Rattle.move_maps.specs.Windows.{IsOutOf}
+use Rattle.move_maps.specs.Windows.{IsOutOf, IsOutOfAll, Widens}
 use Rattle.move_maps.specs.Paint.{CoversSteps, IsHeld}
-use Rattle.move_maps.specs.OwnCopper.{IsOutOfAll, IsCoveredBy, IsOwnCopper, IsOwnBelow, Widens, TakesOwn}
+use Rattle.move_maps.specs.OwnCopper.{IsCoveredBy, IsOwnCopper, IsOwnBelow, TakesOwn}
 
 -- ---- windows
 -- a node out of a window is out of those in it

@@ -1,5 +1,5 @@
 -- What is looked up once for all moves of a group that an item may shut.
-use Rattle.std.specs.Prelude.{◌≡◌, ℕ, ◌<◌, ◌≤◌, ◌⊎◌, ◌^◌, ◌≤ℤ◌, [], ◌∷◌, Some}
+use Rattle.std.specs.Prelude.{◌≡◌, ℕ, ◌≤◌, ◌⊎◌, ◌^◌, ◌≤ℤ◌, [], ◌∷◌, Some}
 use Rattle.geo_kernel.specs.declared.point.Point.{Point}
 use Rattle.geo_kernel.specs.declared.point.Rect4.{Rect4}
 use Rattle.pcb_model.specs.declared.item.Kind.TheVariants as kind
@@ -16,14 +16,10 @@ abbrev pub IsBeyond : Rect4 → Point → Point → Type 0
 IsBeyond r p q = (((p.x ≤ℤ r.x0) × (q.x ≤ℤ r.x0)) ⊎ ((r.x1 ≤ℤ p.x) × (r.x1 ≤ℤ q.x)))
     ⊎ (((p.y ≤ℤ r.y0) × (q.y ≤ℤ r.y0)) ⊎ ((r.y1 ≤ℤ p.y) × (r.y1 ≤ℤ q.y)))
 
--- a wire between two points on a layer where the item has no copper, or beyond the box round it
-abbrev pub IsFar : Margins → ℕ → Point → Point → Type 0
-IsFar s layer p q = (layer < s.first ⊎ s.last < layer) ⊎ IsBeyond s.near p q
-
--- such wires keep their clearance from the item
+-- wires of two points beyond one side of the box keep their clearance from the item
 pub record IsFence (b : Item) (s : Margins) : Type 0 where
   pub within : s.wires ≤ 2 ^ 28
-  pub far : (layer : ℕ) (p q : Point) → IsFit (wire_piece layer s.width (p ∷ q ∷ [])) → IsFar s layer p q
+  pub far : (layer : ℕ) (p q : Point) → IsFit (wire_piece layer s.width (p ∷ q ∷ [])) → IsBeyond s.near p q
       → WireKeeps s.wires layer s.width (p ∷ q ∷ []) b
 
 -- the width of the group's wires, and what clearances its wires and vias keep from the item

@@ -1,5 +1,5 @@
 -- The copper of a net itself, as windows of the lattice, and what a map says of a move beside it.
-use Rattle.std.specs.Prelude.{◌≡◌, ℕ, ◌<◌, ◌≤◌, ◌⊎◌, List, Option, Some, All, Contains}
+use Rattle.std.specs.Prelude.{◌≡◌, ℕ, ◌<◌, List, Option, Some, Contains}
 use Rattle.pcb_model.specs.declared.item.Item.{Item}
 use Rattle.pcb_model.specs.declared.design.Design.{Design}
 use Rattle.route_lattice.specs.Mesh.{Mesh, node_count}
@@ -7,16 +7,8 @@ use Rattle.route_lattice.specs.Ways.{step_at, way}
 use Rattle.route_lattice.specs.Legal.{probe_at}
 use Rattle.route_lattice.specs.declared.moves.Move.{Move}
 use Rattle.move_maps.specs.declared.window.Window.{Window}
-use Rattle.move_maps.specs.Windows.{IsOutOf}
+use Rattle.move_maps.specs.Windows.{IsOutOfAll}
 use Rattle.move_maps.specs.Paint.{IsClearAt}
-
--- a column and a row that aren't both in the window
-abbrev pub IsPlaceOut : Window → ℕ → ℕ → Type 0
-IsPlaceOut w c r = (c < w.left ⊎ w.right ≤ c) ⊎ (r < w.bottom ⊎ w.top ≤ r)
-
--- the node is out of all these windows
-abbrev pub IsOutOfAll : Mesh → List Window → ℕ → Type 0
-IsOutOfAll m ws v = All (λ (w : Window). IsOutOf m w v) ws
 
 -- the steps of the nodes out of all these windows are clear of the item
 pub record IsCoveredBy (d : Design) (m : Mesh) (g : ℕ) (b : Item) (ws : List Window) : Type 0 where
@@ -29,10 +21,6 @@ pub record IsOwnCopper (d : Design) (m : Mesh) (items : List Item) (g net : ℕ)
 -- they are clear of each item of the net below an id
 pub record IsOwnBelow (d : Design) (m : Mesh) (items : List Item) (g net from : ℕ) (ws : List Window) : Type 0 where
   pub each : (b : Item) → Contains items b → b.id < from → b.net ≡ Some net → IsCoveredBy d m g b ws
-
--- a node out of the new windows is out of one more window than the old ones
-pub record Widens (old : List Window) (w : Window) (new : List Window) : Type 0 where
-  pub each : (m : Mesh) (v : ℕ) → IsOutOfAll m new v → IsOutOfAll m old v × IsOutOf m w v
 
 -- what the old windows cover the new ones do, and an item of the net too
 pub record TakesOwn (d : Design) (m : Mesh) (g net : ℕ) (b : Item) (old new : List Window) : Type 0 where

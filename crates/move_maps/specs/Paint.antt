@@ -5,7 +5,7 @@ use Rattle.pcb_model.specs.declared.item.Item.{Item}
 use Rattle.pcb_model.specs.declared.item.Probe.{Probe}
 use Rattle.pcb_model.specs.declared.item.Probe.TheVariants as probe
 use Rattle.pcb_model.specs.declared.design.Design.{Design}
-use Rattle.route_lattice.specs.Mesh.{Mesh, node_count, point_of}
+use Rattle.route_lattice.specs.Mesh.{Mesh, node_count, level, point_of}
 use Rattle.pcb_model.specs.Sound.{IsItemOf}
 use Rattle.route_lattice.specs.Ways.{way_count}
 use Rattle.route_lattice.specs.Legal.{probe_at, CanMove}
@@ -16,7 +16,7 @@ use Rattle.move_maps.specs.declared.paint.Stroke.TheVariants.{Comes, Goes, Stays
 use Rattle.move_maps.specs.Clear.{IsClearOf}
 use Rattle.move_maps.specs.Margins.{AreMargins}
 use Rattle.move_maps.specs.Maps.{more, fewer, place_at, IsTally}
-use Rattle.move_maps.specs.Windows.{IsOutOf}
+use Rattle.move_maps.specs.Windows.{IsOutOf, IsOutOfAll}
 
 -- the move is clear of the item, or there is none
 abbrev pub IsClearAt : Design → ℕ → Item → Option Probe → Type 0
@@ -70,6 +70,16 @@ pub record CoversSteps (d : Design) (m : Mesh) (g : ℕ) (b : Item) (w : Window)
 pub record CoversVia (d : Design) (m : Mesh) (g : ℕ) (b : Item) (padstack : ℕ) (w : Window) : Type 0 where
   pub each : (v : ℕ) → v < node_count m → IsOutOf m w v → IsClearOf d g (probe.Via padstack (point_of m v)) b
 
+-- all moves of the nodes out of all the windows are clear of the item
+pub record CoverTogether (d : Design) (m : Mesh) (g : ℕ) (b : Item) (ws : List Window) : Type 0 where
+  pub each : (v i : ℕ) → v < node_count m → i < way_count d m g → IsOutOfAll m ws v
+      → IsClearAt d g b (probe_at d m g v i)
+
+-- what the old windows cover the new ones do, and these items too
+pub record TakeIn (d : Design) (m : Mesh) (g : ℕ) (items : List Item) (old new : List Window) : Type 0 where
+  pub kept : (a : Item) → CoverTogether d m g a old → CoverTogether d m g a new
+  pub taken : All (λ (a : Item). CoverTogether d m g a new) items
+
 -- the window's places are those of lines
 pub record IsWindowIn (m : Mesh) (w : Window) : Type 0 where
   pub columns : w.left ≤ w.right
@@ -84,14 +94,21 @@ pub record IsHeld (w u : Window) : Type 0 where
   pub bottom : u.bottom ≤ w.bottom
   pub top : w.top ≤ u.top
 
+-- the moves below a number, at each node of a signal layer, are clear of the item
+pub record AreFirstClear (d : Design) (m : Mesh) (g : ℕ) (b : Item) (l first : ℕ) : Type 0 where
+  pub within : first ≤ way_count d m g
+  pub each : (v i : ℕ) → v < node_count m → level m v ≡ l → i < first → IsClearAt d g b (probe_at d m g v i)
+
 -- what is needed to paint an item into the counts of a group: the moves of its first net, what was looked up once of
--- the group and the item, and the window of the nodes whose moves it may shut
-pub record IsBrush (d : Design) (m : Mesh) (g via_cost : ℕ) (b : Item) (s : Margins) (w : Window) : Type 0 where
+-- the group and the item, and the windows of the nodes whose moves it may shut: one of all, and those of its parts
+pub record IsBrush (d : Design) (m : Mesh) (g via_cost : ℕ) (b : Item) (s : Margins)
+    (w : Window) (ws : List Window) : Type 0 where
   pub can_move : CanMove d m g via_cost
   pub item : IsItemOf d b
   pub margins : AreMargins d g b s
   pub covers : Covers d m g b w
   pub window : IsWindowIn m w
+  pub together : CoverTogether d m g b ws
 
 -- the counts of the first places of the table, where there is no item
 pub record IsFilled (d : Design) (m : Mesh) (g to : ℕ) (counts : List ℕ) : Type 0 where

@@ -1,9 +1,10 @@
--- A ban of chains, link by link.
-use Rattle.std.specs.Prelude.{◌≡◌, ℕ, List, [], ◌∷◌, map, flat_map, All, None, true}
+-- An item of chains, link by link.
+use Rattle.std.specs.Prelude.{◌≡◌, ℕ, List, [], ◌∷◌, map, flat_map, All}
 use Rattle.geo_kernel.specs.declared.point.Point.{Point}
 use Rattle.geo_kernel.specs.declared.spine.Spine.TheVariants.{Chain}
 use Rattle.geo_kernel.specs.Spine.{Segment, spine_segments}
 use Rattle.pcb_model.specs.declared.item.Item.{Item}
+use Rattle.pcb_model.specs.declared.item.Kind.TheVariants as kind
 use Rattle.pcb_model.specs.declared.item.Metal.TheVariants.{Ban}
 use Rattle.pcb_model.specs.declared.item.Piece.{Piece}
 use Rattle.pcb_model.specs.Inner.{meets_wires, meets_vias}
@@ -16,16 +17,16 @@ pub record IsString (q : Piece) : Type 0 where
   pub rest : List Point
   pub is : q.spine ≡ Chain (first ∷ second ∷ rest)
 
--- the item has no net, and each of its pieces is such a chain
+-- the item is no smd pad, and each of its pieces is such a chain
 pub record IsStrung (b : Item) : Type 0 where
-  pub no_net : b.net ≡ None
+  pub not_smd : ¬ (b.kind ≡ kind.Smd)
   pub strings : All IsString b.pieces
 
--- the item with one link of a piece for all its pieces
+-- one link of a piece for all pieces of the item: a ban of what the item is compared with
 abbrev pub part : Item → Piece → Segment → Item
 part b q h = record {
   id = b.id;
-  net = None;
+  net = b.net;
   fixed = b.fixed;
   kind = b.kind;
   metal = Ban (meets_wires b.metal) (meets_vias b.metal);

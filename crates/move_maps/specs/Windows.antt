@@ -1,6 +1,6 @@
 -- Which nodes a box may shut moves of.
 use Rattle.std.specs.Prelude.{ℕ, pos, ◌+◌, ◌*◌, ◌<◌, ◌≤◌, ◌-ℤ◌, ◌+ℤ◌, ◌≤ℤ◌, ◌<ℤ◌, ◌⊎◌, ◌≡◌, length, slice_index_or}
-use Rattle.std.specs.Prelude.{Some}
+use Rattle.std.specs.Prelude.{List, Some, All}
 use Rattle.geo_kernel.specs.declared.point.Rect4.{Rect4}
 use Rattle.pcb_model.specs.declared.item.Item.{Item}
 use Rattle.pcb_model.specs.declared.item.Probe.{Probe}
@@ -50,6 +50,23 @@ StepsOffAreClear = (d : Design) (m : Mesh) (g : ℕ) (b : Item) (f : Extent) (re
 -- the node isn't in the window
 abbrev pub IsOutOf : Mesh → Window → ℕ → Type 0
 IsOutOf m w v = (column m v < w.left ⊎ w.right ≤ column m v) ⊎ (row m v < w.bottom ⊎ w.top ≤ row m v)
+
+-- a column and a row that aren't both in the window
+abbrev pub IsPlaceOut : Window → ℕ → ℕ → Type 0
+IsPlaceOut w c r = (c < w.left ⊎ w.right ≤ c) ⊎ (r < w.bottom ⊎ w.top ≤ r)
+
+-- the node is out of all these windows
+abbrev pub IsOutOfAll : Mesh → List Window → ℕ → Type 0
+IsOutOfAll m ws v = All (λ (w : Window). IsOutOf m w v) ws
+
+-- a node out of the new windows is out of one more window than the old ones
+pub record Widens (old : List Window) (w : Window) (new : List Window) : Type 0 where
+  pub each : (m : Mesh) (v : ℕ) → IsOutOfAll m new v → IsOutOfAll m old v × IsOutOf m w v
+
+-- in a row, all columns out of these are out of all the windows; they are columns of a lattice
+pub record IsSpanOf (ws : List Window) (columns row left right : ℕ) : Type 0 where
+  pub outs : (c : ℕ) → c < columns → c < left ⊎ right ≤ c → All (λ (w : Window). IsPlaceOut w c row) ws
+  pub within : right ≤ columns
 
 -- where a point may be for a padstack about it to meet an item: the item's box, moved out by the padstack's
 abbrev pub around : Rect4 → Rect4 → Rect4

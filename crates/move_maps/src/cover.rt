@@ -1,7 +1,8 @@
-//! The window of the nodes whose moves an item may shut: steps and vias of a group alike.
+//! The window of the nodes whose moves copper of some extent may shut: steps and vias of a group alike.
 
 ghost use Rattle.std.specs.Prelude.{◌≡◌, ℕ, ◌+◌, ◌-◌, ◌*◌, ◌≤◌, ◌<◌, ◌^◌, ◌-ℤ◌, min, max, length};
-ghost use Rattle.pcb_model.specs.Bounds.{IsItemFit, HasRulesWithin};
+ghost use Rattle.pcb_model.specs.declared.item.Item.{Item as OneItem};
+ghost use Rattle.pcb_model.specs.Bounds.{HasRulesWithin};
 ghost use Rattle.pcb_model.specs.Near.{IsBoxWithin, IsExtentOf};
 ghost use Rattle.pcb_model.specs.Pieces.{padstack_pieces};
 ghost use Rattle.pcb_model.specs.Sound.{IsSound};
@@ -10,7 +11,7 @@ ghost use Rattle.move_maps.specs.Paint.{Covers, CoversSteps, CoversVia, IsWindow
 
 use crate::window::{Window, window_for};
 use geo_kernel::{Point, Rect4};
-use pcb_model::{Design, Extent, Item, Probe, width_of};
+use pcb_model::{Design, Extent, Probe, width_of};
 use route_lattice::Lattice;
 
 /// How far a box has to be grown for copper of these widths beyond it to keep each clearance up to `reach`.
@@ -58,20 +59,20 @@ pub(crate) fn joined(a: Window, b: Window) -> Window
     }
 }
 
-/// The nodes out of the window have steps that are clear of the item.
-pub(crate) fn step_window(lat: &Lattice, d: &Design, g: u32, b: &Item, reach: u64) -> Window
+/// The nodes out of the window have steps that are clear of each item of the extent.
+pub(crate) fn step_window(lat: &Lattice, d: &Design, g: u32, f: Extent, reach: u64) -> Window
     requires sound { IsSound d.now }
     requires fits { FitsDesign d.now lat.now }
-    requires item { IsItemFit b.now }
+    requires bounds { IsBoxWithin (2 ^ 29) f.bounds }
+    requires width { f.width ≤ 2 ^ 28 }
     requires rules { HasRulesWithin reach d.now }
     requires reach { reach ≤ 2 ^ 28 }
-    ensures covers { CoversSteps d.now lat.now g b.now result }
+    ensures covers { (b : OneItem) → IsExtentOf b.pieces f → CoversSteps d.now lat.now g b result }
     ensures left { result.left ≤ length lat.now.xs }
     ensures right { result.right ≤ length lat.now.xs }
     ensures bottom { result.bottom ≤ length lat.now.ys }
     ensures top { result.top ≤ length lat.now.ys }
 {
-    let f = Extent::of_item(b);
     let w = window_for(lat, f.bounds, grow_for(reach, width_of(d, g), f.width));
     widened(w, lat.xs().len(), lat.ys().len())
 }
@@ -110,21 +111,21 @@ pub(crate) fn padstack_extent(d: &Design, padstack: u32) -> Extent
     )
 }
 
-// The vias of the padstack at the nodes out of the window are clear of the item, for each group.
-fn via_window(lat: &Lattice, d: &Design, padstack: u32, b: &Item, reach: u64) -> Window
+// The vias of the padstack at the nodes out of the window are clear of each item of the extent, for each group.
+fn via_window(lat: &Lattice, d: &Design, padstack: u32, f: Extent, reach: u64) -> Window
     requires sound { IsSound d.now }
     requires fits { FitsDesign d.now lat.now }
-    requires item { IsItemFit b.now }
+    requires bounds { IsBoxWithin (2 ^ 29) f.bounds }
+    requires width { f.width ≤ 2 ^ 28 }
     requires rules { HasRulesWithin reach d.now }
     requires reach { reach ≤ 2 ^ 28 }
-    ensures covers { (g : ℕ) → CoversVia d.now lat.now g b.now padstack result }
+    ensures covers { (g : ℕ) (b : OneItem) → IsExtentOf b.pieces f → CoversVia d.now lat.now g b padstack result }
     ensures left { result.left ≤ length lat.now.xs }
     ensures right { result.right ≤ length lat.now.xs }
     ensures bottom { result.bottom ≤ length lat.now.ys }
     ensures top { result.top ≤ length lat.now.ys }
 {
     let e = padstack_extent(d, padstack);
-    let f = Extent::of_item(b);
     let grow = grow_for(reach, e.width, f.width);
     window_for(lat, around(f.bounds, e.bounds), grow)
 }
@@ -145,20 +146,21 @@ fn ordered(w: Window) -> Window
     }
 }
 
-/// The window of the nodes whose moves for the group of net `g` the item may shut.
-pub(crate) fn cover(lat: &Lattice, d: &Design, g: u32, b: &Item, reach: u64) -> Window
+/// The window of the nodes whose moves for the group of net `g` an item of the extent may shut.
+pub(crate) fn cover(lat: &Lattice, d: &Design, g: u32, f: Extent, reach: u64) -> Window
     requires sound { IsSound d.now }
     requires fits { FitsDesign d.now lat.now }
     requires g { g < length d.now.nets }
-    requires item { IsItemFit b.now }
+    requires bounds { IsBoxWithin (2 ^ 29) f.bounds }
+    requires width { f.width ≤ 2 ^ 28 }
     requires rules { HasRulesWithin reach d.now }
     requires reach { reach ≤ 2 ^ 28 }
-    ensures covers { Covers d.now lat.now g b.now result }
+    ensures covers { (b : OneItem) → IsExtentOf b.pieces f → Covers d.now lat.now g b result }
     ensures within { IsWindowIn lat.now result }
 {
-    let mut w = step_window(lat, d, g, b, reach);
+    let mut w = step_window(lat, d, g, f, reach);
     for padstack in d.nets.as_slice()[g as usize].vias.as_slice() {
-        w = joined(w, via_window(lat, d, *padstack, b, reach));
+        w = joined(w, via_window(lat, d, *padstack, f, reach));
     }
     ordered(w)
 }

@@ -12,14 +12,14 @@ ghost use Rattle.move_maps.specs.Starts.{AreInner};
 
 use crate::counts::Counts;
 use crate::paint::Stroke;
-use crate::parts::{is_strung, parts_of};
+use crate::parts::{is_edge, parts_of};
 use crate::start::start_counts;
 use crate::tally::{paint_item, shut_by_each};
 use pcb_model::{Copper, Design, Item};
 use route_lattice::{Lattice, LegalMoves};
 use std::alloc::{AllocError, Global};
 
-// Brings an item into the counts of the group of net `g`: one that is strung piece by piece, for good.
+// Brings an item into the counts of the group of net `g`: a fixed ban of chains link by link, for good.
 fn bring<C: Copper>(
     alloc: Global,
     lat: &Lattice,
@@ -40,7 +40,7 @@ fn bring<C: Copper>(
     ensures { OnOk result ((items : Seq OneItem) → AreTallied d.now lat.now g items counts.old
         → AreTallied d.now lat.now g (item.now ∷ items) counts.new) }
 {
-    if !is_strung(item) {
+    if !is_edge(item) {
         paint_item(lat, d, c, g, reach, counts, item, Stroke::Comes);
         return Ok(());
     }

@@ -67,7 +67,8 @@ pub(crate) fn pieces_near(pieces: &[Piece], by: Point) -> bool
     pieces.iter().all(|q| spine_near(&q.spine, by))
 }
 
-fn has_copper(pieces: &[Piece], layer: u8) -> bool
+/// Whether some piece lies on the layer.
+pub(crate) fn has_copper(pieces: &[Piece], layer: u8) -> bool
     ensures { result ≡ has_copper_on pieces.now layer }
 {
     pieces.iter().any(|q| q.layer == layer)

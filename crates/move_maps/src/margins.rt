@@ -1,14 +1,14 @@
 //! What is looked up once for all moves of a group that an item may shut: widths, clearances, and a box round the item.
-//! A step on another layer, or with both ends beyond the box, is told to be clear without a look at the item's pieces.
+//! A step with both ends beyond one side of the box is clear without a look at the item's pieces.
 
-ghost use Rattle.std.specs.Prelude.{◌≡◌, ◌↔◌, ◌⊎◌, ◌<◌, ◌≤◌, ◌^◌, ◌≤ℤ◌, [], ◌∷◌, IsTrue};
+ghost use Rattle.std.specs.Prelude.{◌↔◌, ◌^◌, [], ◌∷◌, IsTrue};
 ghost use Rattle.std.specs.Bool.{OnTrue};
 ghost use Rattle.pcb_model.specs.Bounds.{IsFit, IsItemFit};
 ghost use Rattle.pcb_model.specs.Near.{IsBoxWithin, IsExtentOf};
 ghost use Rattle.pcb_model.specs.Pieces.{wire_piece};
 ghost use Rattle.pcb_model.specs.Sound.{IsSound};
 ghost use Rattle.move_maps.specs.Clear.{WireKeeps};
-ghost use Rattle.move_maps.specs.Margins.{IsBeyond, IsFar, IsFence, AreMargins, ShutsSteps};
+ghost use Rattle.move_maps.specs.Margins.{IsBeyond, IsFence, AreMargins, ShutsSteps};
 
 use crate::clear::wire_keeps;
 use crate::cover::grow_for;
@@ -16,15 +16,13 @@ use crate::window::grown;
 use geo_kernel::{Point, Rect4};
 use pcb_model::{Design, Extent, Item, Kind, clearance, width_of};
 
-/// The width of a group's wires, the clearances that its wires and its vias keep from an item, in nm, the first and the
-/// last layer of the item, and a box beyond which wires keep their clearance.
+/// The width of a group's wires, the clearances that its wires and its vias keep from an item, in nm, and a box beyond
+/// which wires keep their clearance.
 #[derive(Clone, Copy)]
 pub(crate) struct Margins {
     pub width: u64,
     pub wires: u64,
     pub vias: u64,
-    pub first: u8,
-    pub last: u8,
     pub near: Rect4,
 }
 
@@ -61,16 +59,8 @@ impl Margins {
             width,
             wires,
             vias: clearance(d, Some(g), Kind::Via, b.net, b.kind),
-            first: extent.first,
-            last: extent.last,
             near: grown(extent.bounds, grow_for(wires, width, extent.width)),
         }
-    }
-
-    fn is_far(&self, layer: u8, a: Point, b: Point) -> bool
-        ensures { OnTrue result (IsFar self.now layer a b) }
-    {
-        (layer < self.first || self.last < layer) || is_beyond(self.near, a, b)
     }
 
     /// Whether a wire of the group between two points keeps its clearance from the item.
@@ -80,7 +70,7 @@ impl Margins {
         requires item { IsItemFit item.now }
         ensures { IsTrue result ↔ WireKeeps self.now.wires layer self.now.width (a ∷ b ∷ []) item.now }
     {
-        if self.is_far(layer, a, b) {
+        if is_beyond(self.near, a, b) {
             return true;
         }
         wire_keeps(self.wires, layer, self.width, &[a, b], item)
@@ -93,7 +83,7 @@ impl Margins {
         requires item { IsItemFit item.now }
         ensures { OnTrue result (ShutsSteps self.now.wires layer self.now.width at item.now) }
     {
-        if self.is_far(layer, at, at) {
+        if is_beyond(self.near, at, at) {
             return false;
         }
         !wire_keeps(self.wires, layer, self.width, &[at], item)

@@ -1,23 +1,22 @@
 //! The copper of a net itself, as windows of the lattice: the steps of all nodes out of them are clear of it.
 //! There a map needs no look at the copper: what it counts is foreign.
 
-ghost use Rattle.std.specs.Prelude.{◌≡◌, ◌↔◌, ◌<◌, ◌≤◌, ◌^◌, length, IsTrue, IfOk, OnOk, Some, All};
+ghost use Rattle.std.specs.Prelude.{◌≡◌, ◌<◌, ◌≤◌, ◌^◌, IfOk, OnOk, Some};
 ghost use Rattle.std.specs.Bool.{OnTrue};
 ghost use Rattle.pcb_model.specs.Bounds.{IsItemFit, HasRulesWithin};
 ghost use Rattle.pcb_model.specs.Sound.{IsSound};
 ghost use Rattle.route_lattice.specs.Fits.{FitsDesign};
 ghost use Rattle.route_lattice.specs.Mesh.{node_count};
-ghost use Rattle.move_maps.specs.OwnCopper.{IsPlaceOut, IsOutOfAll, IsOwnCopper, Widens, TakesOwn};
+ghost use Rattle.move_maps.specs.Windows.{IsOutOfAll, Widens};
+ghost use Rattle.move_maps.specs.OwnCopper.{IsOwnCopper, TakesOwn};
 
 use crate::cover::{joined, step_window};
-use crate::window::Window;
-use pcb_model::{Copper, Design, Item, reach_of};
+use crate::links::MOST_APART;
+use crate::window::{Window, is_out_of_all};
+use pcb_model::{Copper, Design, Extent, Item, reach_of};
 use route_lattice::Lattice;
 use std::alloc::{AllocError, Global};
 use std::marker::Model;
-
-/// So many windows stand apart; those of further items are joined to the last.
-const MOST_APART: usize = 32;
 
 /// Windows round the copper of a net. Contracts see them as their list.
 #[derive(Drop)]
@@ -32,25 +31,6 @@ impl Model for OwnCopper {
     ghost Value = { Seq OneWindow };
 
     ghost view = { λ s. s.windows.items };
-}
-
-/// Whether a column and a row aren't both in the window.
-fn is_place_out(w: &Window, column: usize, row: usize) -> bool
-    ensures { IsTrue result ↔ IsPlaceOut w.now column row }
-{
-    (column < w.left || column >= w.right) || (row < w.bottom || row >= w.top)
-}
-
-/// Whether a column and a row are out of all the windows.
-fn is_out_of_all(windows: &[Window], column: usize, row: usize) -> bool
-    ensures { OnTrue result (All (λ w. IsPlaceOut w column row) windows.now) }
-{
-    for w in windows {
-        if !is_place_out(w, column, row) {
-            return false;
-        }
-    }
-    true
 }
 
 // Adds a window, or joins it to the last of many.
@@ -87,7 +67,7 @@ fn take_item(
     if item.net != Some(net) {
         return Ok(());
     }
-    let w = step_window(lat, d, g, item, reach);
+    let w = step_window(lat, d, g, Extent::of_item(item), reach);
     add_window(windows, w)
 }
 

@@ -1,4 +1,4 @@
-//! An item painted into the counts of a group: each place in the item's window is tested once.
+//! An item painted into the counts of a group: each place in the windows of its copper is tested once.
 
 ghost use Rattle.std.specs.Prelude.{◌≡◌, ◌+◌, ◌*◌, ◌<◌, ◌≤◌, ◌^◌, ◌↔◌, [], ◌∷◌, true, length, slice_index, IsTrue};
 ghost use Rattle.std.specs.Bool.{OnTrue};
@@ -8,23 +8,26 @@ ghost use Rattle.pcb_model.specs.Bounds.{HasRulesWithin, IsFit};
 ghost use Rattle.pcb_model.specs.Pieces.{padstack_pieces as padstack_pieces_of, wire_piece};
 ghost use Rattle.pcb_model.specs.Sound.{IsSound, IsItemOf};
 ghost use Rattle.route_lattice.specs.Fits.{FitsDesign};
-ghost use Rattle.route_lattice.specs.Mesh.{node_count, node_at};
+ghost use Rattle.route_lattice.specs.Mesh.{node_count, column as column_of, row as row_of, level as level_of};
 ghost use Rattle.route_lattice.specs.Near.{are_near_at};
 ghost use Rattle.route_lattice.specs.Ways.{way_count, vias_of};
 ghost use Rattle.route_lattice.specs.Legal.{probe_at};
 ghost use Rattle.move_maps.specs.Clear.{IsClearOf};
 ghost use Rattle.move_maps.specs.Margins.{ShutsSteps};
 ghost use Rattle.move_maps.specs.Maps.{place_at};
-ghost use Rattle.move_maps.specs.Paint.{IsClearAt, turned as turned_by, Paints, IsBrush};
+ghost use Rattle.move_maps.specs.Paint.{IsClearAt, turned as turned_by, Paints, IsBrush, AreFirstClear};
 ghost use Rattle.move_maps.specs.Spots.{IsSpotOf, join_layers as joins_layers};
 
 use crate::clear::{is_via_clear, padstack_pieces};
 use crate::counts::Counts;
 use crate::cover::cover;
-use crate::joins::{join_layers, pieces_near};
+use crate::joins::{has_copper, join_layers, pieces_near};
+use crate::links::{MOST_APART, windows_near};
 use crate::margins::Margins;
+use crate::span::row_span;
 use crate::spot::{Spot, next_point};
-use crate::window::Window;
+use crate::window::{Window, is_out_of_all};
+use arrayvec::ArrayVec;
 use geo_kernel::Point;
 use pcb_model::{Copper, Design, Extent, Item};
 use route_lattice::{Lattice, LegalMoves};
@@ -49,14 +52,15 @@ fn turned(stroke: Stroke, n: u8) -> u8
     }
 }
 
-/// An item that comes, goes or stays, with the moves of a group's first net, and the window of the nodes whose moves
-/// the item may shut.
+/// An item that comes, goes or stays, with the moves of a group's first net, and the windows of the nodes whose moves
+/// the item may shut: one of all its copper, and those of its parts.
 #[derive(Drop)]
 pub(crate) struct Brush<'a, C: Copper> {
     moves: LegalMoves<'a, C>,
     item: &'a Item,
     margins: Margins,
     window: Window,
+    windows: ArrayVec<Window, MOST_APART>,
     stroke: Stroke,
 }
 
@@ -84,14 +88,16 @@ impl<'a, C: Copper> Brush<'a, C> {
         ensures item { result.item.now ≡ item.now }
         ensures stroke { result.stroke ≡ stroke }
         ensures ready { let s = result in let t = s.moves in
-            IsBrush t.d.now t.lat.now t.net t.via_cost s.item.now s.margins s.window }
+            IsBrush t.d.now t.lat.now t.net t.via_cost s.item.now s.margins s.window s.windows.items }
     {
-        let window = cover(lat, d, g, item, reach);
+        let extent = Extent::of_item(item);
+        let window = cover(lat, d, g, extent, reach);
         Brush {
             moves: LegalMoves::of(lat, d, c, g, 0),
             item,
-            margins: Margins::of(d, g, item, Extent::of_item(item)),
+            margins: Margins::of(d, g, item, extent),
             window,
+            windows: windows_near(lat, d, g, item, window, reach),
             stroke,
         }
     }
@@ -99,7 +105,7 @@ impl<'a, C: Copper> Brush<'a, C> {
     // Whether a step between the spot and a point is clear. `shut` says that no step from the spot is.
     fn is_clear_to(&self, spot: &Spot, to: Point, shut: bool) -> bool
         requires ready { let s = self.now in let t = s.moves in
-            IsBrush t.d.now t.lat.now t.net t.via_cost s.item.now s.margins s.window }
+            IsBrush t.d.now t.lat.now t.net t.via_cost s.item.now s.margins s.window s.windows.items }
         requires fit { IsFit (wire_piece spot.now.layer self.now.margins.width (spot.now.at ∷ to ∷ [])) }
         requires shut { let s = self.now in
             OnTrue shut (ShutsSteps s.margins.wires spot.now.layer s.margins.width spot.now.at s.item.now) }
@@ -115,7 +121,7 @@ impl<'a, C: Copper> Brush<'a, C> {
     // Whether the step of a direction is clear, or there is none.
     fn is_step_clear(&self, spot: &Spot, dir: u32, shut: bool) -> bool
         requires ready { let s = self.now in let t = s.moves in
-            IsBrush t.d.now t.lat.now t.net t.via_cost s.item.now s.margins s.window }
+            IsBrush t.d.now t.lat.now t.net t.via_cost s.item.now s.margins s.window s.windows.items }
         requires spot { IsSpotOf self.now.moves.lat.now spot.now }
         requires dir { dir < 4 }
         requires shut { let s = self.now in
@@ -132,7 +138,7 @@ impl<'a, C: Copper> Brush<'a, C> {
     // Whether the vias of a padstack at a point are clear, or there is none.
     fn is_stack_clear(&self, padstack: u32, at: Point) -> bool
         requires ready { let s = self.now in let t = s.moves in
-            IsBrush t.d.now t.lat.now t.net t.via_cost s.item.now s.margins s.window }
+            IsBrush t.d.now t.lat.now t.net t.via_cost s.item.now s.margins s.window s.windows.items }
         requires at { IsWithin (2 ^ 29) at }
         ensures { let s = self.now.moves in
             IsTrue result ↔ (are_near_at at (padstack_pieces_of s.d.now padstack) ≡ true
@@ -186,7 +192,7 @@ impl<'a, C: Copper> Brush<'a, C> {
     // Paints a step.
     fn paint_step(&self, counts: &mut Counts, spot: &Spot, dir: u32, shut: bool)
         requires ready { let s = self.now in let t = s.moves in
-            IsBrush t.d.now t.lat.now t.net t.via_cost s.item.now s.margins s.window }
+            IsBrush t.d.now t.lat.now t.net t.via_cost s.item.now s.margins s.window s.windows.items }
         requires size { let s = self.now.moves in
             length counts.old ≡ node_count s.lat.now * way_count s.d.now s.lat.now s.net }
         requires spot { IsSpotOf self.now.moves.lat.now spot.now }
@@ -206,17 +212,22 @@ impl<'a, C: Copper> Brush<'a, C> {
         self.turn(counts, spot.node, dir as usize);
     }
 
-    // Paints the steps of a node.
-    fn paint_steps(&self, counts: &mut Counts, spot: &Spot)
+    // Paints the steps of a node, unless they come before the first move that the item may shut.
+    fn paint_steps(&self, counts: &mut Counts, spot: &Spot, first: u32)
         requires ready { let s = self.now in let t = s.moves in
-            IsBrush t.d.now t.lat.now t.net t.via_cost s.item.now s.margins s.window }
+            IsBrush t.d.now t.lat.now t.net t.via_cost s.item.now s.margins s.window s.windows.items }
         requires size { let s = self.now.moves in
             length counts.old ≡ node_count s.lat.now * way_count s.d.now s.lat.now s.net }
         requires spot { IsSpotOf self.now.moves.lat.now spot.now }
+        requires clear { let s = self.now.moves in let m = s.lat.now in
+            AreFirstClear s.d.now m s.net self.now.item.now (level_of m spot.now.node) first }
         ensures { let s = self.now.moves in let d = s.d.now in let m = s.lat.now in
             let p = spot.now.node * way_count d m s.net in
             Paints self.now.stroke d m s.net self.now.item.now p (p + 4) counts.old counts.new }
     {
+        if first >= 4 {
+            return;
+        }
         let shut = self.margins.shuts_steps(spot.layer, spot.at, self.item);
         for dir in 0..4 {
             self.paint_step(counts, spot, dir, shut);
@@ -226,7 +237,7 @@ impl<'a, C: Copper> Brush<'a, C> {
     // Paints the via to signal layer `level` of the padstack of that number. `clear` says whether its vias are clear.
     fn paint_via(&self, counts: &mut Counts, spot: &Spot, number: usize, level: usize, clear: bool)
         requires ready { let s = self.now in let t = s.moves in
-            IsBrush t.d.now t.lat.now t.net t.via_cost s.item.now s.margins s.window }
+            IsBrush t.d.now t.lat.now t.net t.via_cost s.item.now s.margins s.window s.windows.items }
         requires size { let s = self.now.moves in
             length counts.old ≡ node_count s.lat.now * way_count s.d.now s.lat.now s.net }
         requires spot { IsSpotOf self.now.moves.lat.now spot.now }
@@ -255,7 +266,7 @@ impl<'a, C: Copper> Brush<'a, C> {
     // Paints the vias of a node of the padstack of that number. Whether they are clear is asked once.
     fn paint_stack(&self, counts: &mut Counts, spot: &Spot, number: usize)
         requires ready { let s = self.now in let t = s.moves in
-            IsBrush t.d.now t.lat.now t.net t.via_cost s.item.now s.margins s.window }
+            IsBrush t.d.now t.lat.now t.net t.via_cost s.item.now s.margins s.window s.windows.items }
         requires size { let s = self.now.moves in
             length counts.old ≡ node_count s.lat.now * way_count s.d.now s.lat.now s.net }
         requires spot { IsSpotOf self.now.moves.lat.now spot.now }
@@ -307,7 +318,7 @@ impl<'a, C: Copper> Brush<'a, C> {
     // Paints the vias of a node.
     fn paint_vias(&self, counts: &mut Counts, spot: &Spot)
         requires ready { let s = self.now in let t = s.moves in
-            IsBrush t.d.now t.lat.now t.net t.via_cost s.item.now s.margins s.window }
+            IsBrush t.d.now t.lat.now t.net t.via_cost s.item.now s.margins s.window s.windows.items }
         requires size { let s = self.now.moves in
             length counts.old ≡ node_count s.lat.now * way_count s.d.now s.lat.now s.net }
         requires spot { IsSpotOf self.now.moves.lat.now spot.now }
@@ -320,48 +331,98 @@ impl<'a, C: Copper> Brush<'a, C> {
         }
     }
 
-    // Paints the moves of a node, given by the places of its signal layer and its lines.
-    fn paint_node(&self, counts: &mut Counts, level: usize, row: usize, column: usize)
+    // Paints the moves of a node, from the first that the item may shut.
+    fn paint_node(&self, counts: &mut Counts, spot: &Spot, first: u32)
         requires ready { let s = self.now in let t = s.moves in
-            IsBrush t.d.now t.lat.now t.net t.via_cost s.item.now s.margins s.window }
+            IsBrush t.d.now t.lat.now t.net t.via_cost s.item.now s.margins s.window s.windows.items }
         requires size { let s = self.now.moves in
             length counts.old ≡ node_count s.lat.now * way_count s.d.now s.lat.now s.net }
-        requires level { level < length self.now.moves.lat.now.layers }
-        requires row { row < length self.now.moves.lat.now.ys }
-        requires column { column < length self.now.moves.lat.now.xs }
+        requires spot { IsSpotOf self.now.moves.lat.now spot.now }
+        requires clear { let s = self.now.moves in let m = s.lat.now in
+            AreFirstClear s.d.now m s.net self.now.item.now (level_of m spot.now.node) first }
         ensures { let s = self.now.moves in let d = s.d.now in let m = s.lat.now in
-            let a = way_count d m s.net in let node = node_at m level row column in
-            Paints self.now.stroke d m s.net self.now.item.now (node * a) ((node + 1) * a) counts.old counts.new }
+            let a = way_count d m s.net in
+            Paints self.now.stroke d m s.net self.now.item.now (spot.now.node * a) ((spot.now.node + 1) * a)
+            counts.old counts.new }
     {
-        let spot = Spot::of(self.moves.lat, level, row, column);
-        self.paint_steps(counts, &spot);
-        self.paint_vias(counts, &spot);
+        self.paint_steps(counts, spot, first);
+        self.paint_vias(counts, spot);
     }
 
-    // Paints a line of nodes across: those in the window's columns.
-    fn paint_line(&self, counts: &mut Counts, level: usize, row: usize)
+    // Paints the moves of a node, if it is in one of the windows.
+    fn paint_crossing(
+        &self,
+        counts: &mut Counts,
+        node: u32,
+        level: usize,
+        row: usize,
+        column: usize,
+        first: u32,
+    )
         requires ready { let s = self.now in let t = s.moves in
-            IsBrush t.d.now t.lat.now t.net t.via_cost s.item.now s.margins s.window }
+            IsBrush t.d.now t.lat.now t.net t.via_cost s.item.now s.margins s.window s.windows.items }
+        requires size { let s = self.now.moves in
+            length counts.old ≡ node_count s.lat.now * way_count s.d.now s.lat.now s.net }
+        requires node { node < node_count self.now.moves.lat.now }
+        requires level { level_of self.now.moves.lat.now node ≡ level }
+        requires row { row_of self.now.moves.lat.now node ≡ row }
+        requires column { column_of self.now.moves.lat.now node ≡ column }
+        requires clear { let s = self.now.moves in let m = s.lat.now in
+            AreFirstClear s.d.now m s.net self.now.item.now (level_of m node) first }
+        ensures { let s = self.now.moves in let d = s.d.now in let m = s.lat.now in
+            let a = way_count d m s.net in
+            Paints self.now.stroke d m s.net self.now.item.now (node * a) ((node + 1) * a)
+            counts.old counts.new }
+    {
+        if is_out_of_all(self.windows.as_slice(), column, row) {
+            return;
+        }
+        let spot = Spot::of(self.moves.lat, node, level, row, column);
+        self.paint_node(counts, &spot, first);
+    }
+
+    // Paints a line of nodes across: those in the columns that the windows hold there.
+    fn paint_line(&self, counts: &mut Counts, level: usize, row: usize, first: u32)
+        requires ready { let s = self.now in let t = s.moves in
+            IsBrush t.d.now t.lat.now t.net t.via_cost s.item.now s.margins s.window s.windows.items }
         requires size { let s = self.now.moves in
             length counts.old ≡ node_count s.lat.now * way_count s.d.now s.lat.now s.net }
         requires some { 0 < node_count self.now.moves.lat.now }
         requires level { level < length self.now.moves.lat.now.layers }
         requires row { row < length self.now.moves.lat.now.ys }
+        requires clear { let s = self.now.moves in
+            AreFirstClear s.d.now s.lat.now s.net self.now.item.now level first }
         ensures { let s = self.now.moves in let d = s.d.now in let m = s.lat.now in
             let a = way_count d m s.net in
             Paints self.now.stroke d m s.net self.now.item.now ((level * length m.ys + row) * length m.xs * a)
             ((level * length m.ys + row + 1) * length m.xs * a)
             counts.old counts.new }
     {
-        for column in self.window.left..self.window.right {
-            self.paint_node(counts, level, row, column);
+        let width = self.moves.lat.xs().len();
+        let start = (level * self.moves.lat.ys().len() + row) * width;
+        let span = row_span(self.windows.as_slice(), width, row);
+        for column in span.left..span.right {
+            self.paint_crossing(counts, (start + column) as u32, level, row, column, first);
         }
+    }
+
+    // The first move that the item may shut at the nodes of a signal layer: where it has no copper, no step.
+    fn first_move(&self, level: usize) -> u32
+        requires { level < length self.now.moves.lat.now.layers }
+        ensures { let s = self.now.moves in
+            AreFirstClear s.d.now s.lat.now s.net self.now.item.now level result }
+    {
+        let layer = self.moves.lat.layers().as_slice()[level];
+        if has_copper(self.item.pieces.as_slice(), layer) {
+            return 0;
+        }
+        4
     }
 
     // Paints the nodes of a signal layer: those in the window's rows.
     fn paint_level(&self, counts: &mut Counts, level: usize)
         requires ready { let s = self.now in let t = s.moves in
-            IsBrush t.d.now t.lat.now t.net t.via_cost s.item.now s.margins s.window }
+            IsBrush t.d.now t.lat.now t.net t.via_cost s.item.now s.margins s.window s.windows.items }
         requires size { let s = self.now.moves in
             length counts.old ≡ node_count s.lat.now * way_count s.d.now s.lat.now s.net }
         requires some { 0 < node_count self.now.moves.lat.now }
@@ -372,15 +433,16 @@ impl<'a, C: Copper> Brush<'a, C> {
             ((level + 1) * length m.ys * length m.xs * a)
             counts.old counts.new }
     {
+        let first = self.first_move(level);
         for row in self.window.bottom..self.window.top {
-            self.paint_line(counts, level, row);
+            self.paint_line(counts, level, row, first);
         }
     }
 
     /// Paints the item into the counts, or takes it out of them.
     pub(crate) fn paint(&self, counts: &mut Counts)
         requires ready { let s = self.now in let t = s.moves in
-            IsBrush t.d.now t.lat.now t.net t.via_cost s.item.now s.margins s.window }
+            IsBrush t.d.now t.lat.now t.net t.via_cost s.item.now s.margins s.window s.windows.items }
         requires size { let s = self.now.moves in
             length counts.old ≡ node_count s.lat.now * way_count s.d.now s.lat.now s.net }
         ensures { let s = self.now.moves in let d = s.d.now in let m = s.lat.now in

@@ -1,4 +1,5 @@
-//! Fixed bans of chains, as the edge of the board: link by link, since their box is large and what they shut is little.
+//! Items of chains, as routed wires and the edge of the board: link by link, since their box is large and what they
+//! shut is little.
 
 ghost use Rattle.std.specs.Prelude.{◌≡◌, ◌<◌, ◌≤◌, ◌++◌, ◌∷◌, [], true, false, map, length, All, IfOk, OnOk};
 ghost use Rattle.geo_kernel.specs.Spine.{chain_segments};
@@ -31,19 +32,25 @@ fn are_strings(qs: &[Piece]) -> bool
     true
 }
 
-/// Whether the item is a fixed ban of chains.
+/// Whether the item is no smd pad, and all its pieces are chains of two points or more.
 pub(crate) fn is_strung(b: &Item) -> bool
     ensures { result ≡ true → IsStrung b.now }
 {
-    if !b.fixed || b.net.is_some() || b.kind != Kind::Area {
+    if b.kind == Kind::Smd {
         return false;
     }
     are_strings(b.pieces.as_slice())
 }
 
-// The item with one link of a piece for all its pieces.
+/// Whether the item is a fixed ban of chains.
+pub(crate) fn is_edge(b: &Item) -> bool
+    ensures { result ≡ true → IsStrung b.now }
+{
+    b.fixed && b.net.is_none() && b.kind == Kind::Area && is_strung(b)
+}
+
+// One link of a piece for all pieces of the item: a ban of what the item is compared with.
 fn part(alloc: Global, b: &Item, q: &Piece, from: Point, to: Point) -> Result<Item, AllocError>
-    requires { b.now.net ≡ None }
     ensures { IfOk result (λ a. a ≡ part_by b.now q.now (record { from = from; to = to })) }
 {
     let chain = List::from_slice(alloc, &[from, to])?;
@@ -55,7 +62,7 @@ fn part(alloc: Global, b: &Item, q: &Piece, from: Point, to: Point) -> Result<It
     })?;
     Ok(Item {
         id: b.id,
-        net: None,
+        net: b.net,
         fixed: b.fixed,
         kind: b.kind,
         metal: Metal::Ban {
@@ -74,8 +81,7 @@ fn push_links(
     q: &Piece,
     points: &[Point],
 ) -> Result<(), AllocError>
-    requires net { b.now.net ≡ None }
-    requires two { 2 ≤ length points.now }
+    requires { 2 ≤ length points.now }
     ensures { OnOk result (parts.new ≡ parts.old ++ map (part_by b.now q.now) (chain_segments points.now)) }
 {
     let mut from = points[0];
@@ -88,8 +94,7 @@ fn push_links(
 
 // Appends a part for each link of the piece.
 fn push_parts(alloc: Global, parts: &mut List<Item>, b: &Item, q: &Piece) -> Result<(), AllocError>
-    requires net { b.now.net ≡ None }
-    requires string { IsString q.now }
+    requires { IsString q.now }
     ensures { OnOk result (parts.new ≡ parts.old ++ parts_by b.now q.now) }
 {
     match &q.spine {

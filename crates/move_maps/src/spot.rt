@@ -1,9 +1,9 @@
 //! Nodes whose places among the lines are known: what is looked up of them once, and where their steps lead.
 //! No number of a node is divided.
 
-ghost use Rattle.std.specs.Prelude.{◌≡◌, ◌+◌, ◌*◌, ◌<◌, ◌≤◌, ◌^◌, pos, length, slice_index_or};
+ghost use Rattle.std.specs.Prelude.{◌≡◌, ◌<◌, pos, length, slice_index_or};
 ghost use Rattle.std.specs.Option.{option_map};
-ghost use Rattle.route_lattice.specs.Mesh.{node_count, node_at};
+ghost use Rattle.route_lattice.specs.Mesh.{node_count, column as column_of, row as row_of, level as level_of};
 ghost use Rattle.move_maps.specs.Spots.{IsSpotOf, next_point as next_point_at, line_after as after};
 ghost use Rattle.move_maps.specs.Spots.{line_before as before, across as across_at, up as up_at};
 
@@ -20,25 +20,6 @@ pub(crate) struct Spot {
     pub layer: u8,
 }
 
-// The number of a node by its places.
-fn number_of(
-    width: usize,
-    height: usize,
-    layers: usize,
-    level: usize,
-    row: usize,
-    column: usize,
-) -> u32
-    requires few { layers * height * width ≤ 2 ^ 24 }
-    requires level { level < layers }
-    requires row { row < height }
-    requires column { column < width }
-    ensures value { result ≡ (level * height + row) * width + column }
-    ensures there { result < layers * height * width }
-{
-    ((level * height + row) * width + column) as u32
-}
-
 // Where a y line and an x line cross.
 fn crossing_at(xs: &[i64], ys: &[i64], row: usize, column: usize) -> Point
     requires row { row < length ys.now }
@@ -53,23 +34,21 @@ fn crossing_at(xs: &[i64], ys: &[i64], row: usize, column: usize) -> Point
 }
 
 impl Spot {
-    /// That of a signal layer, a y line and an x line, each by its place.
-    pub(crate) fn of(lat: &Lattice, level: usize, row: usize, column: usize) -> Spot
-        requires few { node_count lat.now ≤ 2 ^ 24 }
-        requires level { level < length lat.now.layers }
-        requires row { row < length lat.now.ys }
-        requires column { column < length lat.now.xs }
+    /// That of a node whose places are known.
+    pub(crate) fn of(lat: &Lattice, node: u32, level: usize, row: usize, column: usize) -> Spot
+        requires node { node < node_count lat.now }
+        requires level { level_of lat.now node ≡ level }
+        requires row { row_of lat.now node ≡ row }
+        requires column { column_of lat.now node ≡ column }
         ensures spot { IsSpotOf lat.now result }
-        ensures node { result.node ≡ node_at lat.now level row column }
+        ensures node { result.node ≡ node }
     {
-        let xs = lat.xs().as_slice();
-        let ys = lat.ys().as_slice();
         let layers = lat.layers().as_slice();
         Spot {
-            node: number_of(xs.len(), ys.len(), layers.len(), level, row, column),
+            node,
             row,
             column,
-            at: crossing_at(xs, ys, row, column),
+            at: crossing_at(lat.xs().as_slice(), lat.ys().as_slice(), row, column),
             layer: layers[level],
         }
     }

@@ -1,16 +1,18 @@
 //! The part of the lattice whose moves an item may shut.
 
-ghost use Rattle.std.specs.Prelude.{◌≡◌, ◌≤◌, ◌<◌, ◌≤ℤ◌, ◌<ℤ◌, ◌-ℤ◌, ◌+ℤ◌, ◌^◌, ℕ, pos, length, slice_index_or};
+ghost use Rattle.std.specs.Prelude.{◌≡◌, ◌≤◌, ◌<◌, ◌↔◌, ◌≤ℤ◌, ◌<ℤ◌, ◌-ℤ◌, ◌+ℤ◌, ◌^◌, ℕ, pos, length, slice_index_or};
+ghost use Rattle.std.specs.Prelude.{All, IsTrue};
+ghost use Rattle.std.specs.Bool.{OnTrue};
 ghost use Rattle.std.specs.List.Sorted.{IsStrictlySortedBy};
 ghost use Rattle.std.specs.Ordering.{int_cmp};
 ghost use Rattle.pcb_model.specs.Near.{IsBoxWithin};
-ghost use Rattle.move_maps.specs.Windows.{LeavesOut, IsWindowFor, StepsOffAreClear, ViasOutAreClear};
+ghost use Rattle.move_maps.specs.Windows.{LeavesOut, IsWindowFor, IsPlaceOut, StepsOffAreClear, ViasOutAreClear};
 
 use geo_kernel::Rect4;
 use route_lattice::Lattice;
 
 /// The places of lines: columns from `left` to below `right`, and rows from `bottom` to below `top`.
-#[derive(Clone, Copy)]
+#[derive(Clone, Copy, Default)]
 pub(crate) struct Window {
     pub left: usize,
     pub right: usize,
@@ -84,6 +86,25 @@ pub(crate) fn window_for(lat: &Lattice, r: Rect4, grow: u64) -> Window
     ensures top { result.top ≤ length lat.now.ys }
 {
     window_of(lat, grown(r, grow))
+}
+
+// Whether a column and a row aren't both in the window.
+fn is_place_out(w: &Window, column: usize, row: usize) -> bool
+    ensures { IsTrue result ↔ IsPlaceOut w.now column row }
+{
+    (column < w.left || column >= w.right) || (row < w.bottom || row >= w.top)
+}
+
+/// Whether a column and a row are out of all the windows.
+pub(crate) fn is_out_of_all(windows: &[Window], column: usize, row: usize) -> bool
+    ensures { OnTrue result (All (λ w. IsPlaceOut w column row) windows.now) }
+{
+    for w in windows {
+        if !is_place_out(w, column, row) {
+            return false;
+        }
+    }
+    true
 }
 
 /// The steps of all nodes that are neither in the window of an item's box nor beside it are clear of the item.

@@ -5,7 +5,7 @@ use Rattle.move_maps.proofs.cover.cover.Goals as goal
 pub loop-padstack-init : goal.loop-padstack-init
 loop-padstack-init c =
     let k = c.step_window-w.ensures in
-    so_far_first c.args.d.now c.args.lat.now c.args.g c.args.b.now c.as_slice-padstack-items.result.now
+    so_far_first c.args.d.now c.args.lat.now c.args.g c.args.f c.as_slice-padstack-items.result.now
     c.step_window-w.result k.covers k.left k.right k.bottom k.top
 
 pub loop-padstack-preserved : goal.loop-padstack-preserved
@@ -13,7 +13,7 @@ loop-padstack-preserved c =
     let s = c.loop-padstack.invariant in
     let v = c.via_window.ensures in
     let j = c.joined-w.ensures in
-    so_far_next c.args.d.now c.args.lat.now c.args.g c.args.b.now c.as_slice-padstack-items.result.now
+    so_far_next c.args.d.now c.args.lat.now c.args.g c.args.f c.as_slice-padstack-items.result.now
     c.loop-padstack.padstack-index c.loop-padstack.w c.via_window.result c.joined-w.result c.loop-padstack-test.true
     s (v.covers c.args.g) j.a j.b
     (let a = s.left in let b = v.left in let e = j.left in omega (arith, a, b, e))
@@ -23,7 +23,7 @@ loop-padstack-preserved c =
 
 pub returns-clause-covers : goal.returns-clause-covers
 returns-clause-covers c =
-    so_far_all c.args.d.now c.args.lat.now c.args.g c.args.b.now c.as_slice.result.now c.index-as_slice-g.result
+    so_far_all c.args.d.now c.args.lat.now c.args.g c.args.f c.as_slice.result.now c.index-as_slice-g.result
     c.as_slice-padstack-items.result.now c.loop-padstack.padstack-index c.loop-padstack.w c.ordered.result
     c.as_slice.ensures c.requires.g c.as_slice-padstack-items.ensures c.loop-padstack-test.false
     c.loop-padstack.invariant c.ordered.ensures.held

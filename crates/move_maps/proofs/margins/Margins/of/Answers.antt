@@ -1,4 +1,4 @@
-use Rattle.std.proofs.Common.{◌≤◌, ◌^◌, Some, refl, sym, subst}
+use Rattle.std.proofs.Common.{◌≤◌, ◌^◌, Some, sym, subst}
 use Rattle.pcb_model.specs.declared.item.Kind.TheVariants as kind
 use Rattle.pcb_model.proofs.Within.{clearance_within}
 use Rattle.route_lattice.proofs.Fitting.{width_small}
@@ -22,8 +22,6 @@ returns c =
       width = c.width_of-width.result;
       wires = c.clearance-wires.result;
       vias = c.clearance.result;
-      first = c.args.extent.first;
-      last = c.args.extent.last;
       near = c.grown.result;
     }) c.grow_for.result c.requires.extent c.requires.sound.fits.rules_within c.width_of-width.ensures
-    c.clearance-wires.ensures c.clearance.ensures refl refl c.grow_for.ensures.enough g.x0 g.y0 g.x1 g.y1
+    c.clearance-wires.ensures c.clearance.ensures c.grow_for.ensures.enough g.x0 g.y0 g.x1 g.y1

@@ -1,6 +1,6 @@
 use Rattle.std.proofs.Common.{◌≡◌, ◌<◌, arith}
 use Rattle.route_lattice.specs.Legal.{IsOpen, probe_at}
-use Rattle.move_maps.specs.OwnCopper.{IsOutOfAll}
+use Rattle.move_maps.specs.Windows.{IsOutOfAll}
 use Rattle.move_maps.proofs.Foreign.{on_then, map_shut}
 use Rattle.move_maps.proofs.net_moves.NetMoves.is_shut.Goals as goal
 

@@ -1,6 +1,6 @@
 use Rattle.std.proofs.Common.{◌≡◌, ℕ, ◌+◌, ◌*◌, ◌≤◌, ◌<◌, refl, ap, ◌∙◌, arith}
 use Rattle.route_lattice.specs.Ways.{way_count}
-use Rattle.move_maps.proofs.Painting.{begins, goes_on, at_ends}
+use Rattle.move_maps.proofs.Painting.{begins, goes_on, at_ends, firsts_off, step_index}
 use Rattle.move_maps.proofs.Spotting.{disc_fits_at}
 use Rattle.move_maps.proofs.paint.Brush.paint_steps.Goals as goal
 
@@ -15,6 +15,19 @@ over n i = omega arith
 
 equal : (i n : ℕ) → i ≤ n → n ≤ i → i ≡ n
 equal i n h k = omega (arith, h, k)
+
+within : (i first : ℕ) → i < 4 → 4 ≤ first → i < first
+within i first h k = omega (arith, h, k)
+
+some : (a : ℕ) → 3 < a → 4 ≤ a
+some a h = omega (arith, h)
+
+pub returns-then-first-ge4 : goal.returns-then-first-ge4
+returns-then-first-ge4 g c =
+    let s = c.args.self.now in let t = s.moves in let p = c.args.spot.now in
+    firsts_off s.stroke t.d.now t.lat.now t.net s.item.now p.node 4 c.args.counts.now
+    (some (way_count t.d.now t.lat.now t.net) (step_index t.d.now t.lat.now t.net 3 (omega arith))) (λ i h.
+    c.requires.clear.each p.node i c.requires.spot.there refl (within i c.args.first h c.if-first-ge4.true))
 
 pub shuts_steps-requires-clause-fit : goal.shuts_steps-requires-clause-fit
 shuts_steps-requires-clause-fit g c =

@@ -1,7 +1,7 @@
 use Rattle.std.proofs.Common.{All, take}
 use Rattle.move_maps.specs.declared.window.Window.{Window}
-use Rattle.move_maps.specs.OwnCopper.{IsPlaceOut}
-use Rattle.move_maps.proofs.own.is_out_of_all.Given as goal
+use Rattle.move_maps.specs.Windows.{IsPlaceOut}
+use Rattle.move_maps.proofs.window.is_out_of_all.Given as goal
 
 abbrev pub invariant-loop-w : goal.invariant-loop-w
 invariant-loop-w l = All (λ (w : Window). IsPlaceOut w l.column l.row) (take l.w-index l.windows)

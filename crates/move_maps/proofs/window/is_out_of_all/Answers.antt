@@ -2,8 +2,8 @@ use Rattle.std.proofs.Common.{length, get_or, subst, arith}
 use Rattle.std.proofs.lemmas.List.{length-take, get_or-take}
 use Rattle.std.proofs.lemmas.List.Elements.{All-more}
 use Rattle.move_maps.specs.declared.window.Window.{Window}
-use Rattle.move_maps.specs.OwnCopper.{IsPlaceOut}
-use Rattle.move_maps.proofs.own.is_out_of_all.Goals as goal
+use Rattle.move_maps.specs.Windows.{IsPlaceOut}
+use Rattle.move_maps.proofs.window.is_out_of_all.Goals as goal
 
 pub loop-w-preserved : goal.loop-w-preserved
 loop-w-preserved c = All-more (λ (w : Window). IsPlaceOut w c.args.column c.args.row) c.args.windows.now

@@ -1,0 +1,7 @@
+use Rattle.std.proofs.Common.{take}
+use Rattle.move_maps.specs.Windows.{IsSpanOf}
+use Rattle.move_maps.proofs.span.row_span.Given as goal
+
+-- the windows so far
+abbrev pub invariant-loop-w : goal.invariant-loop-w
+invariant-loop-w l = IsSpanOf (take l.w-index l.windows) l.columns l.row l.span.left l.span.right

@@ -29,8 +29,8 @@ returns-then-first-ge4 g c =
     (some (way_count t.d.now t.lat.now t.net) (step_index t.d.now t.lat.now t.net 3 (omega arith))) (λ i h.
     c.requires.clear.each p.node i c.requires.spot.there refl (within i c.args.first h c.if-first-ge4.true))
 
-pub shuts_steps-requires-clause-fit : goal.shuts_steps-requires-clause-fit
-shuts_steps-requires-clause-fit g c =
+pub shuts_steps-shut-requires-clause-fit : goal.shuts_steps-shut-requires-clause-fit
+shuts_steps-shut-requires-clause-fit g c =
     let s = c.args.self.now in let t = s.moves in let p = c.args.spot.now in let k = c.requires.spot in
     let r = c.requires.ready in
     disc_fits_at t.d.now t.lat.now t.net p.node p.layer s.margins.width p.at k.layer_is r.margins.width k.at_is

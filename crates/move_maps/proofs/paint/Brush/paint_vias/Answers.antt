@@ -38,7 +38,7 @@ paint_stack-requires-clause-size g c = c.loop-number.invariant.size ∙ c.requir
 
 pub paint_stack-requires-clause-number : goal.paint_stack-requires-clause-number
 paint_stack-requires-clause-number g c = subst (λ n. c.loop-number.number < n)
-    (c.len-number-end.ensures ∙ ap length c.vias.ensures) c.loop-number-test.true
+    (ap length c.vias-number-end.ensures) c.loop-number-test.true
 
 pub returns : goal.returns
 returns g c =
@@ -46,7 +46,7 @@ returns g c =
     let m = t.lat.now in
     let a = way_count t.d.now m t.net in
     let n = c.args.spot.now.node * a in
-    let count = c.len-number-end.ensures ∙ ap length c.vias.ensures in
+    let count = ap length c.vias-number-end.ensures in
     at_ends s.stroke t.d.now m t.net s.item.now (n + 4) (n + 4) (n + (4 + c.loop-number.number * length m.layers))
     (n + a) c.args.counts.now c.loop-number.counts refl
     (ap (λ i. n + (4 + i * length m.layers))

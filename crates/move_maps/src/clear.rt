@@ -180,14 +180,7 @@ fn via_stays_off(d: &Design, g: u32, padstack: u32, at: Point, b: &Item) -> bool
 
 /// Whether a via keeps the clearance `c`, that of the group of net `g`, from the item, as if the item were foreign
 /// copper, and touches no smd pad of the group, unless the design allows it.
-pub(crate) fn is_via_clear(
-    d: &Design,
-    g: u32,
-    c: u64,
-    padstack: u32,
-    at: Point,
-    b: &Item,
-) -> bool
+pub(crate) fn is_via_clear(d: &Design, g: u32, c: u64, padstack: u32, at: Point, b: &Item) -> bool
     requires g { g < length d.now.nets }
     requires net { IfSome b.now.net (λ n. n < length d.now.nets) }
     requires design { IsDesignFit d.now }

@@ -44,7 +44,9 @@ fn loops_near(loops: &[List<Point>], by: Point) -> bool
     requires by_within { IsWithin (2 ^ 29) by }
     ensures { result ≡ list_all (list_all (is_near_at by)) loops.now }
 {
-    loops.iter().all(|points| points_near(points.as_slice(), by))
+    loops
+        .iter()
+        .all(|points| points_near(points.as_slice(), by))
 }
 
 fn spine_near(spine: &Spine, by: Point) -> bool

@@ -148,7 +148,14 @@ impl<'a, C: Copper> Brush<'a, C> {
         if !pieces_near(padstack_pieces(d, padstack), at) {
             return true;
         }
-        is_via_clear(d, self.moves.net, self.margins.vias, padstack, at, self.item)
+        is_via_clear(
+            d,
+            self.moves.net,
+            self.margins.vias,
+            padstack,
+            at,
+            self.item,
+        )
     }
 
     // The place of a move's count.
@@ -312,7 +319,9 @@ impl<'a, C: Copper> Brush<'a, C> {
         requires net { self.now.moves.net < length self.now.moves.d.now.nets }
         ensures { result.now ≡ vias_of self.now.moves.d.now self.now.moves.net }
     {
-        self.moves.d.nets.as_slice()[self.moves.net as usize].vias.as_slice()
+        self.moves.d.nets.as_slice()[self.moves.net as usize]
+            .vias
+            .as_slice()
     }
 
     // Paints the vias of a node.

@@ -9,4 +9,4 @@ returns g c =
     let t = c.args.self.now.moves in
     let n = c.index-as_slice-self.result in
     c.as_slice-2.ensures ∙ (ap (λ (ns : List Net). (slice_index_or ns t.net n).vias) c.as_slice.ensures
-    ∙ sym (vias_at t.d.now.nets t.net n c.requires))
+    ∙ sym (vias_at t.d.now.nets t.net n c.requires.net))

@@ -9,14 +9,14 @@ use Rattle.move_maps.proofs.spot.Spot.of.Goals as goal
 pub crossing_at-requires-clause-row : goal.crossing_at-requires-clause-row
 crossing_at-requires-clause-row c =
     let m = c.args.lat.now in
-    subst (λ (zs : List ℤ). c.args.row < length zs) (sym (c.as_slice-3.ensures ∙ c.ys.ensures))
+    subst (λ (zs : List ℤ). c.args.row < length zs) (sym (c.as_slice-2.ensures ∙ c.ys.ensures))
     (subst (λ n. n < length m.ys) c.requires.row
     (row_below (length m.xs) (length m.ys) (length m.layers) c.args.node c.requires.node))
 
 pub crossing_at-requires-clause-column : goal.crossing_at-requires-clause-column
 crossing_at-requires-clause-column c =
     let m = c.args.lat.now in
-    subst (λ (zs : List ℤ). c.args.column < length zs) (sym (c.as_slice-2.ensures ∙ c.xs.ensures))
+    subst (λ (zs : List ℤ). c.args.column < length zs) (sym (c.as_slice.ensures ∙ c.xs.ensures))
     (subst (λ n. n < length m.xs) c.requires.column (column_below m c.args.node c.requires.node))
 
 pub bounds-layers-level : goal.bounds-layers-level
@@ -32,8 +32,8 @@ returns-clause-spot c =
     let i = c.args.column in
     let j = c.args.row in
     let l = c.args.level in
-    let ex : c.as_slice-2.result.now ≡ m.xs = c.as_slice-2.ensures ∙ c.xs.ensures in
-    let ey : c.as_slice-3.result.now ≡ m.ys = c.as_slice-3.ensures ∙ c.ys.ensures in
+    let ex : c.as_slice.result.now ≡ m.xs = c.as_slice.ensures ∙ c.xs.ensures in
+    let ey : c.as_slice-2.result.now ≡ m.ys = c.as_slice-2.ensures ∙ c.ys.ensures in
     let el : c.as_slice-layers.result.now ≡ m.layers = c.as_slice-layers.ensures ∙ c.layers.ensures in
     spot_of m
     (record {

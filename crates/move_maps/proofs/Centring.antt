@@ -1,7 +1,7 @@
 -- Padstacks about the origin: what lies near at a node, and what begins inside there.
 use Rattle.std.proofs.Common.{◌≡◌, ℕ, ℤ, pos, ◌≤◌, ◌^◌, ◌+ℤ◌, ◌≤ℤ◌, Bool, true, false, ◌&&◌, List, [], ◌∷◌}
-use Rattle.std.proofs.Common.{map, flat_map, length, All, refl, sym, ap, ◌∙◌, subst, arith, slice_index_or}
-use Rattle.std.specs.Prelude.{neg_ℤ, unsigned_abs, nat_le}
+use Rattle.std.proofs.Common.{map, flat_map, length, All, refl, sym, ap, ◌∙◌, subst, arith}
+use Rattle.std.specs.Prelude.{unsigned_abs, nat_le}
 use Rattle.std.specs.List.{list_all}
 use Rattle.std.proofs.lemmas.Int.{ints}
 use Rattle.std.proofs.lemmas.List.Elements.{All-nil, All-cons, All-head, All-tail, All-map, All-weaker}
@@ -21,7 +21,7 @@ use Rattle.pcb_model.specs.Near.{IsPieceIn, IsExtentOf}
 use Rattle.pcb_model.specs.Pieces.{moved_piece, padstack_pieces}
 use Rattle.pcb_model.specs.Board.{IsInsideEach, BeginsInEach, AreInside}
 use Rattle.pcb_model.specs.Sound.{origin}
-use Rattle.route_lattice.specs.Mesh.{Mesh, node_count, column, row, point_of}
+use Rattle.route_lattice.specs.Mesh.{Mesh, column, row, point_of}
 use Rattle.route_lattice.specs.Near.{is_near_at, is_spine_near_at, are_near_at}
 use Rattle.route_lattice.proofs.Places.{row_below}
 use Rattle.route_lattice.proofs.Windows.{column_below}

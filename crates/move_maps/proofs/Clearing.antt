@@ -1,5 +1,5 @@
 -- What the tests of wires and vias say of probes, and that a wire is too near where its first point is.
-use Rattle.std.proofs.Common.{◌≡◌, ℕ, ◌+◌, ◌*◌, max, Bool, true, false, IsTrue, ◌↔◌, List, [], ◌∷◌, map, All, Some}
+use Rattle.std.proofs.Common.{◌≡◌, ℕ, ◌+◌, ◌*◌, max, Bool, false, IsTrue, ◌↔◌, List, [], ◌∷◌, map, Some}
 use Rattle.std.proofs.Common.{refl, sym, ◌∙◌, subst}
 use Rattle.std.proofs.lemmas.Bool.{false≢true}
 use Rattle.std.proofs.lemmas.List.Elements.{All-head, All-cons, All-nil, All-weaker}

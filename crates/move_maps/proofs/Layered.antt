@@ -1,6 +1,6 @@
 -- Where an item has no copper on a layer, the steps there are clear of it.
-use Rattle.std.proofs.Common.{◌≡◌, ℕ, ◌+◌, ◌*◌, ◌<◌, ◌≤◌, ◌==◌, Bool, true, false, List, [], ◌∷◌, length, Option, Some}
-use Rattle.std.proofs.Common.{None, All, refl, sym, ap, ◌∙◌, subst, arith, eq-eqb}
+use Rattle.std.proofs.Common.{◌≡◌, ℕ, ◌+◌, ◌*◌, ◌<◌, ◌==◌, Bool, true, false, [], ◌∷◌, length, Option, Some}
+use Rattle.std.proofs.Common.{None, All, sym, ap, ◌∙◌, subst, arith, eq-eqb}
 use Rattle.std.specs.Prelude.{slice_index}
 use Rattle.std.specs.Option.{option_map}
 use Rattle.std.proofs.lemmas.List.Elements.{All-nil, All-cons}
@@ -9,7 +9,6 @@ use Rattle.geo_kernel.specs.declared.point.Point.{Point}
 use Rattle.pcb_model.specs.declared.item.Kind.TheVariants as kind
 use Rattle.pcb_model.specs.declared.item.Piece.{Piece}
 use Rattle.pcb_model.specs.declared.item.Item.{Item}
-use Rattle.pcb_model.specs.declared.item.Probe.{Probe}
 use Rattle.pcb_model.specs.declared.item.Probe.TheVariants as probe
 use Rattle.pcb_model.specs.declared.design.Design.{Design}
 use Rattle.pcb_model.specs.Pieces.{wire_piece}
@@ -18,7 +17,7 @@ use Rattle.pcb_model.specs.Pairs.{KeepsFrom}
 use Rattle.route_lattice.specs.declared.moves.Move.{Move}
 use Rattle.route_lattice.specs.declared.moves.Move.TheVariants.{Step, Via}
 use Rattle.route_lattice.specs.Mesh.{Mesh, level, layer_of}
-use Rattle.route_lattice.specs.Ways.{step_at, way_count, has_copper}
+use Rattle.route_lattice.specs.Ways.{step_at, has_copper}
 use Rattle.route_lattice.specs.Legal.{probe_of}
 use Rattle.move_maps.specs.Clear.{IsClearOf}
 use Rattle.move_maps.specs.Paint.{IsClearAt, AreFirstClear}

@@ -1,5 +1,5 @@
 -- The lines and levels of nodes, and what of them lies out of a window.
-use Rattle.std.proofs.Common.{◌≡◌, ℕ, ◌+◌, ◌-◌, ◌*◌, ◌/◌, ◌%◌, ◌<◌, ◌≤◌, ◌^◌, Bool, List, length, refl, sym, ap, ◌∙◌}
+use Rattle.std.proofs.Common.{◌≡◌, ℕ, ◌+◌, ◌-◌, ◌*◌, ◌/◌, ◌%◌, ◌<◌, ◌≤◌, ◌^◌, List, length, refl, sym, ap, ◌∙◌}
 use Rattle.std.proofs.Common.{subst, arith, ◌⊎◌, inl, inr}
 use Rattle.std.proofs.lemmas.Nat.{mul-add-lt, mod-mul-add, div-mul-add, div-add-mod', mod_below}
 use Rattle.std.proofs.Math.Nat.{mul-le-mul_right, mul-le-mul_left}
@@ -21,7 +21,7 @@ within_block w f v l h =
     let k : v - f * w < w = omega (arith, l, h) in
     ap (λ n. n % w) e ∙ mod-mul-add f w (v - f * w) k
 
--- and the block itself
+-- and the number of the block
 block_of : (w f v : ℕ) → f * w ≤ v → v < f * w + w → v / w ≡ f
 block_of w f v l h =
     let e : v ≡ f * w + (v - f * w) = omega (arith, l) in
@@ -273,14 +273,6 @@ pub node_small : (n count line w col : ℕ) → count ≡ n * w → count ≤ 2 
 node_small n count line w col e s h k =
     let l = mul-add-lt line w col n h k in (omega (arith, l, e), omega (arith, l, e, s))
 
--- so is that of a line's first node
-pub line_small : (n count line w : ℕ) → count ≡ n * w → count ≤ 2 ^ 24 → line < n → line * w ≤ 2 ^ 24
-line_small n count line w e s h =
-    let l = mul-le-mul_right w (below line n h) in omega (arith, l, e, s)
-  where
-    below : (x y : ℕ) → x < y → x ≤ y
-    below x y h = omega (arith, h)
-
 -- so is a line's number
 pub row_small : (layers h w level row : ℕ) → 0 < layers * h * w → layers * h * w ≤ 2 ^ 24 → level < layers → row < h
     → (level * h + row < layers * h) × (level * h + row ≤ 2 ^ 24)
@@ -299,15 +291,3 @@ place_small layers h w level row col y x ey ex p s l r c =
     subst (λ k. ((level * k + row) * x + col < n) × ((level * k + row) * x + col ≤ 2 ^ 24)) (sym ey)
     (subst (λ k. ((level * h + row) * k + col < n) × ((level * h + row) * k + col ≤ 2 ^ 24)) (sym ex)
     (node_small (layers * h) n (level * h + row) w col refl s (row_small layers h w level row p s l r).0 c))
-
--- and that of a level's first line
-pub level_small : (layers h w level : ℕ) → 0 < layers * h * w → layers * h * w ≤ 2 ^ 24 → level < layers
-    → level * h ≤ 2 ^ 24
-level_small layers h w level p s l =
-    let a = mul-le-mul_right h (below level layers l) in
-    let b = width_positive w (layers * h) 0 p in
-    let c = mul-le-mul_left (layers * h) b in
-    omega (arith, a, c, s)
-  where
-    below : (x y : ℕ) → x < y → x ≤ y
-    below x y h = omega (arith, h)

@@ -1,68 +1,26 @@
 -- Windows link by link: a node out of those of all links has moves that are clear of the item.
-use Rattle.std.proofs.Common.{◌≡◌, ℕ, ◌+◌, ◌-◌, ◌<◌, ◌≤◌, ◌^◌, List, [], ◌∷◌, ◌++◌, map, flat_map, length, All, refl, sym}
-use Rattle.std.proofs.Common.{ap, subst, arith, take, drop, get_or, add-one, drop-cons, length-drop}
+use Rattle.std.proofs.Common.{◌≡◌, ℕ, ◌+◌, ◌-◌, ◌<◌, ◌≤◌, ◌^◌, List, [], ◌∷◌, ◌++◌, map, flat_map, length, All, refl}
+use Rattle.std.proofs.Common.{sym, ap, subst, arith, take, drop, get_or, add-one, drop-cons, length-drop}
 use Rattle.std.proofs.lemmas.List.{drop_all, take_all}
 use Rattle.std.proofs.lemmas.List.Elements.{All-nil, All-cons, All-append, All-weaker, All-drop}
 use Rattle.geo_kernel.specs.declared.point.Point.{Point}
 use Rattle.geo_kernel.specs.declared.spine.Spine.{Spine}
-use Rattle.geo_kernel.specs.declared.spine.Spine.TheVariants.{Chain, Area}
+use Rattle.geo_kernel.specs.declared.spine.Spine.TheVariants.{Chain}
 use Rattle.geo_kernel.specs.Plane.{IsWithin}
-use Rattle.geo_kernel.specs.Spine.{Segment, IsSpineWithin, links, chain_segments, spine_segments}
+use Rattle.geo_kernel.specs.Spine.{Segment, links, chain_segments, spine_segments}
 use Rattle.pcb_model.specs.declared.item.Piece.{Piece}
 use Rattle.pcb_model.specs.declared.item.Item.{Item}
 use Rattle.pcb_model.specs.declared.design.Design.{Design}
-use Rattle.pcb_model.specs.Bounds.{IsFit}
-use Rattle.pcb_model.specs.Pieces.{wire_piece}
 use Rattle.route_lattice.specs.Mesh.{Mesh}
 use Rattle.route_lattice.specs.Legal.{probe_at}
 use Rattle.move_maps.specs.declared.window.Window.{Window}
 use Rattle.move_maps.specs.Windows.{Widens}
 use Rattle.move_maps.specs.Paint.{IsClearAt, Covers, CoverTogether, TakeIn}
-use Rattle.move_maps.specs.Parts.{IsString, IsStrung, part, parts_by, parts}
-use Rattle.move_maps.proofs.Stringing.{move_strung, links_of, parts_next}
+use Rattle.move_maps.specs.Parts.{IsStrung, part, parts_by, parts}
+use Rattle.move_maps.proofs.Stringing.{move_strung, parts_next}
 use Rattle.move_maps.proofs.Windowed.{pushed_widens}
 
--- ---- a link
--- the piece of a link fits
-pub link_fit : (q : Piece) (from to : Point) → IsFit q → IsWithin (2 ^ 29) from → IsWithin (2 ^ 29) to
-    → All IsFit (wire_piece q.layer q.width (from ∷ to ∷ []) ∷ [])
-link_fit q from to f a b = All-cons IsFit (wire_piece q.layer q.width (from ∷ to ∷ [])) [] (record {
-  well_formed = omega arith;
-  within = All-cons (IsWithin (2 ^ 29)) from (to ∷ []) a
-      (All-cons (IsWithin (2 ^ 29)) to [] b (All-nil (IsWithin (2 ^ 29))));
-  width_within = f.width_within;
-}) (All-nil IsFit)
-
--- the first of the links that are left, and the others
-next_links : (from z : Point) (qs : List Point) (k : ℕ) → k < length qs → links from (drop k qs)
-    ≡ record { from = from; to = get_or qs k z } ∷ links (get_or qs k z) (drop (k + 1) qs)
-next_links from z qs k h = ap (links from) (next z qs k h)
-  where
-    next : (z : Point) (qs : List Point) (k : ℕ) → k < length qs → drop k qs ≡ get_or qs k z ∷ drop (k + 1) qs
-    next z qs k h = rw (add-one, drop-cons qs k z)
-
--- a string has two points
-pub two_points : (q : Piece) (points : List Point) → IsString q → q.spine ≡ Chain points → 2 ≤ length points
-two_points q points s e = two points (same (s.first ∷ s.second ∷ s.rest) points q.spine s.is e)
-  where
-    same : (ps qs : List Point) (t : Spine) → t ≡ Chain ps → t ≡ Chain qs → ps ≡ qs
-    same ps qs t e h = cc
-
-    two : (ps : List Point) → s.first ∷ s.second ∷ s.rest ≡ ps → 2 ≤ length ps
-    two ps e = subst (λ (x : List Point). 2 ≤ length x) e (omega arith)
-
--- a string is no area
-pub no_area : (X : Type 0) (q : Piece) (loops : List (List Point)) → IsString q → q.spine ≡ Area loops → X
-no_area X q loops s e = never (s.first ∷ s.second ∷ s.rest) loops q.spine s.is e
-  where
-    never : (ps : List Point) (ls : List (List Point)) (t : Spine) → t ≡ Chain ps → t ≡ Area ls → X
-    never ps ls t e h = cc
-
--- the points of a chain are within the bounds of its piece
-pub points_within : (q : Piece) (points : List Point) → IsFit q → q.spine ≡ Chain points
-    → All (IsWithin (2 ^ 29)) points
-points_within q points f e = subst (IsSpineWithin (2 ^ 29)) e f.within
-
+-- ---- windows and items
 module _ (d : Design) (m : Mesh) (g : ℕ) where
   -- what was covered stays so where a window is added
   still_together : (a : Item) (w : Window) (old new : List Window) → Widens old w new → CoverTogether d m g a old
@@ -83,7 +41,8 @@ module _ (d : Design) (m : Mesh) (g : ℕ) where
       → TakeIn d m g items us new → TakeIn d m g (a ∷ items) ws new
   take_on a items w ws us new wide h t = record {
     kept = λ x k. t.kept x (still_together x w ws us wide k);
-    taken = All-cons (λ (x : Item). CoverTogether d m g x new) a items (t.kept a (now_together a w ws us wide h)) t.taken;
+    taken = All-cons (λ (x : Item). CoverTogether d m g x new) a items (t.kept a (now_together a w ws us wide h))
+        t.taken;
   }
 
   -- the parts of a chain are those of its piece
@@ -125,6 +84,14 @@ module _ (d : Design) (m : Mesh) (g : ℕ) where
 pub after_first : (points : List Point) → take (length points - 1) (drop 1 points) ≡ drop 1 points
 after_first points = take_all (length points - 1) (drop 1 points) (omega (arith, length-drop 1 points))
 
+-- the first of the links that are left, and the others
+next_links : (from z : Point) (qs : List Point) (k : ℕ) → k < length qs → links from (drop k qs)
+    ≡ record { from = from; to = get_or qs k z } ∷ links (get_or qs k z) (drop (k + 1) qs)
+next_links from z qs k h = ap (links from) (next z qs k h)
+  where
+    next : (z : Point) (qs : List Point) (k : ℕ) → k < length qs → drop k qs ≡ get_or qs k z ∷ drop (k + 1) qs
+    next z qs k h = rw (add-one, drop-cons qs k z)
+
 -- what is left to be taken in of a chain, from a point on
 pub record IsTaking (d : Design) (m : Mesh) (g : ℕ) (q : Piece) (points : List Point) (k : ℕ) (from : Point)
     (old ws : List Window) : Type 0 where
@@ -134,14 +101,6 @@ pub record IsTaking (d : Design) (m : Mesh) (g : ℕ) (q : Piece) (points : List
       → TakeIn d m g (map (part b q) (chain_segments points)) old new
 
 module _ (d : Design) (m : Mesh) (g : ℕ) (q : Piece) (points : List Point) (z : Point) (old : List Window) where
-  -- at first all links
-  pub taking_first : 2 ≤ length points → All (IsWithin (2 ^ 29)) points
-      → IsTaking d m g q points 0 (get_or points 0 z) old old
-  taking_first h all = record {
-    within = all 0 z (omega (arith, h));
-    rest = λ b new t. subst (λ (ls : List Segment). TakeIn d m g (map (part b q) ls) old new) (links_of points z h) t;
-  }
-
   -- the next link is taken in
   taking_next : (k : ℕ) (from : Point) (w : Window) (ws us : List Window) → k < length (drop 1 points)
       → IsWithin (2 ^ 29) (get_or (drop 1 points) k z) → Widens ws w us

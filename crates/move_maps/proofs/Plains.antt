@@ -2,7 +2,7 @@
 use Prim.Native.Nat.{zero, suc}
 use Rattle.std.proofs.Common.{◌≡◌, ℕ, ◌+◌, ◌-◌, ◌*◌, ◌/◌, ◌%◌, ◌<◌, ◌≤◌, ◌==◌, Bool, true, false, ltb-true, not, ◌&&◌}
 use Rattle.std.proofs.Common.{cond, List, [], ◌∷◌, ◌++◌, map, length, Option}
-use Rattle.std.proofs.Common.{Some, None, All, refl, sym, ap, ◌∙◌, subst}
+use Rattle.std.proofs.Common.{Some, None, refl, sym, ap, ◌∙◌, subst}
 use Rattle.std.proofs.Common.{arith, inl, inr, take, get_or, append_assoc, ◌^◌}
 use Rattle.std.specs.Prelude.{nat_lt, slice_index}
 use Rattle.std.specs.Option.{option_map}
@@ -10,9 +10,8 @@ use Rattle.std.proofs.lemmas.Bool.{ltb-false, lt-ltb, le-ltb, false≢true, and_
 use Rattle.std.proofs.lemmas.Nat.{mul-add-lt, div-mul-add, mod-mul-add}
 use Rattle.std.proofs.lemmas.List.{append-nil, length-append, length-map, get_or_append_left, get_or-map}
 use Rattle.std.proofs.lemmas.List.{map-append, take_more}
-use Rattle.std.proofs.lemmas.List.Elements.{All-nil, All-cons, All-weaker}
+use Rattle.std.proofs.lemmas.List.Elements.{All-nil, All-cons}
 use Rattle.geo_kernel.specs.declared.point.Point.{Point}
-use Rattle.geo_kernel.specs.Spine.{BeginInside}
 use Rattle.pcb_model.specs.declared.item.Piece.{Piece}
 use Rattle.pcb_model.specs.declared.item.Probe.{Probe}
 use Rattle.pcb_model.specs.declared.item.Probe.TheVariants as probe
@@ -27,7 +26,7 @@ use Rattle.route_lattice.specs.Ways.{step_at, via_at, vias_of, way_count, can_jo
 use Rattle.route_lattice.specs.Legal.{probe_of, probe_at}
 use Rattle.route_lattice.proofs.Places.{node_below, width_positive}
 use Rattle.move_maps.specs.Maps.{IsTally, place_at}
-use Rattle.move_maps.specs.Paint.{IsFilled, AreTallied}
+use Rattle.move_maps.specs.Paint.{IsFilled}
 use Rattle.move_maps.specs.Starts.{IsPlain, IsCentred, IsStart, AreStarts, start_of}
 use Rattle.move_maps.proofs.Painting.{from_node, to_node}
 use Rattle.move_maps.proofs.Starting.{filled_at}

@@ -1,18 +1,16 @@
 -- In a row, the columns beside all windows are out of them.
-use Rattle.std.proofs.Common.{◌≡◌, ℕ, ◌+◌, ◌*◌, ◌/◌, ◌%◌, ◌<◌, ◌≤◌, min, List, length, All, take, get_or, sym, ap, ◌∙◌}
+use Rattle.std.proofs.Common.{◌≡◌, ℕ, ◌+◌, ◌*◌, ◌%◌, ◌<◌, ◌≤◌, List, length, All, take, get_or, sym, ap, ◌∙◌}
 use Rattle.std.proofs.Common.{subst, arith, ◌⊎◌, inl, inr}
 use Rattle.std.proofs.lemmas.Nat.{mod-mul-add}
 use Rattle.std.proofs.lemmas.List.{take_all}
 use Rattle.std.proofs.lemmas.List.Elements.{All-nil, All-more}
 use Rattle.pcb_model.specs.declared.item.Item.{Item}
 use Rattle.pcb_model.specs.declared.design.Design.{Design}
-use Rattle.route_lattice.specs.Mesh.{Mesh, node_count, column, row}
-use Rattle.route_lattice.specs.Ways.{way_count}
-use Rattle.route_lattice.specs.Legal.{probe_at}
+use Rattle.route_lattice.specs.Mesh.{Mesh, column, row}
 use Rattle.route_lattice.proofs.Windows.{column_below}
 use Rattle.move_maps.specs.declared.window.Window.{Window}
 use Rattle.move_maps.specs.Windows.{IsPlaceOut, IsOutOfAll, IsSpanOf}
-use Rattle.move_maps.specs.Paint.{IsClearAt, CoverTogether}
+use Rattle.move_maps.specs.Paint.{CoverTogether}
 use Rattle.move_maps.proofs.Lines.{AreSidesClear}
 
 module _ (ws : List Window) (columns row : ℕ) where

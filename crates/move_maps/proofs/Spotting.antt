@@ -25,7 +25,7 @@ use Rattle.route_lattice.specs.Near.{are_near_at}
 use Rattle.route_lattice.specs.Ways.{step_at, via_at, vias_of, way, has_copper, can_join}
 use Rattle.route_lattice.specs.Legal.{disc_at, probe_of, probe_at}
 use Rattle.route_lattice.proofs.Leading.{disc_fits, probe_fits}
-use Rattle.route_lattice.proofs.Places.{node_below, row_below}
+use Rattle.route_lattice.proofs.Places.{row_below}
 use Rattle.route_lattice.proofs.Windows.{column_below}
 use Rattle.move_maps.specs.declared.spot.Spot.{Spot}
 use Rattle.move_maps.specs.Clear.{IsClearOf}

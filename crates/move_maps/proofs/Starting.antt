@@ -1,22 +1,18 @@
 -- The table before any item comes, place by place, and as the items of some copper come one after another.
-use Rattle.std.proofs.Common.{◌≡◌, ℕ, ◌+◌, ◌*◌, ◌<◌, ◌≤◌, Bool, true, false, ltb-true, List, [], ◌∷◌, ◌++◌, length}
-use Rattle.std.proofs.Common.{Option, Some, None, refl, sym, ap, ◌∙◌, subst, arith, inl, inr}
-use Rattle.std.specs.Prelude.{slice_index, nat_lt, All}
-use Rattle.std.proofs.lemmas.Bool.{ltb-false}
+use Rattle.std.proofs.Common.{◌≡◌, ℕ, ◌+◌, ◌*◌, ◌<◌, ◌≤◌, List, [], ◌∷◌, ◌++◌, length}
+use Rattle.std.proofs.Common.{sym, ap, ◌∙◌, subst, arith}
+use Rattle.std.specs.Prelude.{All}
 use Rattle.std.proofs.lemmas.Nat.{mul-add-lt}
-use Rattle.std.proofs.lemmas.List.{append-nil, length-append, get_or_append_left}
+use Rattle.std.proofs.lemmas.List.{append-nil}
 use Rattle.pcb_model.specs.declared.item.Item.{Item}
-use Rattle.pcb_model.specs.declared.item.Probe.{Probe}
 use Rattle.pcb_model.specs.declared.design.Design.{Design}
 use Rattle.pcb_model.specs.Copper.{Ascends, IsFirstFrom}
 use Rattle.route_lattice.specs.Mesh.{Mesh, node_count}
 use Rattle.route_lattice.specs.Ways.{way_count}
-use Rattle.route_lattice.specs.Legal.{probe_at}
-use Rattle.move_maps.specs.Maps.{IsTally, IsOutside, place_at}
-use Rattle.move_maps.specs.Paint.{Paints, AreTallied, IsFilled}
+use Rattle.move_maps.specs.Maps.{place_at}
+use Rattle.move_maps.specs.Paint.{AreTallied, IsFilled}
 use Rattle.move_maps.proofs.Merging.{moved_in}
-use Rattle.move_maps.proofs.Painting.{same_place}
-use Rattle.move_maps.proofs.Tallied.{come_painted, weaker}
+use Rattle.move_maps.proofs.Tallied.{weaker}
 use Rattle.move_maps.proofs.Listing.{AreBelow, none_below, one_below, all_below, all_by}
 
 -- ---- place by place

@@ -1,6 +1,5 @@
 -- An item of chains and its parts: a move that is clear of each part is clear of the item.
-use Prim.Native.Nat.{zero, suc}
-use Rattle.std.proofs.Common.{◌≡◌, ℕ, ◌+◌, ◌*◌, ◌<◌, ◌≤◌, ◌^◌, Bool, true, List, [], ◌∷◌, ◌++◌, map, flat_map, length}
+use Rattle.std.proofs.Common.{◌≡◌, ℕ, ◌+◌, ◌*◌, ◌<◌, ◌≤◌, ◌^◌, List, [], ◌∷◌, ◌++◌, map, flat_map, length}
 use Rattle.std.proofs.Common.{max, All, IfSome, Option, Some, None, refl, sym}
 use Rattle.std.proofs.Common.{ap, ◌∙◌, subst, arith, take, drop, get_or, append_assoc}
 use Rattle.std.proofs.lemmas.List.{flat_map_more, take_more}
@@ -9,7 +8,7 @@ use Rattle.geo_kernel.specs.declared.point.Point.{Point}
 use Rattle.geo_kernel.specs.declared.spine.Spine.{Spine}
 use Rattle.geo_kernel.specs.declared.spine.Spine.TheVariants.{Chain, Area}
 use Rattle.geo_kernel.specs.Plane.{IsWithin}
-use Rattle.geo_kernel.specs.Spine.{Segment, Keeps, SpinesKeep, IsSpineWithin, BeginsInside, links, chain_segments}
+use Rattle.geo_kernel.specs.Spine.{Segment, SpinesKeep, IsSpineWithin, BeginsInside, links, chain_segments}
 use Rattle.geo_kernel.specs.Spine.{spine_segments}
 use Rattle.geo_kernel.proofs.Paths.{All-append_first, All-append_second}
 use Rattle.pcb_model.specs.declared.item.Piece.{Piece}
@@ -22,10 +21,10 @@ use Rattle.pcb_model.specs.declared.design.Design.{Design}
 use Rattle.pcb_model.specs.Bounds.{IsFit}
 use Rattle.pcb_model.specs.Inner.{meets_wires, meets_vias}
 use Rattle.pcb_model.specs.Rules.{clearance_of}
-use Rattle.pcb_model.specs.Pieces.{pieces_of, metal_of, kind_of, wire_piece}
-use Rattle.pcb_model.specs.Pairs.{PieceKeeps, KeepsFrom, PiecesKeep, is_compared}
+use Rattle.pcb_model.specs.Pieces.{metal_of, kind_of, wire_piece}
+use Rattle.pcb_model.specs.Pairs.{PieceKeeps, is_compared}
 use Rattle.pcb_model.specs.Sound.{IsItemOf, IsLayerOf, IsNetOf}
-use Rattle.move_maps.specs.Clear.{IsOwnPad, IsClearOf}
+use Rattle.move_maps.specs.Clear.{IsClearOf}
 use Rattle.move_maps.specs.Paint.{IsClearAt}
 use Rattle.move_maps.specs.Parts.{IsString, IsStrung, part, parts_by, parts}
 

@@ -1,5 +1,5 @@
 -- The copper of a net itself, as windows of the lattice, and what a map says of a move beside it.
-use Rattle.std.specs.Prelude.{◌≡◌, ℕ, ◌<◌, List, Option, Some, Contains}
+use Rattle.std.specs.Prelude.{◌≡◌, ℕ, ◌<◌, List, Some, Contains}
 use Rattle.pcb_model.specs.declared.item.Item.{Item}
 use Rattle.pcb_model.specs.declared.design.Design.{Design}
 use Rattle.route_lattice.specs.Mesh.{Mesh, node_count}

@@ -1,5 +1,5 @@
 -- An item of chains, link by link.
-use Rattle.std.specs.Prelude.{◌≡◌, ℕ, List, [], ◌∷◌, map, flat_map, All}
+use Rattle.std.specs.Prelude.{◌≡◌, List, [], ◌∷◌, map, flat_map, All}
 use Rattle.geo_kernel.specs.declared.point.Point.{Point}
 use Rattle.geo_kernel.specs.declared.spine.Spine.TheVariants.{Chain}
 use Rattle.geo_kernel.specs.Spine.{Segment, spine_segments}

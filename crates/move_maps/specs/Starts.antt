@@ -1,5 +1,5 @@
 -- The tallies of a group before any item comes.
-use Rattle.std.specs.Prelude.{◌≡◌, ℕ, ◌+◌, ◌*◌, ◌<◌, ◌≤◌, Bool}
+use Rattle.std.specs.Prelude.{◌≡◌, ℕ, ◌+◌, ◌*◌, ◌<◌, Bool}
 use Rattle.std.specs.Prelude.{true, List, [], length, slice_index, slice_index_or, All, cond}
 use Rattle.std.specs.Prelude.{ℤ, pos, neg_ℤ, ◌+ℤ◌, ◌≤ℤ◌, ◌^◌, false}
 use Rattle.geo_kernel.specs.declared.point.Point.{Point}
@@ -11,7 +11,6 @@ use Rattle.pcb_model.specs.Board.{IsInsideEach}
 use Rattle.pcb_model.specs.Sound.{origin}
 use Rattle.route_lattice.specs.Mesh.{Mesh, node_count, column, row, level, point_of}
 use Rattle.route_lattice.specs.Near.{are_near_at}
-use Rattle.route_lattice.specs.Ways.{way_count}
 use Rattle.route_lattice.specs.Legal.{probe_at}
 use Rattle.move_maps.specs.Maps.{IsTally}
 

@@ -1,9 +1,8 @@
 //! Whether a wire or a via keeps off an item, as if the item were foreign copper.
 //! The clearance is given: it is looked up once for all moves that an item may shut.
 
-ghost use Rattle.std.specs.Prelude.{◌≡◌, ◌≤◌, ◌<◌, ◌^◌, ◌↔◌, IsTrue, IfSome, length, true, false, Some, All, map};
-ghost use Rattle.geo_kernel.specs.Plane.{IsWithin};
-ghost use Rattle.pcb_model.specs.Bounds.{IsDesignFit, IsItemFit, IsFit, IsProbeFit};
+ghost use Rattle.std.specs.Prelude.{◌≡◌, ◌≤◌, ◌<◌, ◌^◌, ◌↔◌, IsTrue, IfSome, length, Some, All, map};
+ghost use Rattle.pcb_model.specs.Bounds.{IsDesignFit, IsItemFit, IsFit};
 ghost use Rattle.pcb_model.specs.declared.item.Probe.TheVariants as probe;
 ghost use Rattle.pcb_model.specs.Inner.{meets_wires as meet_wires, meets_vias as meet_vias};
 ghost use Rattle.pcb_model.specs.Rules.{clearance_of};

@@ -1,7 +1,7 @@
 //! Which layers a padstack joins, and whether it stays within 2^29 nm about a point.
 
 ghost use Rattle.std.specs.Prelude.{◌≡◌, ◌≤◌, ◌^◌, ◌+ℤ◌, nat_le, unsigned_abs, All};
-ghost use Rattle.std.specs.List.{list_all, list_any};
+ghost use Rattle.std.specs.List.{list_all};
 ghost use Rattle.geo_kernel.specs.Plane.{IsWithin};
 ghost use Rattle.geo_kernel.specs.Spine.{IsSpineWithin};
 ghost use Rattle.pcb_model.specs.Bounds.{IsFit};

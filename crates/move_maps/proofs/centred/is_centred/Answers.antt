@@ -1,4 +1,4 @@
-use Rattle.std.proofs.Common.{◌∙◌, List, All, subst}
+use Rattle.std.proofs.Common.{◌∙◌, All, subst}
 use Rattle.geo_kernel.specs.Spine.{IsFirst}
 use Rattle.pcb_model.specs.declared.item.Piece.{Piece}
 use Rattle.pcb_model.specs.Sound.{origin}

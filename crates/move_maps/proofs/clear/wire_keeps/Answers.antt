@@ -1,4 +1,4 @@
-use Rattle.std.proofs.Common.{◌≡◌, ◌∙◌, true, List, sym, subst}
+use Rattle.std.proofs.Common.{◌∙◌, List, sym, subst}
 use Rattle.pcb_model.specs.declared.item.Piece.{Piece}
 use Rattle.pcb_model.specs.Pairs.{KeepsFrom}
 use Rattle.pcb_model.specs.Pieces.{wire_piece}

@@ -13,7 +13,8 @@ loop-q-preserved c =
     let k = c.loop-q.q-index in let q = c.q-item.result in
     taken_next c.args.d.now c.args.lat.now c.args.g c.args.b.now k q c.loop-q.windows.items
     c.take_piece.new.windows.items (subst (λ (ps : List Piece). k < length ps) e c.loop-q-test.true)
-    (subst (λ (ps : List Piece). q ≡ get_or ps k q) e c.q-item.is) c.loop-q.invariant (c.take_piece.ensures c.args.b.now)
+    (subst (λ (ps : List Piece). q ≡ get_or ps k q) e c.q-item.is) c.loop-q.invariant
+    (c.take_piece.ensures c.args.b.now)
 
 pub returns : goal.returns
 returns c =

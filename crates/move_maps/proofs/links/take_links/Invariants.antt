@@ -1,4 +1,3 @@
-use Rattle.std.proofs.Common.{drop}
 use Rattle.move_maps.proofs.Linking.{IsTaking}
 use Rattle.move_maps.proofs.links.take_links.Given as goal
 

@@ -9,8 +9,8 @@ pub loop-w-preserved : goal.loop-w-preserved
 loop-w-preserved c =
     let s = c.loop-w.span in let t = c.spread-span.result in let k = c.spread-span.ensures in
     span_next c.args.windows.now c.args.columns c.args.row c.loop-w.w-index
-    (record { left = 0; right = 0; bottom = 0; top = 0 }) s.left s.right t.left t.right c.loop-w-test.true k.left k.right
-    k.within k.outs c.loop-w.invariant
+    (record { left = 0; right = 0; bottom = 0; top = 0 }) s.left s.right t.left t.right c.loop-w-test.true k.left
+    k.right k.within k.outs c.loop-w.invariant
 
 pub returns-clause-span : goal.returns-clause-span
 returns-clause-span c =

@@ -1,5 +1,4 @@
-use Rattle.std.proofs.Common.{◌≡◌, Option, sym, ap, ◌∙◌, arith}
-use Rattle.geo_kernel.specs.declared.point.Point.{Point}
+use Rattle.std.proofs.Common.{◌≡◌, sym, ap, ◌∙◌, arith}
 use Rattle.move_maps.specs.Spots.{line_after, line_before, next_point}
 use Rattle.move_maps.proofs.Spotting.{right_next, left_next, above_next, below_next, across_told, up_told}
 use Rattle.move_maps.proofs.spot.next_point.Goals as goal

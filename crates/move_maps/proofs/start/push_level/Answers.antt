@@ -1,6 +1,5 @@
-use Rattle.std.proofs.Common.{◌≡◌, ◌+◌, ◌*◌, ◌<◌, ◌≤◌, length, ap, ◌∙◌, subst}
+use Rattle.std.proofs.Common.{◌+◌, ◌*◌, ◌<◌, ◌≤◌, length, ap, ◌∙◌, subst}
 use Rattle.route_lattice.specs.Ways.{way_count}
-use Rattle.move_maps.specs.Starts.{AreStarts}
 use Rattle.move_maps.proofs.Starting.{filled_at}
 use Rattle.move_maps.proofs.Plains.{level_first, level_over, ended}
 use Rattle.move_maps.proofs.start.push_level.Goals as goal

@@ -1,4 +1,4 @@
-use Rattle.std.proofs.Common.{◌≡◌, ◌+◌, ◌*◌, ◌<◌, ◌≤◌, length, refl, ap, ◌∙◌, subst}
+use Rattle.std.proofs.Common.{◌+◌, ◌*◌, ◌<◌, ◌≤◌, length, refl, ap, ◌∙◌, subst}
 use Rattle.route_lattice.specs.Ways.{way_count}
 use Rattle.move_maps.proofs.Starting.{filled_at}
 use Rattle.move_maps.proofs.Plains.{filled_on, first_at, line_over, ended}

@@ -1,5 +1,4 @@
-use Rattle.std.proofs.Common.{◌≡◌, ◌+◌, ◌*◌, ◌<◌, ◌≤◌, length, ap, ◌∙◌, subst}
-use Rattle.route_lattice.specs.Mesh.{node_count}
+use Rattle.std.proofs.Common.{◌*◌, ◌≤◌, length, ap, ◌∙◌, subst}
 use Rattle.route_lattice.specs.Ways.{way_count}
 use Rattle.move_maps.proofs.Starting.{filled_first, filled_all}
 use Rattle.move_maps.proofs.Plains.{none_first, ended}

@@ -1,4 +1,4 @@
-use Rattle.std.proofs.Common.{◌≡◌, ℕ, Some, ◌∙◌, subst, arith}
+use Rattle.std.proofs.Common.{◌≡◌, Some, ◌∙◌, subst, arith}
 use Rattle.route_lattice.specs.Ways.{step_at}
 use Rattle.move_maps.proofs.Strides.{priced_right, priced_left, priced_above, priced_below}
 use Rattle.move_maps.proofs.step.step_price.Goals as goal

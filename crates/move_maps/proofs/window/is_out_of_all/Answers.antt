@@ -1,4 +1,4 @@
-use Rattle.std.proofs.Common.{length, get_or, subst, arith}
+use Rattle.std.proofs.Common.{subst, arith}
 use Rattle.std.proofs.lemmas.List.{length-take, get_or-take}
 use Rattle.std.proofs.lemmas.List.Elements.{All-more}
 use Rattle.move_maps.specs.declared.window.Window.{Window}

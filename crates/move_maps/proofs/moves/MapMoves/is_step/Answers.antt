@@ -1,4 +1,4 @@
-use Rattle.std.proofs.Common.{◌<◌, arith}
+use Rattle.std.proofs.Common.{arith}
 use Rattle.move_maps.specs.OwnCopper.{IsStepThere}
 use Rattle.move_maps.proofs.Foreign.{on_other, map_there}
 use Rattle.move_maps.proofs.moves.MapMoves.is_step.Goals as goal

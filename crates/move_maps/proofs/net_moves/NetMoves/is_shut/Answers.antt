@@ -1,4 +1,4 @@
-use Rattle.std.proofs.Common.{◌≡◌, ◌<◌, arith}
+use Rattle.std.proofs.Common.{◌<◌, arith}
 use Rattle.route_lattice.specs.Legal.{IsOpen, probe_at}
 use Rattle.move_maps.specs.Windows.{IsOutOfAll}
 use Rattle.move_maps.proofs.Foreign.{on_then, map_shut}

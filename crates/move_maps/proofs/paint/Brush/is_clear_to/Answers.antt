@@ -1,5 +1,4 @@
-use Rattle.std.proofs.Common.{[], ◌∷◌, true, subst}
-use Rattle.std.proofs.lemmas.Bool.{OnTrue_at, false≢true}
+use Rattle.std.proofs.lemmas.Bool.{OnTrue_at}
 use Rattle.move_maps.proofs.Clearing.{step_told, step_shut}
 use Rattle.move_maps.proofs.paint.Brush.is_clear_to.Goals as goal
 

@@ -1,4 +1,4 @@
-use Rattle.std.proofs.Common.{◌≡◌, true, All, List, sym, ◌∙◌, ap, subst, refl}
+use Rattle.std.proofs.Common.{All, List, sym, ◌∙◌, ap, subst, refl}
 use Rattle.pcb_model.specs.declared.item.Piece.{Piece}
 use Rattle.pcb_model.specs.Bounds.{IsFit}
 use Rattle.pcb_model.specs.Pieces.{padstack_pieces, moved_piece}

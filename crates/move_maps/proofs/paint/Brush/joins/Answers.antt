@@ -1,4 +1,4 @@
-use Rattle.std.proofs.Common.{◌≡◌, ℕ, List, ap, ◌∙◌}
+use Rattle.std.proofs.Common.{ℕ, List, ap, ◌∙◌}
 use Rattle.std.specs.Prelude.{slice_index}
 use Rattle.pcb_model.specs.declared.item.Piece.{Piece}
 use Rattle.pcb_model.specs.Pieces.{padstack_pieces}

@@ -1,4 +1,4 @@
-use Rattle.std.proofs.Common.{◌≡◌, ℕ, ◌+◌, ◌*◌, ◌≤◌, ◌<◌, ◌^◌, length, ap, ◌∙◌, subst, arith}
+use Rattle.std.proofs.Common.{◌≡◌, ℕ, ◌+◌, ◌*◌, ◌≤◌, ◌<◌, length, ap, ◌∙◌, subst, arith}
 use Rattle.route_lattice.specs.Mesh.{level}
 use Rattle.route_lattice.specs.Ways.{way_count}
 use Rattle.move_maps.specs.Paint.{Paints}

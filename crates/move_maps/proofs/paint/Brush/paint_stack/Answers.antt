@@ -1,5 +1,4 @@
-use Rattle.std.proofs.Common.{◌≡◌, ℕ, ◌+◌, ◌*◌, ◌≤◌, ◌<◌, List, length, refl, ap, ◌∙◌, subst, arith}
-use Rattle.std.specs.Prelude.{slice_index}
+use Rattle.std.proofs.Common.{◌≡◌, ℕ, ◌+◌, ◌*◌, ◌≤◌, length, refl, ap, ◌∙◌, subst, arith}
 use Rattle.route_lattice.specs.Ways.{way_count}
 use Rattle.move_maps.proofs.Painting.{begins, goes_on, at_ends}
 use Rattle.move_maps.proofs.paint.Brush.paint_stack.Goals as goal

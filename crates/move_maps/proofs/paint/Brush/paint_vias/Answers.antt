@@ -1,5 +1,4 @@
-use Rattle.std.proofs.Common.{◌≡◌, ℕ, ◌+◌, ◌*◌, ◌≤◌, ◌<◌, List, length, refl, ap, ◌∙◌, subst, arith}
-use Rattle.std.proofs.Math.Nat.{mul-le-mul_right}
+use Rattle.std.proofs.Common.{◌≡◌, ℕ, ◌+◌, ◌*◌, ◌≤◌, ◌<◌, length, refl, ap, ◌∙◌, subst, arith}
 use Rattle.route_lattice.specs.Ways.{vias_of, way_count}
 use Rattle.move_maps.proofs.Painting.{begins, goes_on, at_ends}
 use Rattle.move_maps.proofs.paint.Brush.paint_vias.Goals as goal

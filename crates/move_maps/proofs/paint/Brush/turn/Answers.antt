@@ -1,4 +1,4 @@
-use Rattle.std.proofs.Common.{◌≡◌, ◌<◌, length, sym, ap, ◌∙◌, subst}
+use Rattle.std.proofs.Common.{◌<◌, length, sym, ap, ◌∙◌, subst}
 use Rattle.route_lattice.specs.Mesh.{node_count}
 use Rattle.route_lattice.specs.Ways.{way_count}
 use Rattle.move_maps.specs.Paint.{turned}

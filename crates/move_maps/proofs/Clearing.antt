@@ -57,7 +57,8 @@ first_keeps a q t k h =
 first_from : (c layer width : ℕ) (a q : Point) (rs : List Piece) → KeepsFrom c rs (wire_piece layer width (a ∷ q ∷ []))
     → KeepsFrom c rs (wire_piece layer width (a ∷ []))
 first_from c layer width a q rs h = record {
-  each = All-weaker (PieceKeeps c (wire_piece layer width (a ∷ q ∷ []))) (PieceKeeps c (wire_piece layer width (a ∷ [])))
+  each = All-weaker (PieceKeeps c (wire_piece layer width (a ∷ q ∷ [])))
+      (PieceKeeps c (wire_piece layer width (a ∷ [])))
       (λ r k. record {
         keep = λ e. first_keeps a q r.spine (max 1 (2 * c + width + r.width)) (k.keep e);
       }) rs h.each;

@@ -1,8 +1,8 @@
 -- Spots: what is looked up of a node by its places, where its steps lead, and what its moves lay.
 use Prim.Native.Nat.{zero, suc}
-use Rattle.std.proofs.Common.{◌≡◌, ℕ, ℤ, pos, ◌+◌, ◌-◌, ◌*◌, ◌/◌, ◌%◌, ◌<◌, ◌≤◌, ◌==◌, Bool, true, false, not, ◌&&◌, cond}
-use Rattle.std.proofs.Common.{ltb-true, IsTrue, ◌↔◌, List, [], ◌∷◌, length, Option, Some, None, refl, sym, ap, ◌∙◌, subst}
-use Rattle.std.proofs.Common.{arith, slice_index_or}
+use Rattle.std.proofs.Common.{◌≡◌, ℕ, ℤ, pos, ◌+◌, ◌-◌, ◌*◌, ◌/◌, ◌%◌, ◌<◌, ◌≤◌, ◌==◌, Bool, true, false}
+use Rattle.std.proofs.Common.{not, ◌&&◌, cond, ltb-true, IsTrue, ◌↔◌, List, [], ◌∷◌, length, Option, Some, None, refl}
+use Rattle.std.proofs.Common.{sym, ap, ◌∙◌, subst, arith, slice_index_or}
 use Rattle.std.specs.Prelude.{nat_lt, slice_index, IfSome}
 use Rattle.std.specs.Option.{option_map}
 use Rattle.std.proofs.lemmas.Bool.{le-ltb}
@@ -145,7 +145,8 @@ step_probe d m g v (suc (suc (suc (suc dir)))) h = absurd (omega (arith, h))
 
 module _ (d : Design) (m : Mesh) (g v dir : ℕ) (hd : dir < 4) where
   -- a step that isn't there is clear
-  pub none_clear : (b : Item) → ◌≡◌ {A = Option Point} None (next_point m v dir) → IsClearAt d g b (probe_at d m g v dir)
+  pub none_clear : (b : Item) → ◌≡◌ {A = Option Point} None (next_point m v dir)
+      → IsClearAt d g b (probe_at d m g v dir)
   none_clear b e = subst (λ (o : Option Probe). IsClearAt d g b o)
       (ap (λ (o : Option Point). option_map (step_to d m g v) o) e ∙ step_probe d m g v dir hd) tt
 
@@ -277,4 +278,5 @@ module _ (d : Design) (m : Mesh) (g v n t p layer to : ℕ) (at : Point) (ht : t
       let ps = padstack_pieces d p in
       h (λ near. subst (λ (o : Option Probe). IsClearAt d g b o)
       (via_is ∙ ap (λ x. cond x (Some (probe.Via p at)) None)
-      (all_joined (not (layer == to)) (has_copper ps layer) (has_copper ps to) (are_near_at at ps) (sym es ∙ e) near)) k)
+      (all_joined (not (layer == to)) (has_copper ps layer) (has_copper ps to) (are_near_at at ps) (sym es ∙ e) near))
+      k)

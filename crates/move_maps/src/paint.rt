@@ -126,8 +126,8 @@ impl<'a, C: Copper> Brush<'a, C> {
         requires dir { dir < 4 }
         requires shut { let s = self.now in
             OnTrue shut (ShutsSteps s.margins.wires spot.now.layer s.margins.width spot.now.at s.item.now) }
-        ensures { let s = self.now.moves in
-            IsTrue result ↔ IsClearAt s.d.now s.net self.now.item.now (probe_at s.d.now s.lat.now s.net spot.now.node dir) }
+        ensures { let s = self.now.moves in IsTrue result
+            ↔ IsClearAt s.d.now s.net self.now.item.now (probe_at s.d.now s.lat.now s.net spot.now.node dir) }
     {
         match next_point(self.moves.lat, spot, dir) {
             Some(to) => self.is_clear_to(spot, to, shut),

@@ -52,11 +52,11 @@ apart_clear reach d g p b w h = record {
 }
 
 -- the least coordinate
-low : (x : ℤ) → unsigned_abs x ≤ 2 ^ 29 → (pos 0 -ℤ pos (2 ^ 29)) ≤ℤ x
+pub low : (x : ℤ) → unsigned_abs x ≤ 2 ^ 29 → (pos 0 -ℤ pos (2 ^ 29)) ≤ℤ x
 low x h = omega (arith, ints)
 
 -- the greatest coordinate
-high : (x : ℤ) → unsigned_abs x ≤ 2 ^ 29 → x ≤ℤ pos (2 ^ 29)
+pub high : (x : ℤ) → unsigned_abs x ≤ 2 ^ 29 → x ≤ℤ pos (2 ^ 29)
 high x h = omega (arith, ints)
 
 -- a gap below
@@ -67,26 +67,32 @@ gap_down x k grow h = omega (arith, ints)
 gap_up : (x : ℤ) (k grow : ℕ) → k ≤ 2 * grow → IsGap x (x +ℤ pos grow) k
 gap_up x k grow h = omega (arith, ints)
 
+-- a wire in a box that is parted from the item's
+pub boxed_apart : (reach : ℕ) (b : Item) (f : Extent) → IsExtentOf b.pieces f → (layer width : ℕ) → width ≤ 2 ^ 28
+    → (p q : Point) (r : Rect4) → IsIn r p → IsIn r q → IsParted r f.bounds (2 * reach + width + f.width + 1)
+    → AreApart reach (wire_piece layer width (p ∷ q ∷ []) ∷ []) b.pieces
+boxed_apart reach b f of_b layer width small p q r hp hq far =
+    let e : Extent = record { bounds = r; width = width; first = layer; last = layer } in
+    let piece = wire_piece layer width (p ∷ q ∷ []) in
+    let ext : IsExtentOf (piece ∷ []) e = record {
+      each = All-cons (IsPieceIn e) piece []
+          (record {
+            spine_in = All-cons (IsIn r) p (q ∷ []) hp (All-cons (IsIn r) q [] hq (All-nil (IsIn r)));
+            width_in = omega arith;
+            from_layer = omega arith;
+            to_layer = omega arith;
+          }) (All-nil (IsPieceIn e));
+      width_within = small;
+    } in
+    far_apart reach e f (piece ∷ []) b.pieces ext of_b (inr far)
+
 module _ (reach : ℕ) (d : Design) (g : ℕ) (b : Item) (f : Extent) (rules : HasRulesWithin reach d)
     (of_b : IsExtentOf b.pieces f) (layer width : ℕ) (small : width ≤ 2 ^ 28) (p q : Point) where
-  -- a step in a box that is parted from the item's
+  -- a step in such a box
   pub boxed_clear : (r : Rect4) → IsIn r p → IsIn r q → IsParted r f.bounds (2 * reach + width + f.width + 1)
       → IsClearOf d g (probe.Step layer width p q) b
-  boxed_clear r hp hq far =
-      let e : Extent = record { bounds = r; width = width; first = layer; last = layer } in
-      let piece = wire_piece layer width (p ∷ q ∷ []) in
-      let ext : IsExtentOf (piece ∷ []) e = record {
-        each = All-cons (IsPieceIn e) piece []
-            (record {
-              spine_in = All-cons (IsIn r) p (q ∷ []) hp (All-cons (IsIn r) q [] hq (All-nil (IsIn r)));
-              width_in = omega arith;
-              from_layer = omega arith;
-              to_layer = omega arith;
-            }) (All-nil (IsPieceIn e));
-        width_within = small;
-      } in
-      apart_clear reach d g (probe.Step layer width p q) b rules
-      (far_apart reach e f (piece ∷ []) b.pieces ext of_b (inr far))
+  boxed_clear r hp hq far = apart_clear reach d g (probe.Step layer width p q) b rules
+      (boxed_apart reach b f of_b layer width small p q r hp hq far)
 
   module _ (grow : ℕ) (enough : 2 * reach + width + f.width + 1 ≤ 2 * grow) (pw : IsWithin (2 ^ 29) p)
       (qw : IsWithin (2 ^ 29) q) where

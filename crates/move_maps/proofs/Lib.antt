@@ -26,3 +26,5 @@ pub mod Linking
 pub mod Layered
 pub mod Foreign
 pub mod Strides
+pub mod Fences
+pub mod Spotting

@@ -2,7 +2,7 @@
 use Rattle.std.proofs.Common.{◌≡◌, ◌≢◌, IsTrue, ◌↔◌, ℕ, ◌+◌, ◌*◌, ◌/◌, ◌%◌, ◌<◌, ◌≤◌, Bool, true, false, ltb-true, List}
 use Rattle.std.proofs.Common.{length, set, refl, sym, ap, ◌∙◌, subst, arith, ◌⊎◌, inl, inr, get_or-set_same}
 use Rattle.std.proofs.Common.{get_or-set_other}
-use Rattle.std.specs.Prelude.{nat_lt, slice_index}
+use Rattle.std.specs.Prelude.{nat_lt, not, slice_index}
 use Rattle.std.proofs.lemmas.Bool.{ltb-false}
 use Rattle.std.proofs.lemmas.Nat.{mul-add-lt, div-mul-add, mod-mul-add}
 use Rattle.std.proofs.lemmas.List.{length-set}
@@ -10,7 +10,7 @@ use Rattle.std.proofs.Math.Nat.{mul-le-mul_right}
 use Rattle.pcb_model.specs.declared.item.Item.{Item}
 use Rattle.pcb_model.specs.declared.design.Design.{Design}
 use Rattle.route_lattice.specs.Mesh.{Mesh}
-use Rattle.route_lattice.specs.Ways.{way_count}
+use Rattle.route_lattice.specs.Ways.{vias_of, way_count}
 use Rattle.route_lattice.specs.Legal.{probe_at}
 use Rattle.move_maps.specs.Maps.{place_at}
 use Rattle.move_maps.specs.declared.paint.Stroke.{Stroke}
@@ -199,11 +199,23 @@ module _ (stroke : Stroke) (d : Design) (m : Mesh) (g : ℕ) (b : Item) where
 pub place_within : (n a v i k : ℕ) → v < n → i < a → k ≡ n * a → v * a + i < k
 place_within n a v i k hv hi e = let l = mul-add-lt v a i n hv hi in omega (arith, l, e)
 
+-- a step's index is one of the node's
+pub step_index : (d : Design) (m : Mesh) (g i : ℕ) → i < 4 → i < way_count d m g
+step_index d m g i h = over i (length (vias_of d g) * length m.layers) h
+  where
+    over : (i k : ℕ) → i < 4 → i < 4 + k
+    over i k h = omega (arith, h)
+
 -- a test isn't both
-not_both : (t : Bool) → t ≡ true → t ≡ false → ⊥
+pub not_both : (t : Bool) → t ≡ true → t ≡ false → ⊥
 not_both true e k = cc
 not_both false e k = cc
 
 -- what a failed test denies
 pub not_clear : (t : Bool) (P : Type 0) → IsTrue t ↔ P → t ≡ false → ¬ P
 not_clear t P h e = λ p. not_both t (h.1 p) e
+
+-- a negation that holds
+pub not_true : (t : Bool) → not t ≡ true → t ≡ false
+not_true true e = cc
+not_true false e = refl

@@ -71,11 +71,11 @@ module _ (m : Mesh) (v : ℕ) (w : Move × ℕ) where
 
 -- ---- prices
 -- the column of the node at three places
-column_at : (m : Mesh) (l j i : ℕ) → i < length m.xs → column m (node_at m l j i) ≡ i
+pub column_at : (m : Mesh) (l j i : ℕ) → i < length m.xs → column m (node_at m l j i) ≡ i
 column_at m l j i h = mod-mul-add (l * length m.ys + j) (length m.xs) i h
 
 -- and its row
-row_at : (m : Mesh) (l j i : ℕ) → j < length m.ys → i < length m.xs → row m (node_at m l j i) ≡ j
+pub row_at : (m : Mesh) (l j i : ℕ) → j < length m.ys → i < length m.xs → row m (node_at m l j i) ≡ j
 row_at m l j i k h = ap (λ n. n % length m.ys) (div-mul-add (l * length m.ys + j) (length m.xs) i h)
     ∙ mod-mul-add l (length m.ys) j k
 

@@ -1,5 +1,5 @@
 -- What keeps off all copper, as if no net had it.
-use Rattle.std.specs.Prelude.{◌≡◌, ℕ, true, false, Some, map}
+use Rattle.std.specs.Prelude.{◌≡◌, ℕ, true, false, Some, map, List}
 use Rattle.geo_kernel.specs.declared.point.Point.{Point}
 use Rattle.pcb_model.specs.declared.item.Kind.TheVariants as kind
 use Rattle.pcb_model.specs.declared.item.Item.{Item}
@@ -7,8 +7,9 @@ use Rattle.pcb_model.specs.declared.item.Metal.{Metal}
 use Rattle.pcb_model.specs.declared.item.Probe.{Probe}
 use Rattle.pcb_model.specs.declared.design.Design.{Design}
 use Rattle.pcb_model.specs.Rules.{clearance_of}
-use Rattle.pcb_model.specs.Pieces.{pieces_of, metal_of, kind_of, moved_piece, padstack_pieces}
-use Rattle.pcb_model.specs.Pairs.{PiecesKeep, PiecesTouch, is_compared}
+use Rattle.pcb_model.specs.Inner.{meets_wires, meets_vias}
+use Rattle.pcb_model.specs.Pieces.{pieces_of, metal_of, kind_of, moved_piece, padstack_pieces, wire_piece}
+use Rattle.pcb_model.specs.Pairs.{KeepsFrom, PiecesKeep, PiecesTouch, is_compared}
 use Rattle.move_maps.specs.Groups.{AreAlike}
 
 -- an item that a via of the group may not touch: an smd pad of one of its nets
@@ -34,3 +35,12 @@ pub record IsClearOf (d : Design) (g : ℕ) (p : Probe) (b : Item) : Type 0 wher
   pub keep : KeepsForeign d g (metal_of p) b
   pub stay_off : d.via_at_smd ≡ false → kind_of (metal_of p) ≡ kind.Via → IsOwnPad d g b
       → ¬ (PiecesTouch (pieces_of d (metal_of p)) b.pieces)
+
+-- a wire of these points keeps a clearance from b, if that is compared with wires
+abbrev pub WireKeeps : ℕ → ℕ → ℕ → List Point → Item → Type 0
+WireKeeps c layer width points b = meets_wires b.metal ≡ true → KeepsFrom c b.pieces (wire_piece layer width points)
+
+-- a via of the padstack at a point keeps it, if b is compared with vias
+abbrev pub ViaKeeps : Design → ℕ → ℕ → Point → Item → Type 0
+ViaKeeps d c padstack at b = meets_vias b.metal ≡ true
+    → PiecesKeep c (map (moved_piece at) (padstack_pieces d padstack)) b.pieces

@@ -6,3 +6,5 @@ pub mod Paint
 pub mod Starts
 pub mod Parts
 pub mod OwnCopper
+pub mod Margins
+pub mod Spots

@@ -1,21 +1,20 @@
 -- What an item that comes or goes does to the tallies of a group.
-use Rattle.std.specs.Prelude.{◌≡◌, ℕ, ◌*◌, ◌<◌, ◌≤◌, ◌⊎◌, ◌^◌, List, [], Option, Some, None, All}
+use Rattle.std.specs.Prelude.{◌≡◌, ℕ, ◌*◌, ◌<◌, ◌≤◌, ◌⊎◌, List, [], Option, Some, None, All}
 use Rattle.std.specs.Prelude.{length, slice_index}
 use Rattle.pcb_model.specs.declared.item.Item.{Item}
 use Rattle.pcb_model.specs.declared.item.Probe.{Probe}
 use Rattle.pcb_model.specs.declared.item.Probe.TheVariants as probe
 use Rattle.pcb_model.specs.declared.design.Design.{Design}
 use Rattle.route_lattice.specs.Mesh.{Mesh, node_count, level, point_of}
-use Rattle.pcb_model.specs.declared.near.Extent.{Extent}
-use Rattle.pcb_model.specs.Bounds.{HasRulesWithin}
-use Rattle.pcb_model.specs.Near.{IsExtentOf}
 use Rattle.pcb_model.specs.Sound.{IsItemOf}
 use Rattle.route_lattice.specs.Ways.{way_count}
 use Rattle.route_lattice.specs.Legal.{probe_at, CanMove}
+use Rattle.move_maps.specs.declared.margins.Margins.{Margins}
 use Rattle.move_maps.specs.declared.window.Window.{Window}
 use Rattle.move_maps.specs.declared.paint.Stroke.{Stroke}
 use Rattle.move_maps.specs.declared.paint.Stroke.TheVariants.{Comes, Goes, Stays}
 use Rattle.move_maps.specs.Clear.{IsClearOf}
+use Rattle.move_maps.specs.Margins.{AreMargins}
 use Rattle.move_maps.specs.Maps.{more, fewer, place_at, IsTally}
 use Rattle.move_maps.specs.Windows.{IsOutOf, IsOutOfAll}
 
@@ -100,15 +99,13 @@ pub record AreFirstClear (d : Design) (m : Mesh) (g : ℕ) (b : Item) (l first :
   pub within : first ≤ way_count d m g
   pub each : (v i : ℕ) → v < node_count m → level m v ≡ l → i < first → IsClearAt d g b (probe_at d m g v i)
 
--- what is needed to paint an item into the counts of a group: the moves of its first net, the item's extent, a distance
--- that no clearance is above, and the windows of the nodes whose moves it may shut: one of all, and those of its parts
-pub record IsBrush (d : Design) (m : Mesh) (g via_cost : ℕ) (b : Item) (f : Extent) (reach : ℕ)
+-- what is needed to paint an item into the counts of a group: the moves of its first net, what was looked up once of
+-- the group and the item, and the windows of the nodes whose moves it may shut: one of all, and those of its parts
+pub record IsBrush (d : Design) (m : Mesh) (g via_cost : ℕ) (b : Item) (s : Margins)
     (w : Window) (ws : List Window) : Type 0 where
   pub can_move : CanMove d m g via_cost
   pub item : IsItemOf d b
-  pub extent : IsExtentOf b.pieces f
-  pub rules : HasRulesWithin reach d
-  pub small : reach ≤ 2 ^ 28
+  pub margins : AreMargins d g b s
   pub covers : Covers d m g b w
   pub window : IsWindowIn m w
   pub together : CoverTogether d m g b ws

@@ -1,18 +1,18 @@
-//! Whether a probe is clear of an item, as if the item were foreign copper.
+//! Whether a wire or a via keeps off an item, as if the item were foreign copper.
+//! The clearance is given: it is looked up once for all moves that an item may shut.
 
-ghost use Rattle.std.specs.Prelude.{◌≡◌, ◌≤◌, ◌<◌, ◌^◌, ◌↔◌, IsTrue, IfSome, length, true, false, Some, All, map};
-ghost use Rattle.geo_kernel.specs.Plane.{IsWithin};
-ghost use Rattle.pcb_model.specs.Bounds.{IsDesignFit, IsItemFit, IsFit, IsProbeFit};
+ghost use Rattle.std.specs.Prelude.{◌≡◌, ◌≤◌, ◌<◌, ◌^◌, ◌↔◌, IsTrue, IfSome, length, Some, All, map};
+ghost use Rattle.pcb_model.specs.Bounds.{IsDesignFit, IsItemFit, IsFit};
 ghost use Rattle.pcb_model.specs.declared.item.Probe.TheVariants as probe;
 ghost use Rattle.pcb_model.specs.Inner.{meets_wires as meet_wires, meets_vias as meet_vias};
 ghost use Rattle.pcb_model.specs.Rules.{clearance_of};
 ghost use Rattle.pcb_model.specs.Pairs.{PieceKeeps, KeepsFrom, PiecesKeep, PieceTouches, TouchesSome, PiecesTouch};
 ghost use Rattle.pcb_model.specs.Pieces.{padstack_pieces as padstack_pieces_of, wire_piece, moved_piece};
-ghost use Rattle.move_maps.specs.Clear.{IsOwnPad, KeepsForeign, StaysOffPad, IsClearOf};
+ghost use Rattle.move_maps.specs.Clear.{IsOwnPad, WireKeeps, ViaKeeps, StaysOffPad, IsClearOf};
 
 use crate::group::are_alike;
 use geo_kernel::{Point, points_keep, spine_keeps_moved, spine_touch_moved};
-use pcb_model::{Design, Item, Kind, Metal, Piece, Probe, clearance};
+use pcb_model::{Design, Item, Kind, Metal, Piece};
 
 fn chain_keeps(c: u64, layer: u8, width: u64, points: &[Point], r: &Piece) -> bool
     requires c_within { c ≤ 2 ^ 28 }
@@ -115,16 +115,16 @@ pub(crate) fn meets_vias(m: &Metal) -> bool
     }
 }
 
-fn wire_keeps(d: &Design, g: u32, layer: u8, width: u64, points: &[Point], b: &Item) -> bool
-    requires design { IsDesignFit d.now }
+/// Whether a wire of these points keeps the clearance `c` from the item, if that is compared with wires.
+pub(crate) fn wire_keeps(c: u64, layer: u8, width: u64, points: &[Point], b: &Item) -> bool
+    requires c_within { c ≤ 2 ^ 28 }
     requires p_fit { IsFit (wire_piece layer width points.now) }
     requires b_fits { IsItemFit b.now }
-    ensures { IsTrue result ↔ KeepsForeign d.now g (Metal.Wire layer width points.now) b.now }
+    ensures { IsTrue result ↔ WireKeeps c layer width points.now b.now }
 {
     if !meets_wires(&b.metal) {
         return true;
     }
-    let c = clearance(d, Some(g), Kind::Wire, b.net, b.kind);
     chain_keeps_all(c, layer, width, points, b.pieces.as_slice())
 }
 
@@ -149,17 +149,17 @@ fn is_own_pad(d: &Design, g: u32, b: &Item) -> bool
     }
 }
 
-fn via_keeps(d: &Design, g: u32, padstack: u32, at: Point, b: &Item) -> bool
-    requires design { IsDesignFit d.now }
+// Whether a via keeps the clearance `c` from the item, if that is compared with vias.
+fn via_keeps(d: &Design, c: u64, padstack: u32, at: Point, b: &Item) -> bool
+    requires c_within { c ≤ 2 ^ 28 }
     requires ps_fit { All IsFit (padstack_pieces_of d.now padstack) }
     requires moved_fit { All (λ p. IsFit (moved_piece at p)) (padstack_pieces_of d.now padstack) }
     requires b_fits { IsItemFit b.now }
-    ensures { IsTrue result ↔ KeepsForeign d.now g (Metal.Via padstack at) b.now }
+    ensures { IsTrue result ↔ ViaKeeps d.now c padstack at b.now }
 {
     if !meets_vias(&b.metal) {
         return true;
     }
-    let c = clearance(d, Some(g), Kind::Via, b.net, b.kind);
     moved_keep(c, padstack_pieces(d, padstack), at, b.pieces.as_slice())
 }
 
@@ -177,36 +177,20 @@ fn via_stays_off(d: &Design, g: u32, padstack: u32, at: Point, b: &Item) -> bool
     !moved_touch(padstack_pieces(d, padstack), at, b.pieces.as_slice())
 }
 
-fn is_via_clear(d: &Design, g: u32, padstack: u32, at: Point, b: &Item) -> bool
+/// Whether a via keeps the clearance `c`, that of the group of net `g`, from the item, as if the item were foreign
+/// copper, and touches no smd pad of the group, unless the design allows it.
+pub(crate) fn is_via_clear(d: &Design, g: u32, c: u64, padstack: u32, at: Point, b: &Item) -> bool
     requires g { g < length d.now.nets }
     requires net { IfSome b.now.net (λ n. n < length d.now.nets) }
     requires design { IsDesignFit d.now }
+    requires c_is { c ≡ clearance_of d.now (Some g) Kind.Via b.now.net b.now.kind }
     requires ps_fit { All IsFit (padstack_pieces_of d.now padstack) }
     requires moved_fit { All (λ p. IsFit (moved_piece at p)) (padstack_pieces_of d.now padstack) }
     requires b_fits { IsItemFit b.now }
     ensures { IsTrue result ↔ IsClearOf d.now g (probe.Via padstack at) b.now }
 {
-    via_keeps(d, g, padstack, at, b) && via_stays_off(d, g, padstack, at, b)
-}
-
-/// Whether what the probe lays keeps the clearance of the group of net `g` from the item, as if the item were foreign
-/// copper, and touches no smd pad of the group with a via, unless the design allows it.
-pub(crate) fn is_clear(d: &Design, g: u32, p: &Probe, b: &Item) -> bool
-    requires g { g < length d.now.nets }
-    requires net { IfSome b.now.net (λ n. n < length d.now.nets) }
-    requires design { IsDesignFit d.now }
-    requires p_fits { IsProbeFit d.now p.now }
-    requires b_fits { IsItemFit b.now }
-    ensures { IsTrue result ↔ IsClearOf d.now g p.now b.now }
-{
-    match *p {
-        Probe::Disc { layer, width, at } => wire_keeps(d, g, layer, width, &[at], b),
-        Probe::Step {
-            layer,
-            width,
-            a,
-            b: end,
-        } => wire_keeps(d, g, layer, width, &[a, end], b),
-        Probe::Via { padstack, at } => is_via_clear(d, g, padstack, at, b),
+    if !via_keeps(d, c, padstack, at, b) {
+        return false;
     }
+    via_stays_off(d, g, padstack, at, b)
 }

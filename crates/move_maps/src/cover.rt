@@ -14,8 +14,8 @@ use geo_kernel::{Point, Rect4};
 use pcb_model::{Design, Extent, Probe, width_of};
 use route_lattice::Lattice;
 
-// How far a box has to be grown for copper of these widths beyond it to keep each clearance up to `reach`.
-fn grow_for(reach: u64, one: u64, other: u64) -> u64
+/// How far a box has to be grown for copper of these widths beyond it to keep each clearance up to `reach`.
+pub(crate) fn grow_for(reach: u64, one: u64, other: u64) -> u64
     requires reach { reach ≤ 2 ^ 28 }
     requires one { one ≤ 2 ^ 28 }
     requires other { other ≤ 2 ^ 28 }

@@ -36,8 +36,8 @@ fn first_above(lines: &[i64], high: i64) -> usize
     lines.partition_point(|z| *z <= high)
 }
 
-// A box with its sides moved out.
-fn grown(r: Rect4, grow: u64) -> Rect4
+/// A box with its sides moved out.
+pub(crate) fn grown(r: Rect4, grow: u64) -> Rect4
     requires box_within { IsBoxWithin (2 ^ 30) r }
     requires grow_within { grow ≤ 2 ^ 31 }
     ensures x0 { result.x0 ≡ r.x0 -ℤ pos grow }

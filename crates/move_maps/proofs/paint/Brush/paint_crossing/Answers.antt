@@ -1,6 +1,9 @@
-use Rattle.std.proofs.Common.{List, All, subst}
+use Rattle.std.proofs.Common.{◌+◌, ◌*◌, List, All, sym, subst}
 use Rattle.std.proofs.lemmas.Bool.{OnTrue_at}
+use Rattle.route_lattice.specs.Mesh.{level}
+use Rattle.route_lattice.specs.Ways.{way_count}
 use Rattle.move_maps.specs.declared.window.Window.{Window}
+use Rattle.move_maps.specs.Paint.{AreFirstClear, Paints}
 use Rattle.move_maps.specs.Windows.{IsPlaceOut}
 use Rattle.move_maps.proofs.Painting.{node_off}
 use Rattle.move_maps.proofs.Spanning.{node_out}
@@ -21,4 +24,14 @@ pub paint_node-requires-clause-ready : goal.paint_node-requires-clause-ready
 paint_node-requires-clause-ready g c = c.requires.ready
 
 pub paint_node-requires-clause-clear : goal.paint_node-requires-clause-clear
-paint_node-requires-clause-clear g c = c.requires.clear
+paint_node-requires-clause-clear g c =
+    let s = c.args.self.now in let t = s.moves in
+    subst (λ v. AreFirstClear t.d.now t.lat.now t.net s.item.now (level t.lat.now v) c.args.first)
+    (sym c.of-spot.ensures.node) c.requires.clear
+
+pub returns : goal.returns
+returns g c =
+    let s = c.args.self.now in let t = s.moves in
+    let a = way_count t.d.now t.lat.now t.net in
+    subst (λ v. Paints s.stroke t.d.now t.lat.now t.net s.item.now (v * a) ((v + 1) * a) c.args.counts.now
+    c.paint_node.new.counts) c.of-spot.ensures.node c.paint_node.ensures

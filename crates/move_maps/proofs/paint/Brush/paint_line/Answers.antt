@@ -1,9 +1,11 @@
 use Rattle.std.proofs.Common.{◌≡◌, ℕ, ◌+◌, ◌*◌, ◌≤◌, ◌<◌, length, ap, ◌∙◌, subst, arith}
+use Rattle.route_lattice.specs.Mesh.{level}
 use Rattle.route_lattice.specs.Ways.{way_count}
 use Rattle.move_maps.specs.Paint.{Paints}
 use Rattle.move_maps.proofs.Lines.{left_of, line_next, line_end, row_small, place_small}
 use Rattle.move_maps.proofs.Spanning.{line_sides}
 use Rattle.move_maps.proofs.Layered.{clear_at}
+use Rattle.move_maps.proofs.Plains.{level_is}
 use Rattle.move_maps.proofs.paint.Brush.paint_line.Goals as goal
 
 inside : (col right n : ℕ) → col < right → right ≤ n → col < n
@@ -71,6 +73,18 @@ paint_crossing-requires-clause-clear g c =
     c.len-width.result (c.len.ensures ∙ ap length c.ys.ensures) ew c.requires.row
     (inside c.loop-column.column c.row_span-span.result.right (length m.xs) c.loop-column-test.true
     (subst (λ n. c.row_span-span.result.right ≤ n) ew c.row_span-span.ensures.span.within)) c.requires.clear
+
+pub paint_crossing-requires-clause-level : goal.paint_crossing-requires-clause-level
+paint_crossing-requires-clause-level g c =
+    let m = c.args.self.now.moves.lat.now in
+    let eh = c.len.ensures ∙ ap length c.ys.ensures in
+    let ew = c.len-width.ensures ∙ ap length c.xs.ensures in
+    let col = c.loop-column.column in
+    ap (λ n. level m ((c.args.level * n + c.args.row) * c.len-width.result + col)) eh
+    ∙ (ap (λ n. level m ((c.args.level * length m.ys + c.args.row) * n + col)) ew
+    ∙ level_is (length m.ys) (length m.xs) c.args.level c.args.row col c.requires.row
+    (inside col c.row_span-span.result.right (length m.xs) c.loop-column-test.true
+    (subst (λ n. c.row_span-span.result.right ≤ n) ew c.row_span-span.ensures.span.within)))
 
 pub returns : goal.returns
 returns g c =

@@ -1,0 +1,56 @@
+use Rattle.std.proofs.Common.{◌≡◌, ℕ, ◌+◌, ◌*◌, ◌≤◌, length, refl, ap, ◌∙◌, subst, arith}
+use Rattle.route_lattice.specs.Ways.{way_count}
+use Rattle.move_maps.proofs.Painting.{begins, goes_on, at_ends}
+use Rattle.move_maps.proofs.paint.Brush.paint_stack.Goals as goal
+
+start : (n f : ℕ) → n + (f + 0) ≡ n + f
+start n f = omega arith
+
+after : (n f i : ℕ) → n + (f + i) + 1 ≡ n + (f + (i + 1))
+after n f i = omega arith
+
+over : (n i : ℕ) → n ≤ n + i
+over n i = omega arith
+
+further : (n f i : ℕ) → n + f ≤ n + (f + i)
+further n f i = omega arith
+
+equal : (i n : ℕ) → i ≤ n → n ≤ i → i ≡ n
+equal i n h k = omega (arith, h, k)
+
+next : (n k l i : ℕ) → i ≡ k → n + (4 + l * k + i) ≡ n + (4 + (l + 1) * k)
+next n k l i e = omega (arith, e)
+
+pub loop-level-init : goal.loop-level-init
+loop-level-init g c =
+    let s = c.args.self.now in let t = s.moves in
+    let n = c.args.spot.now.node * way_count t.d.now t.lat.now t.net in
+    let f = 4 + c.args.number * length t.lat.now.layers in
+    begins s.stroke t.d.now t.lat.now t.net s.item.now (n + f) (n + (f + 0)) c.args.counts.now (start n f)
+
+pub loop-level-preserved : goal.loop-level-preserved
+loop-level-preserved g c =
+    let s = c.args.self.now in let t = s.moves in
+    let n = c.args.spot.now.node * way_count t.d.now t.lat.now t.net in
+    let f = 4 + c.args.number * length t.lat.now.layers in
+    let i = c.loop-level.level in
+    goes_on s.stroke t.d.now t.lat.now t.net s.item.now (n + f) (n + (f + i)) (n + (f + i) + 1)
+    (n + (f + (i + 1))) c.args.counts.now c.loop-level.counts c.paint_via.new.counts (further n f i)
+    (over (n + (f + i)) 1) (after n f i) c.loop-level.invariant c.paint_via.ensures
+
+pub paint_via-requires-clause-size : goal.paint_via-requires-clause-size
+paint_via-requires-clause-size g c = c.loop-level.invariant.size ∙ c.requires.size
+
+pub returns : goal.returns
+returns g c =
+    let s = c.args.self.now in let t = s.moves in
+    let m = t.lat.now in
+    let n = c.args.spot.now.node * way_count t.d.now m t.net in
+    let f = 4 + c.args.number * length m.layers in
+    let layers = c.len-level-end.ensures ∙ ap length c.layers.ensures in
+    at_ends s.stroke t.d.now m t.net s.item.now (n + f) (n + f) (n + (f + c.loop-level.level))
+    (n + (4 + (c.args.number + 1) * length m.layers)) c.args.counts.now c.loop-level.counts refl
+    (next n (length m.layers) c.args.number c.loop-level.level
+    (equal c.loop-level.level (length m.layers)
+    (subst (λ k. c.loop-level.level ≤ k) layers c.loop-level.auto.level-end)
+    (subst (λ k. k ≤ c.loop-level.level) layers c.loop-level-test.false))) c.loop-level.invariant

@@ -1,0 +1,33 @@
+use Rattle.std.proofs.Common.{◌≡◌, sym, ap, ◌∙◌, arith}
+use Rattle.move_maps.specs.Spots.{line_after, line_before, next_point}
+use Rattle.move_maps.proofs.Spotting.{right_next, left_next, above_next, below_next, across_told, up_told}
+use Rattle.move_maps.proofs.spot.next_point.Goals as goal
+
+pub returns-in-0 : goal.returns-in-0
+returns-in-0 c =
+    let m = c.args.lat.now in let s = c.args.s.now in let k = c.requires.spot in
+    across_told m s.node 0 line_after s.at k.at_is c.as_slice-xs.result.now s.column c.line_after.result c.across.result
+    c.line_after.ensures (right_next m s.node k.there) (c.as_slice-xs.ensures ∙ c.xs.ensures) k.column_is
+    c.across.ensures ∙ ap (λ n. next_point m s.node n) (sym c.in-0.is)
+
+pub returns-in-1 : goal.returns-in-1
+returns-in-1 c =
+    let m = c.args.lat.now in let s = c.args.s.now in let k = c.requires.spot in
+    across_told m s.node 1 line_before s.at k.at_is c.as_slice-xs.result.now s.column c.line_before.result
+    c.across-in-1.result c.line_before.ensures (left_next m s.node k.there) (c.as_slice-xs.ensures ∙ c.xs.ensures)
+    k.column_is c.across-in-1.ensures ∙ ap (λ n. next_point m s.node n) (sym c.in-1.is)
+
+pub returns-in-2 : goal.returns-in-2
+returns-in-2 c =
+    let m = c.args.lat.now in let s = c.args.s.now in let k = c.requires.spot in
+    up_told m s.node 2 line_after s.at k.at_is c.as_slice-ys.result.now s.row c.line_after-in-2.result c.up.result
+    c.line_after-in-2.ensures (above_next m s.node k.there) (c.as_slice-ys.ensures ∙ c.ys.ensures) k.row_is
+    c.up.ensures ∙ ap (λ n. next_point m s.node n) (sym c.in-2.is)
+
+pub returns-in_default : goal.returns-in_default
+returns-in_default c =
+    let m = c.args.lat.now in let s = c.args.s.now in let k = c.requires.spot in
+    let three : 3 ≡ c.args.dir = omega (arith, c.in_default, c.requires.dir) in
+    up_told m s.node 3 line_before s.at k.at_is c.as_slice-ys.result.now s.row c.line_before-in_default.result
+    c.up-in_default.result c.line_before-in_default.ensures (below_next m s.node k.there)
+    (c.as_slice-ys.ensures ∙ c.ys.ensures) k.row_is c.up-in_default.ensures ∙ ap (λ n. next_point m s.node n) three

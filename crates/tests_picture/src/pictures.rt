@@ -42,8 +42,7 @@ const DESIGN: &str = r#"(pcb "P&Q"
 const PICTURE: &str =
     r##"<svg xmlns="http://www.w3.org/2000/svg" viewBox="0 0 14.25 8.5" font-family="sans-serif">
 <title>P&amp;Q</title>
-<pattern id="hatch" width="0.8" height="0.8" patternUnits="userSpaceOnUse" patternTransform="rotate(45)"><path d="M0
-    0v1" stroke="#777" stroke-width="0.5"/></pattern>
+<pattern id="hatch" width="0.8" height="0.8" patternUnits="userSpaceOnUse" patternTransform="rotate(45)"><path d="M0 0v1" stroke="#777" stroke-width="0.5"/></pattern>
 <rect width="100%" height="100%" fill="#fff"/>
 <g transform="translate(1.5 6.25) scale(1 -1)" fill-rule="evenodd" stroke-linecap="round" stroke-linejoin="round">
 <g class="keepouts" fill="url(#hatch)" stroke="url(#hatch)">
@@ -72,8 +71,7 @@ const PICTURE: &str =
 <g class="edge" fill="none" stroke="#000" stroke-width="0.025">
 <path d="M -1 -2 9 -2 9 6 -1 6z"/>
 </g>
-<g class="names" transform="translate(-0.083333 0.083333)" font-size="0.125" text-anchor="end" stroke="#fff"
-    stroke-width="0.025" paint-order="stroke">
+<g class="names" transform="translate(-0.083333 0.083333)" font-size="0.125" text-anchor="end" stroke="#fff" stroke-width="0.025" paint-order="stroke">
 <text transform="matrix(1 0 0 -1 1 2)">C&lt;1&gt;</text>
 <text transform="matrix(1 0 0 -1 7 2)">C2</text>
 <text transform="matrix(1 0 0 -1 4 4.5005)">C3</text>
@@ -85,8 +83,7 @@ const PICTURE: &str =
 <g transform="translate(10.75 0.25) scale(0.25)" font-size="0.8">
 <path d="M0 0.5h2" stroke-width="0.6" fill="#BE4B00" stroke="#BE4B00" opacity="0.85"/><text x="2.5" y="0.8">F.Cu</text>
 <path d="M0 1.5h2" stroke-width="0.6" fill="#56B4E9" stroke="#56B4E9" opacity="0.85"/><text x="2.5" y="1.8">B.Cu</text>
-<path d="M0 2.5h2" stroke-width="0.6" fill="#000" stroke="#000" opacity="0.85"/><text x="2.5" y="2.8">through pads and
-    vias</text>
+<path d="M0 2.5h2" stroke-width="0.6" fill="#000" stroke="#000" opacity="0.85"/><text x="2.5" y="2.8">through pads and vias</text>
 <path d="M0 3.5h2" stroke-width="0.6" stroke="url(#hatch)"/><text x="2.5" y="3.8">keepouts</text>
 <path d="M0 4.5h2" stroke-width="0.06" stroke="#E0007A" stroke-dasharray="0.5"/><text x="2.5" y="4.8">open 1</text>
 <text x="2.5" y="5.8">nets 1</text>

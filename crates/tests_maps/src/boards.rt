@@ -13,8 +13,8 @@ use pcb_model::{Design, FreeWire, Item, PlainCopper, copy_item, copy_metal, make
 use route_lattice::Lattice;
 use std::alloc::{AllocError, Global};
 
-/// Two layers, and a wall on the front between the pins of the first net; the second net has no pins. The free wiring
-/// is the first net's wire along the back, and a via in its place.
+/// Two layers, and a wall on both between the pins of the first net; the second net has no pins. The free wiring is a
+/// wire of the first net on the back from its left pin, and a via in its place.
 pub(crate) const WALL: &str = "(pcb T
   (resolution um 10)
   (unit um)
@@ -23,7 +23,7 @@ pub(crate) const WALL: &str = "(pcb T
     (layer B.Cu (type signal))
     (boundary (rect pcb 0 0 10000 10000))
     (via V)
-    (keepout (rect F.Cu 4900 0 5100 10000))
+    (keepout (rect signal 4900 0 5100 10000))
     (rule (width 200) (clearance 200)))
   (placement (component P
     (place C1 2000 5000 front 0)
@@ -34,7 +34,7 @@ pub(crate) const WALL: &str = "(pcb T
     (padstack V (shape (circle F.Cu 600)) (shape (circle B.Cu 600))))
   (network (net A (pins C1-1 C2-1)) (net B))
   (wiring
-    (wire (path B.Cu 200 2000 5000 8000 5000) (net A) (type route))
+    (wire (path B.Cu 200 2000 5000 4000 5000) (net A) (type route))
     (via V 3000 7000 (net A) (type route))))";
 
 /// One layer, and two nets whose pins lie across each other. The free wiring is the straight wire of the first net, and

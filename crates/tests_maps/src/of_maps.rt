@@ -231,13 +231,13 @@ fn seen(alloc: Global, text: &str) -> Option<[[Seen; 2]; 3]> {
 }
 
 // Each layer has 81 nodes, and each node 4 numbers of steps and 2 of vias: 576 steps and 162 vias are there. The wall
-// shuts 52 of the steps and 18 of the vias for both nets. For the second net each pad shuts 18 moves, the wire 36
+// shuts 104 of the steps and 18 of the vias for both nets. For the second net each pad shuts 18 moves, the wire 14
 // more, and the via 18. A map opens by itself what is open for a net without copper, at the 98 inner nodes: of the 490
-// moves there the wall shuts 56, each pad 16, the wire 36 more, and the via 18.
+// moves there the wall shuts 98, each pad 16, the wire 14 more, and the via 18.
 #[test]
 fn maps_tell_the_legal_moves_beside_a_wall(rt: HostRuntime) {
-    let wire = [(972, 668, 366), (972, 596, 366)];
-    let via = [(972, 668, 384), (972, 614, 384)];
+    let wire = [(972, 616, 346), (972, 566, 346)];
+    let via = [(972, 616, 342), (972, 562, 342)];
     assert_eq!(rt; seen(rt.alloc(), WALL), Some([wire, via, wire]));
 }
 

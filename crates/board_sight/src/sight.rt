@@ -1,7 +1,7 @@
 //! A snapshot with the maps of the moves on it.
 //! The maps are made once, and follow to each later snapshot.
 
-ghost use Rattle.std.specs.Prelude.{IfOk, IfSome, OnOk};
+ghost use Rattle.std.specs.Prelude.{◌≡◌, IfOk, IfSome, OnOk};
 ghost use Rattle.move_maps.specs.Maps.{AreMapsOf};
 ghost use Rattle.board_sight.specs.Sights.{CanSee, IsLater, IsSightOf};
 
@@ -17,6 +17,17 @@ use std::alloc::{AllocError, Global};
 pub struct Sight {
     pub snap: Snap,
     pub maps: MoveMaps,
+}
+
+impl Sight {
+    /// The same sight once more. `AllocError` comes only for want of memory.
+    pub fn copy(&self, alloc: Global) -> Result<Sight, AllocError>
+        ensures { IfOk result (λ s. s ≡ self.now) }
+    {
+        let snap = self.snap.share()?;
+        let maps = self.maps.copy(alloc)?;
+        Ok(Sight { snap, maps })
+    }
 }
 
 // Lets the maps of an earlier snapshot follow to a later one. Where no entry came between them, nothing is asked.

@@ -1,7 +1,7 @@
 //! The maps of the groups, which follow some copper.
 
-ghost use Rattle.std.specs.Prelude.{◌≡◌, ◌↔◌, ℕ, ◌*◌, ◌<◌, ◌≤◌, ◌^◌, length, All, Contains, IfSome, IfNone, IfOk, OnOk};
-ghost use Rattle.std.specs.Prelude.{OnErr, slice_index_or};
+ghost use Rattle.std.specs.Prelude.{◌≡◌, ◌↔◌, ℕ, ◌*◌, ◌<◌, ◌≤◌, ◌^◌, length, All, Contains, IfSome, IfNone};
+ghost use Rattle.std.specs.Prelude.{IfOk, OnOk, OnErr, slice_index_or};
 ghost use Rattle.pcb_model.specs.Bounds.{HasRulesWithin};
 ghost use Rattle.pcb_model.specs.Sound.{IsSound, IsItemOf};
 ghost use Rattle.route_lattice.specs.Fits.{FitsDesign};
@@ -44,6 +44,30 @@ impl Model for MoveMaps {
     ghost Value = { Seq OneMap };
 
     ghost view = { λ s. s.maps.items };
+}
+
+impl GroupMap {
+    /// The same map once more.
+    fn copy(&self, alloc: Global) -> Result<GroupMap, AllocError>
+        ensures { IfOk result (λ g. g ≡ self.now) }
+    {
+        let counts = self.counts.copy(alloc)?;
+        Ok(GroupMap {
+            first: self.first,
+            counts,
+        })
+    }
+}
+
+// Copies of the maps, in order.
+fn copies_of(alloc: Global, maps: &[GroupMap]) -> Result<Vec<GroupMap>, AllocError>
+    ensures { IfOk result (λ copies. copies.items ≡ maps.now) }
+{
+    let mut copies = Vec::new(alloc);
+    for map in maps {
+        copies.push(map.copy(alloc)?)?;
+    }
+    Ok(copies)
 }
 
 // Changes the counts of a map.
@@ -154,6 +178,14 @@ impl MoveMaps {
         let firsts = first_nets(alloc, lat, d, c)?;
         let inner = inner_points(alloc, lat, d)?;
         let maps = maps_for(alloc, lat, d, c, inner.as_slice(), firsts.as_slice())?;
+        Ok(MoveMaps { maps })
+    }
+
+    /// The same maps once more. `AllocError` comes only for want of memory.
+    pub fn copy(&self, alloc: Global) -> Result<MoveMaps, AllocError>
+        ensures { IfOk result (λ maps. maps ≡ self.now) }
+    {
+        let maps = copies_of(alloc, self.maps.as_slice())?;
         Ok(MoveMaps { maps })
     }
 

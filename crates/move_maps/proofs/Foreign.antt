@@ -28,7 +28,7 @@ use Rattle.route_lattice.specs.declared.moves.Move.{Move}
 use Rattle.route_lattice.specs.declared.moves.Move.TheVariants.{Step, Via}
 use Rattle.route_lattice.specs.Mesh.{Mesh, node_count, node_at, column, row, level, point_of, layer_of}
 use Rattle.route_lattice.specs.Ways.{step_at, via_at, vias_of, way, way_count, can_join}
-use Rattle.route_lattice.specs.Legal.{probe_of, probe_at, IsOpen, IsLegalProbe}
+use Rattle.route_lattice.specs.Legal.{probe_of, probe_at, IsOpen}
 use Rattle.move_maps.specs.declared.window.Window.{Window}
 use Rattle.move_maps.specs.Groups.{AreAlike}
 use Rattle.move_maps.specs.Clear.{IsClearOf}
@@ -138,28 +138,32 @@ inside_none d p o within (inl (h, e)) = e
 inside_none d p o within (inr (beyond, e)) = absurd (beyond within)
 
 -- ---- a move that is counted
-module _ (d : Design) (m : Mesh) (items : List Item) (g net v i n : ℕ) (ws : List Window) (h : AreAlike d g net)
-    (own : IsOwnCopper d m items g net ws) (hv : v < node_count m) (hi : i < way_count d m g) (out : IsOutOfAll m ws v)
-    (few : n < 255) (some : 0 < n) where
-  -- each item is clear of a legal move
-  each_clear : (p : Probe) → probe_at d m g v i ≡ Some p → IsLegalProbe d items net p → (b : Item) → Contains items b
+module _ (d : Design) (m : Mesh) (items : List Item) (g net v i : ℕ) (ws : List Window) (h : AreAlike d g net)
+    (own : IsOwnCopper d m items g net ws) (hv : v < node_count m) (hi : i < way_count d m g)
+    (out : IsOutOfAll m ws v) where
+  -- away from the net's own copper a move that agrees with an item is clear of it
+  pub agreed_clear : (p : Probe) → probe_at d m g v i ≡ Some p → (b : Item) → Contains items b → ProbeAgrees d net p b
       → IsClearOf d g p b
-  each_clear p e legal b there = at (own.each b there)
+  agreed_clear p e b there agrees = at (own.each b there)
     where
       by : IsForeign d g net b → (s : Bool) → is_same_net (Some net) b.net ≡ s → IsClearOf d g p b
       by k true s = absurd (k.other (same_net_is net b.net s))
-      by k false s = foreign_clear d g net p b h k s (legal.agrees b there)
+      by k false s = foreign_clear d g net p b h k s agrees
 
       at : CoverTogether d m g b ws ⊎ IsForeign d g net b → IsClearOf d g p b
       at (inl k) = subst (λ (o : Option Probe). IsClearAt d g b o) e (k.each v i hv hi out)
       at (inr k) = by k (is_same_net (Some net) b.net) refl
 
+module _ (d : Design) (m : Mesh) (items : List Item) (g net v i n : ℕ) (ws : List Window) (h : AreAlike d g net)
+    (own : IsOwnCopper d m items g net ws) (hv : v < node_count m) (hi : i < way_count d m g) (out : IsOutOfAll m ws v)
+    (few : n < 255) (some : 0 < n) where
   -- so a count above 0 shuts it
   shut_at : (o : Option Probe) → probe_at d m g v i ≡ o → IsTally d g items o n → IsOpen d items net o → ⊥
   shut_at None e tally is_open = is_open
   shut_at (Some p) e (inl t) is_open = omega (arith, t, few)
   shut_at (Some p) e (inr (below, (k, x, misses, outside, sum))) is_open =
-      let zero_k = all_missed (IsClearOf d g p) items k (all_of items (each_clear p e is_open)) misses in
+      let zero_k = all_missed (IsClearOf d g p) items k (all_of items (λ b there.
+          agreed_clear d m items g net v i ws h own hv hi out p e b there (is_open.agrees b there))) misses in
       let zero_x = inside_none d p x is_open.inside outside in
       omega (arith, zero_k, zero_x, sum, some)
     where

@@ -212,6 +212,17 @@ impl MoveMaps {
         Ok(())
     }
 
+    /// The map of the net's group, or None where none of the maps is one of it.
+    pub fn map_of(&self, d: &Design, net: u32) -> Option<&GroupMap>
+        requires net { net < length d.now.nets }
+        requires firsts { All (λ (g : OneMap). g.first < length d.now.nets) self.now }
+        ensures none { IfNone result (All (IsNotFor d.now net) self.now) }
+        ensures there { IfSome result (λ g. Contains self.now g.now) }
+        ensures alike { IfSome result (λ g. AreAlike d.now g.now.first net) }
+    {
+        map_for(d, self.maps.as_slice(), net)
+    }
+
     /// The moves of a net on the copper that the maps follow, or None exactly where the net has no map.
     pub fn moves<'a, C: Copper>(
         &'a self,

@@ -140,7 +140,7 @@ impl OwnCopper {
     }
 
     /// Whether the node is out of all windows.
-    pub(crate) fn is_off(&self, lat: &Lattice, node: u32) -> bool
+    pub fn is_off(&self, lat: &Lattice, node: u32) -> bool
         requires { node < node_count lat.now }
         ensures { OnTrue result (IsOutOfAll lat.now self.now node) }
     {

@@ -7,33 +7,9 @@ ghost use Rattle.dsn_design.specs.Copper.{piece_on, pieces_of, stack_pieces};
 
 use dsn_shapes::{LayerShape, Stack};
 use dsn_wiring::layers_below;
-use geo_kernel::{List, Point, Spine};
-use pcb_model::Piece;
+use geo_kernel::List;
+use pcb_model::{Piece, copy_spine};
 use std::alloc::{AllocError, Global};
-
-/// Equal loops.
-pub(crate) fn copy_loops(
-    alloc: Global,
-    loops: &[List<Point>],
-) -> Result<List<List<Point>>, AllocError>
-    ensures { IfOk result (λ ls. ls ≡ loops.now) }
-{
-    let mut copies = List::new(alloc);
-    for points in loops {
-        copies.push(List::from_slice(alloc, points.as_slice())?)?;
-    }
-    Ok(copies)
-}
-
-/// An equal spine.
-pub(crate) fn copy_spine(alloc: Global, spine: &Spine) -> Result<Spine, AllocError>
-    ensures { IfOk result (λ s. s ≡ spine.now) }
-{
-    match spine {
-        Spine::Chain(points) => Ok(Spine::Chain(List::from_slice(alloc, points.as_slice())?)),
-        Spine::Area(loops) => Ok(Spine::Area(copy_loops(alloc, loops.as_slice())?)),
-    }
-}
 
 fn piece_on(alloc: Global, shape: &LayerShape, layer: u8) -> Result<Piece, AllocError>
     ensures { IfOk result (λ p. p ≡ piece_on shape.now layer) }

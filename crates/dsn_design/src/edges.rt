@@ -7,10 +7,9 @@ ghost use Rattle.pcb_model.specs.Pieces.{wire_piece};
 ghost use Rattle.dsn_design.specs.Copper.{below};
 ghost use Rattle.dsn_design.specs.Items.{closed, edge_item, edge_pieces, fixed_item, loops_of};
 
-use crate::copper::copy_loops;
 use dsn_shapes::LayerShape;
 use geo_kernel::{List, Point, Spine};
-use pcb_model::{Item, Kind, Metal, Piece};
+use pcb_model::{Item, Kind, Metal, Piece, copy_loops};
 use std::alloc::{AllocError, Global};
 
 /// A fixed item, whose id is given with all of them.

@@ -9,33 +9,8 @@ ghost use Rattle.dsn_design.specs.Items.{fixed_wiring, free_wire, free_wiring, w
 
 use dsn_shapes::ReadWire;
 use geo_kernel::List;
-use pcb_model::{Design, FreeWire, Item, Metal, make_item};
+use pcb_model::{Design, FreeWire, Item, copy_metal, make_item};
 use std::alloc::{AllocError, Global};
-
-fn copy_metal(alloc: Global, metal: &Metal) -> Result<Metal, AllocError>
-    ensures { IfOk result (λ m. m ≡ metal.now) }
-{
-    match metal {
-        Metal::Wire {
-            layer,
-            width,
-            chain,
-        } => Ok(Metal::Wire {
-            layer: *layer,
-            width: *width,
-            chain: List::from_slice(alloc, chain.as_slice())?,
-        }),
-        Metal::Via { padstack, at } => Ok(Metal::Via {
-            padstack: *padstack,
-            at: *at,
-        }),
-        Metal::Pad { pin } => Ok(Metal::Pad { pin: *pin }),
-        Metal::Ban { wires, vias } => Ok(Metal::Ban {
-            wires: *wires,
-            vias: *vias,
-        }),
-    }
-}
 
 // A wire or via of the padstacks of a design.
 #[tactic(auto, unfolding(crate::specs::Items::wiring_item))]

@@ -42,7 +42,13 @@ not_pcb pcb = if is_headed (codes "pcb") pcb && is_some (word pcb 1) then [] els
 
 -- ---- units
 abbrev pub unit_of : List ℕ → Option Unit
-unit_of text = if str_eq_ignore_ascii_case text (codes "inch") then Some Inch else (if str_eq_ignore_ascii_case text (codes "mil") then Some Mil else (if str_eq_ignore_ascii_case text (codes "cm") then Some Cm else (if str_eq_ignore_ascii_case text (codes "mm") then Some Mm else (if str_eq_ignore_ascii_case text (codes "um") then Some Um else None))))
+unit_of text =
+    if str_eq_ignore_ascii_case text (codes "inch") then Some Inch else
+    (if str_eq_ignore_ascii_case text (codes "mil") then Some Mil else
+    (if str_eq_ignore_ascii_case text (codes "cm") then Some Cm else
+    (if str_eq_ignore_ascii_case text (codes "mm") then Some Mm else
+    (if str_eq_ignore_ascii_case text (codes "um") then Some Um else
+    None))))
 
 -- word 1 of a list is its unit
 abbrev pub unit_in : Tree → Unit

@@ -1,66 +1,45 @@
--- A step that is away from the net's own copper and is counted in the map is shut.
-use Rattle.std.proofs.Common.{◌≡◌, ℕ, ◌+◌, ◌-◌, ◌/◌, ◌%◌, ◌<◌, ◌==◌, Bool, true, false, not, ◌&&◌, cond}
-use Rattle.std.proofs.Common.{List, [], ◌∷◌, length, Option, Some, None, All, inl, inr, refl, sym, ap, ◌∙◌, subst}
-use Rattle.std.proofs.Common.{arith}
+-- A move that is away from the net's own copper and is counted in the map is shut.
+use Rattle.std.proofs.Common.{◌≡◌, ℕ, ◌+◌, ◌-◌, ◌*◌, ◌/◌, ◌%◌, ◌<◌, ◌≤◌, ◌⊎◌, ◌==◌, Bool, true, false, not, ◌&&◌}
+use Rattle.std.proofs.Common.{cond, max, List, [], ◌∷◌, length, Option, Some, None, All, Any, inl, inr, refl, sym, ap}
+use Rattle.std.proofs.Common.{◌∙◌, subst, arith}
 use Rattle.std.specs.Prelude.{Contains, nat_lt, slice_index}
 use Rattle.std.specs.Option.{option_map}
 use Rattle.std.specs.Bool.{OnTrue}
-use Rattle.std.proofs.lemmas.Bool.{eqb-true, eq-eqb, false≢true}
+use Rattle.std.proofs.lemmas.Bool.{eqb-true, eq-eqb, false≢true, le-ltb}
 use Rattle.std.proofs.Common.{get_or}
 use Rattle.std.proofs.lemmas.List.Elements.{All-head, All-tail, Contains-get_or}
+use Rattle.geo_kernel.proofs.Keeping.{keep_bars_touch}
 use Rattle.pcb_model.specs.Board.{AreInside}
+use Rattle.pcb_model.specs.declared.item.Kind.{Kind}
 use Rattle.pcb_model.specs.declared.item.Kind.TheVariants as kind
+use Rattle.pcb_model.specs.declared.item.Metal.{Metal}
+use Rattle.pcb_model.specs.declared.item.Metal.TheVariants as metal
+use Rattle.pcb_model.specs.declared.item.Piece.{Piece}
 use Rattle.pcb_model.specs.declared.item.Item.{Item}
 use Rattle.pcb_model.specs.declared.item.Probe.{Probe}
 use Rattle.pcb_model.specs.declared.item.Probe.TheVariants as probe
 use Rattle.pcb_model.specs.declared.design.Design.{Design}
-use Rattle.pcb_model.specs.Pieces.{pieces_of, metal_of, kind_of}
-use Rattle.pcb_model.specs.Pairs.{PiecesKeep, is_same_net, is_compared, ProbeAgrees}
+use Rattle.pcb_model.specs.Inner.{meets_vias}
+use Rattle.pcb_model.specs.Rules.{clearance_of}
+use Rattle.pcb_model.specs.Pieces.{pieces_of, metal_of, kind_of, padstack_pieces}
+use Rattle.pcb_model.specs.Pairs.{PieceKeeps, KeepsFrom, PiecesKeep, PieceTouches, TouchesSome, PiecesTouch}
+use Rattle.pcb_model.specs.Pairs.{is_same_net, is_compared, ProbeAgrees}
 use Rattle.route_lattice.specs.declared.moves.Move.{Move}
 use Rattle.route_lattice.specs.declared.moves.Move.TheVariants.{Step, Via}
-use Rattle.route_lattice.specs.Mesh.{Mesh, node_count, node_at, column, row, level}
-use Rattle.route_lattice.specs.Ways.{step_at, via_at, vias_of, way, way_count}
-use Rattle.route_lattice.specs.Legal.{probe_of, probe_at, IsOpen, IsLegalProbe}
+use Rattle.route_lattice.specs.Mesh.{Mesh, node_count, node_at, column, row, level, point_of, layer_of}
+use Rattle.route_lattice.specs.Ways.{step_at, via_at, vias_of, way, way_count, can_join}
+use Rattle.route_lattice.specs.Legal.{probe_of, probe_at, IsOpen}
 use Rattle.move_maps.specs.declared.window.Window.{Window}
 use Rattle.move_maps.specs.Groups.{AreAlike}
 use Rattle.move_maps.specs.Clear.{IsClearOf}
 use Rattle.move_maps.specs.Maps.{Misses, IsOutside, IsTally, IsMapOf, place_at}
 use Rattle.move_maps.specs.declared.map.GroupMap.{GroupMap}
-use Rattle.move_maps.specs.Paint.{IsClearAt}
+use Rattle.move_maps.specs.Paint.{IsClearAt, CoverTogether}
 use Rattle.move_maps.specs.Windows.{IsOutOfAll}
-use Rattle.move_maps.specs.OwnCopper.{IsOwnCopper, IsStepThere}
+use Rattle.move_maps.specs.OwnCopper.{IsForeign, IsOwnCopper, IsStepThere, IsViaThere}
 use Rattle.move_maps.proofs.Alike.{same_clearance, same_probe, same_way_count}
 
 -- ---- steps
--- no via, if it is there
-abbrev pub IsNoVia : Option (Move × ℕ) → Type 0
-IsNoVia None = Unit {0}
-IsNoVia (Some (Step dir, to)) = Unit {0}
-IsNoVia (Some (Via padstack layer, to)) = ⊥
-
--- what holds in both cases
-either : {X : Type 0} (P : X → Type 0) (b : Bool) (x y : X) → P x → P y → P (cond b x y)
-either P true x y f g = f
-either P false x y f g = g
-
--- a step is no via
-pub step_no_via : (m : Mesh) (v dir : ℕ) → IsNoVia (step_at m v dir)
-step_no_via m v dir =
-    let P : Option (Move × ℕ) → Type 0 = λ o. IsNoVia o in
-    let l = level m v in let j = row m v in let i = column m v in
-    let right : Option (Move × ℕ) =
-    cond (nat_lt (i + 1) (length m.xs)) (Some (Step 0, node_at m l j (i + 1))) None in
-    let left : Option (Move × ℕ) = cond (nat_lt 0 i) (Some (Step 1, node_at m l j (i - 1))) None in
-    let up : Option (Move × ℕ) = cond (nat_lt (j + 1) (length m.ys)) (Some (Step 2, node_at m l (j + 1) i)) None in
-    let down : Option (Move × ℕ) = cond (nat_lt 0 j) (Some (Step 3, node_at m l (j - 1) i)) None in
-    either P (dir == 0) right (cond (dir == 1) left (cond (dir == 2) up down))
-    (either P (nat_lt (i + 1) (length m.xs)) (Some (Step 0, node_at m l j (i + 1))) None tt tt)
-    (either P (dir == 1) left (cond (dir == 2) up down)
-    (either P (nat_lt 0 i) (Some (Step 1, node_at m l j (i - 1))) None tt tt)
-    (either P (dir == 2) up down
-    (either P (nat_lt (j + 1) (length m.ys)) (Some (Step 2, node_at m l (j + 1) i)) None tt tt)
-    (either P (nat_lt 0 j) (Some (Step 3, node_at m l (j - 1) i)) None tt tt)))
-
 -- the first four moves are steps
 pub way_step : (d : Design) (m : Mesh) (net v i : ℕ) → i < 4 → way d m net v i ≡ step_at m v i
 way_step d m net v i h = picks (nat_lt i 4) (step_at m v i)
@@ -74,23 +53,19 @@ way_step d m net v i h = picks (nat_lt i 4) (step_at m v i)
     below-true : (a b : ℕ) → a < b → nat_lt a b ≡ true
     below-true a b k = grind (arith, k)
 
--- what a move that is no via lays is no via
-lays_wire : (d : Design) (m : Mesh) (net v : ℕ) (o : Option (Move × ℕ)) (p : Probe) → IsNoVia o
-    → option_map (λ (w : Move × ℕ). probe_of d m net v w.0 w.1) o ≡ Some p → kind_of (metal_of p) ≡ kind.Via → ⊥
-lays_wire d m net v None p h e = cc
-lays_wire d m net v (Some (Step dir, to)) (probe.Disc layer width at) h e = cc
-lays_wire d m net v (Some (Step dir, to)) (probe.Step layer width a b) h e = λ k. wire k
+-- the others are vias
+pub way_via : (d : Design) (m : Mesh) (net v i : ℕ) → 4 ≤ i → way d m net v i
+    ≡ via_at d m v (slice_index (vias_of d net) ((i - 4) / length m.layers)) ((i - 4) % length m.layers)
+way_via d m net v i h = picks (nat_lt i 4) (step_at m v i)
+    (via_at d m v (slice_index (vias_of d net) ((i - 4) / length m.layers)) ((i - 4) % length m.layers))
+    (not_below i 4 h)
   where
-    wire : kind.Wire ≡ kind.Via → ⊥
-    wire k = cc
-lays_wire d m net v (Some (Step dir, to)) (probe.Via padstack at) h e = cc
-lays_wire d m net v (Some (Via padstack layer, to)) p h e = absurd h
+    picks : (b : Bool) (x y : Option (Move × ℕ)) → b ≡ false → cond b x y ≡ y
+    picks true x y e = cc
+    picks false x y e = refl
 
--- the first four moves lay no via
-step_wire : (d : Design) (m : Mesh) (net v i : ℕ) (p : Probe) → i < 4 → probe_at d m net v i ≡ Some p
-    → kind_of (metal_of p) ≡ kind.Via → ⊥
-step_wire d m net v i p h e = lays_wire d m net v (way d m net v i) p
-    (subst (λ (o : Option (Move × ℕ)). IsNoVia o) (sym (way_step d m net v i h)) (step_no_via m v i)) e
+    not_below : (a b : ℕ) → b ≤ a → nat_lt a b ≡ false
+    not_below a b k = le-ltb a b k
 
 -- ---- copper
 -- an item of the same net has that net
@@ -98,19 +73,58 @@ same_net_is : (net : ℕ) (o : Option ℕ) → is_same_net (Some net) o ≡ true
 same_net_is net None e = cc
 same_net_is net (Some x) e = ap (λ (m : ℕ). Some m) (sym (eqb-true net x e))
 
--- a wire that agrees with foreign copper is clear of it
-foreign_clear : (d : Design) (g net : ℕ) (p : Probe) (b : Item) → AreAlike d g net
-    → (kind_of (metal_of p) ≡ kind.Via → ⊥) → is_same_net (Some net) b.net ≡ false → ProbeAgrees d net p b
-    → IsClearOf d g p b
-foreign_clear d g net p b h wire other agrees = record {
-  keep = λ compared. subst (λ k. PiecesKeep k (pieces_of d (metal_of p)) b.pieces)
-      (sym (same_clearance d g net (kind_of (metal_of p)) b.net b.kind h))
-      (agrees.keep (both (is_same_net (Some net) b.net) (is_compared (metal_of p) b.metal) other compared));
-  stay_off = λ off via own. absurd (wire via);
+-- pieces that keep a clearance don't touch
+apart : (c : ℕ) (ps rs : List Piece) → 0 < c → PiecesKeep c ps rs → PiecesTouch ps rs → ⊥
+apart c ps rs some h t = none ps h.each t.some
+  where
+    wide : (x y : ℕ) → x + y < max 1 (2 * c + x + y)
+    wide x y = omega (arith, some)
+
+    off : (p r : Piece) → PieceKeeps c p r → PieceTouches p r → ⊥
+    off p r k x = keep_bars_touch p.spine r.spine (max 1 (2 * c + p.width + r.width)) (p.width + r.width)
+        (k.keep x.one_layer) (wide p.width r.width) x.touch
+
+    from : (p : Piece) (qs : List Piece) → All (PieceKeeps c p) qs → Any (PieceTouches p) qs → ⊥
+    from p [] k x = absurd x
+    from p (q ∷ qs) k (inl x) = off p q (All-head (PieceKeeps c p) q qs k) x
+    from p (q ∷ qs) k (inr x) = from p qs (All-tail (PieceKeeps c p) q qs k) x
+
+    none : (qs : List Piece) → All (KeepsFrom c rs) qs → Any (TouchesSome rs) qs → ⊥
+    none [] k x = absurd x
+    none (q ∷ qs) k (inl x) =
+        let f : KeepsFrom c rs q = All-head (KeepsFrom c rs) q qs k in from q rs f.each x.some
+    none (q ∷ qs) k (inr x) = none qs (All-tail (KeepsFrom c rs) q qs k) x
+
+-- a via is compared with what vias meet
+via_met : (p : Probe) (x : Metal) → kind_of (metal_of p) ≡ kind.Via → meets_vias x ≡ true
+    → is_compared (metal_of p) x ≡ true
+via_met (probe.Disc layer width at) x e h = cc
+via_met (probe.Step layer width a b) x e h = cc
+via_met (probe.Via padstack at) (metal.Wire layer width chain) e h = refl
+via_met (probe.Via padstack at) (metal.Via other by) e h = refl
+via_met (probe.Via padstack at) (metal.Pad pin) e h = refl
+via_met (probe.Via padstack at) (metal.Ban wires vias) e h = h
+
+-- what agrees with foreign copper is clear of it
+foreign_clear : (d : Design) (g net : ℕ) (p : Probe) (b : Item) → AreAlike d g net → IsForeign d g net b
+    → is_same_net (Some net) b.net ≡ false → ProbeAgrees d net p b → IsClearOf d g p b
+foreign_clear d g net p b h foreign other agrees = record {
+  keep = keep;
+  stay_off = λ off via own touch.
+      let met = via_met p b.metal via (foreign.met own.smd) in
+      apart (clearance_of d (Some g) (kind_of (metal_of p)) b.net b.kind) (pieces_of d (metal_of p)) b.pieces
+      (subst (λ (k : Kind). 0 < clearance_of d (Some g) k b.net b.kind) (sym via) (foreign.apart own.smd))
+      (keep met) touch;
 }
   where
     both : (x y : Bool) → x ≡ false → y ≡ true → (not x && y) ≡ true
     both x y e f = cc
+
+    keep : is_compared (metal_of p) b.metal ≡ true
+        → PiecesKeep (clearance_of d (Some g) (kind_of (metal_of p)) b.net b.kind) (pieces_of d (metal_of p)) b.pieces
+    keep compared = subst (λ k. PiecesKeep k (pieces_of d (metal_of p)) b.pieces)
+        (sym (same_clearance d g net (kind_of (metal_of p)) b.net b.kind h))
+        (agrees.keep (both (is_same_net (Some net) b.net) (is_compared (metal_of p) b.metal) other compared))
 
 -- where all hold none is missed
 all_missed : {X : Type 0} (P : X → Type 0) (xs : List X) (n : ℕ) → All P xs → Misses P xs n → n ≡ 0
@@ -123,26 +137,33 @@ inside_none : (d : Design) (p : Probe) (o : ℕ) → AreInside d.bounds (pieces_
 inside_none d p o within (inl (h, e)) = e
 inside_none d p o within (inr (beyond, e)) = absurd (beyond within)
 
--- ---- a step that is counted
-module _ (d : Design) (m : Mesh) (items : List Item) (g net v i n : ℕ) (ws : List Window) (h : AreAlike d g net)
-    (own : IsOwnCopper d m items g net ws) (hv : v < node_count m) (hi : i < 4) (out : IsOutOfAll m ws v)
-    (few : n < 255) (some : 0 < n) where
-  -- each item is clear of a legal step
-  each_clear : (p : Probe) → probe_at d m g v i ≡ Some p → IsLegalProbe d items net p → (b : Item) → Contains items b
+-- ---- a move that is counted
+module _ (d : Design) (m : Mesh) (items : List Item) (g net v i : ℕ) (ws : List Window) (h : AreAlike d g net)
+    (own : IsOwnCopper d m items g net ws) (hv : v < node_count m) (hi : i < way_count d m g)
+    (out : IsOutOfAll m ws v) where
+  -- away from the net's own copper a move that agrees with an item is clear of it
+  pub agreed_clear : (p : Probe) → probe_at d m g v i ≡ Some p → (b : Item) → Contains items b → ProbeAgrees d net p b
       → IsClearOf d g p b
-  each_clear p e legal b there = by (is_same_net (Some net) b.net) refl
+  agreed_clear p e b there agrees = at (own.each b there)
     where
-      by : (s : Bool) → is_same_net (Some net) b.net ≡ s → IsClearOf d g p b
-      by true s = subst (λ (o : Option Probe). IsClearAt d g b o) e
-          ((own.each b there (same_net_is net b.net s)).each v i hv hi out)
-      by false s = foreign_clear d g net p b h (step_wire d m g v i p hi e) s (legal.agrees b there)
+      by : IsForeign d g net b → (s : Bool) → is_same_net (Some net) b.net ≡ s → IsClearOf d g p b
+      by k true s = absurd (k.other (same_net_is net b.net s))
+      by k false s = foreign_clear d g net p b h k s agrees
 
+      at : CoverTogether d m g b ws ⊎ IsForeign d g net b → IsClearOf d g p b
+      at (inl k) = subst (λ (o : Option Probe). IsClearAt d g b o) e (k.each v i hv hi out)
+      at (inr k) = by k (is_same_net (Some net) b.net) refl
+
+module _ (d : Design) (m : Mesh) (items : List Item) (g net v i n : ℕ) (ws : List Window) (h : AreAlike d g net)
+    (own : IsOwnCopper d m items g net ws) (hv : v < node_count m) (hi : i < way_count d m g) (out : IsOutOfAll m ws v)
+    (few : n < 255) (some : 0 < n) where
   -- so a count above 0 shuts it
   shut_at : (o : Option Probe) → probe_at d m g v i ≡ o → IsTally d g items o n → IsOpen d items net o → ⊥
   shut_at None e tally is_open = is_open
   shut_at (Some p) e (inl t) is_open = omega (arith, t, few)
   shut_at (Some p) e (inr (below, (k, x, misses, outside, sum))) is_open =
-      let zero_k = all_missed (IsClearOf d g p) items k (all_of items (each_clear p e is_open)) misses in
+      let zero_k = all_missed (IsClearOf d g p) items k (all_of items (λ b there.
+      agreed_clear d m items g net v i ws h own hv hi out p e b there (is_open.agrees b there))) misses in
       let zero_x = inside_none d p x is_open.inside outside in
       omega (arith, zero_k, zero_x, sum, some)
     where
@@ -154,20 +175,38 @@ module _ (d : Design) (m : Mesh) (items : List Item) (g net v i n : ℕ) (ws : L
   counted_shut tally is_open = shut_at (probe_at d m g v i) refl tally
       (subst (λ (o : Option Probe). IsOpen d items net o) (sym (same_probe d m g net v i h)) is_open)
 
--- a step that is counted is there
-module _ (d : Design) (m : Mesh) (items : List Item) (g net v i n : ℕ) (h : AreAlike d g net) (hi : i < 4)
+-- a move that is counted is there
+module _ (d : Design) (m : Mesh) (items : List Item) (g net v i n : ℕ) (h : AreAlike d g net)
     (few : ¬ (n ≡ 255)) where
-  there_in : (o : Option (Move × ℕ)) → step_at m v i ≡ o → way d m net v i ≡ o
-      → IsTally d g items (option_map (λ (w : Move × ℕ). probe_of d m net v w.0 w.1) o) n → IsStepThere d m net v i
-  there_in None e f tally = absurd (few tally)
-  there_in (Some w) e f tally = record { is_step = hi; to = w; there = e; way_is = f }
+  -- what such a tally says of the way of a move
+  abbrev Tallied : Option (Move × ℕ) → Type 0
+  Tallied o = IsTally d g items (option_map (λ (w : Move × ℕ). probe_of d m net v w.0 w.1) o) n
 
-  pub step_there : IsTally d g items (probe_at d m g v i) n → IsStepThere d m net v i
-  step_there tally = there_in (step_at m v i) refl (way_step d m net v i hi)
-      (subst (λ (o : Option (Move × ℕ)). IsTally d g items
-      (option_map (λ (w : Move × ℕ). probe_of d m net v w.0 w.1) o) n)
-      (way_step d m net v i hi)
-      (subst (λ (o : Option Probe). IsTally d g items o n) (same_probe d m g net v i h) tally))
+  -- it says so of the move's own
+  tallied : IsTally d g items (probe_at d m g v i) n → Tallied (way d m net v i)
+  tallied tally = subst (λ (o : Option Probe). IsTally d g items o n) (same_probe d m g net v i h) tally
+
+  there_in : (o : Option (Move × ℕ)) → i < 4 → step_at m v i ≡ o → way d m net v i ≡ o → Tallied o
+      → IsStepThere d m net v i
+  there_in None hi e f tally = absurd (few tally)
+  there_in (Some w) hi e f tally = record { is_step = hi; to = w; there = e; way_is = f }
+
+  pub step_there : i < 4 → IsTally d g items (probe_at d m g v i) n → IsStepThere d m net v i
+  step_there hi tally = there_in (step_at m v i) hi refl (way_step d m net v i hi)
+      (subst Tallied (way_step d m net v i hi) (tallied tally))
+
+  via_in : (b : Bool) (p l to : ℕ) → 4 ≤ i → way d m net v i ≡ cond b (Some (Via p l, to)) None
+      → Tallied (cond b (Some (Via p l, to)) None) → IsViaThere d m net v i
+  via_in true p l to hi e tally = record { is_via = hi; padstack = p; layer = l; to = to; way_is = e }
+  via_in false p l to hi e tally = absurd (few tally)
+
+  pub via_there : 4 ≤ i → IsTally d g items (probe_at d m g v i) n → IsViaThere d m net v i
+  via_there hi tally =
+      let p = slice_index (vias_of d net) ((i - 4) / length m.layers) in
+      let t = (i - 4) % length m.layers in
+      via_in (can_join (padstack_pieces d p) (point_of m v) (layer_of m v) (slice_index m.layers t)) p
+      (slice_index m.layers t) (node_at m t (row m v) (column m v)) hi (way_via d m net v i hi)
+      (subst Tallied (way_via d m net v i hi) (tallied tally))
 
 -- ---- at a map
 -- a fact that holds where two numbers differ
@@ -193,10 +232,15 @@ module _ (d : Design) (m : Mesh) (items : List Item) (map : GroupMap) (net v i n
 
   -- a count that isn't the top tells of a step that it is there
   pub map_there : i < 4 → ¬ (n ≡ 255) → IsStepThere d m net v i
-  map_there four few = step_there d m items map.first net v i n k four few tally_at
+  map_there four few = step_there d m items map.first net v i n k few four tally_at
 
-  -- and where it is above 0, away from the net's own copper, that it is shut
-  pub map_shut : (ws : List Window) → IsOwnCopper d m items map.first net ws → i < 4 → n < 255 → 0 < n
-      → IsOutOfAll m ws v → ¬ (IsOpen d items net (probe_at d m net v i))
-  map_shut ws own four few some out =
-      counted_shut d m items map.first net v i n ws k own hv four out few some tally_at
+  -- and of a via
+  pub map_via : 4 ≤ i → ¬ (n ≡ 255) → IsViaThere d m net v i
+  map_via four few = via_there d m items map.first net v i n k few four tally_at
+
+  -- and where it is above 0, away from the net's own copper, that the move is shut
+  pub map_shut : (ws : List Window) → IsOwnCopper d m items map.first net ws → n < 255 → 0 < n → IsOutOfAll m ws v
+      → ¬ (IsOpen d items net (probe_at d m net v i))
+  map_shut ws own few some out =
+      counted_shut d m items map.first net v i n ws k own hv
+      (subst (λ x. i < x) (sym (same_way_count d m map.first net k)) hi) out few some tally_at

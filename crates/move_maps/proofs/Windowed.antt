@@ -1,5 +1,5 @@
 -- The copper of a net itself: its windows as they are added, item by item.
-use Rattle.std.proofs.Common.{◌≡◌, ℕ, ◌+◌, ◌<◌, ◌≤◌, Bool, true, false, List, [], ◌∷◌, ◌++◌, Some}
+use Rattle.std.proofs.Common.{◌≡◌, ℕ, ◌+◌, ◌<◌, ◌≤◌, ◌⊎◌, Bool, true, false, List, [], ◌∷◌, ◌++◌}
 use Rattle.std.proofs.Common.{All, refl, sym, subst, arith, inl, inr, ltb-true}
 use Rattle.std.specs.Prelude.{Contains, nat_lt}
 use Rattle.std.proofs.lemmas.Bool.{ltb-false}
@@ -12,8 +12,8 @@ use Rattle.route_lattice.specs.Mesh.{Mesh, column, row}
 use Rattle.route_lattice.proofs.Among.{same_item}
 use Rattle.move_maps.specs.declared.window.Window.{Window}
 use Rattle.move_maps.specs.Windows.{IsOutOf, IsOutOfAll, Widens}
-use Rattle.move_maps.specs.Paint.{CoversSteps, IsHeld}
-use Rattle.move_maps.specs.OwnCopper.{IsCoveredBy, IsOwnCopper, IsOwnBelow, TakesOwn}
+use Rattle.move_maps.specs.Paint.{Covers, CoverTogether, IsHeld}
+use Rattle.move_maps.specs.OwnCopper.{IsForeign, IsOwnCopper, IsOwnBelow, TakesOwn}
 
 -- ---- windows
 -- a node out of a window is out of those in it
@@ -67,63 +67,66 @@ joined_widens ws rest new last w u e held_last held_w f = record {
 -- ---- items
 module _ (d : Design) (m : Mesh) (g net : ℕ) where
   -- what was covered stays so
-  pub kept_covered : (a : Item) (w : Window) (old new : List Window) → Widens old w new → IsCoveredBy d m g a old
-      → IsCoveredBy d m g a new
+  pub kept_covered : (a : Item) (w : Window) (old new : List Window) → Widens old w new → CoverTogether d m g a old
+      → CoverTogether d m g a new
   kept_covered a w old new wide h = record { each = λ v i hv hi out. h.each v i hv hi (wide.each m v out).0 }
 
   -- an item is taken in by its window
-  pub taken_in : (b : Item) (w : Window) (old new : List Window) → Widens old w new → CoversSteps d m g b w
+  pub taken_in : (b : Item) (w : Window) (old new : List Window) → Widens old w new → Covers d m g b w
       → TakesOwn d m g net b old new
   taken_in b w old new wide h = record {
     kept = λ a k. kept_covered a w old new wide k;
-    taken = λ e. record { each = λ v i hv hi out. h.each v i hv hi (wide.each m v out).1 };
+    taken = inl (record { each = λ v i hv hi out. h.each v i hv hi (wide.each m v out).1 });
   }
 
-  -- an item of another net needs no window
-  pub passed_by : (b : Item) (old new : List Window) → new ≡ old → ¬ (b.net ≡ Some net) → TakesOwn d m g net b old new
-  passed_by b old new e other = record {
-    kept = λ a k. subst (λ (us : List Window). IsCoveredBy d m g a us) (sym e) k;
-    taken = λ f. absurd (other f);
+  -- a foreign item needs no window
+  pub passed_by : (b : Item) (old new : List Window) → new ≡ old → IsForeign d g net b → TakesOwn d m g net b old new
+  passed_by b old new e foreign = record {
+    kept = λ a k. subst (λ (us : List Window). CoverTogether d m g a us) (sym e) k;
+    taken = inr foreign;
   }
 
   -- at first no item has to be covered
   pub own_first : (items : List Item) (ws : List Window) → IsOwnBelow d m items g net 0 ws
-  own_first items ws = record { each = λ b there low e. absurd (omega (arith, low)) }
+  own_first items ws = record { each = λ b there low. absurd (omega (arith, low)) }
 
   -- the first item from an id on is taken in
   pub own_next : (items : List Item) (from to : ℕ) (a : Item) (old new : List Window) → Ascends items
       → IsFirstFrom from items a → a.id + 1 ≡ to → TakesOwn d m g net a old new
       → IsOwnBelow d m items g net from old → IsOwnBelow d m items g net to new
   own_next items from to a old new up first next takes h = record {
-    each = λ b there low e. either b there e (nat_lt b.id a.id) refl low;
+    each = λ b there low. either b there (nat_lt b.id a.id) refl low;
   }
     where
-      same : (b : Item) → b ≡ a → b.net ≡ Some net → IsCoveredBy d m g b new
-      same b s e = subst (λ (x : Item). IsCoveredBy d m g x new) (sym s)
-          (takes.taken (subst (λ (x : Item). x.net ≡ Some net) s e))
+      same : (b : Item) → b ≡ a → CoverTogether d m g b new ⊎ IsForeign d g net b
+      same b s = subst (λ (x : Item). CoverTogether d m g x new ⊎ IsForeign d g net x) (sym s) takes.taken
+
+      still : (b : Item) → CoverTogether d m g b old ⊎ IsForeign d g net b
+          → CoverTogether d m g b new ⊎ IsForeign d g net b
+      still b (inl k) = inl (takes.kept b k)
+      still b (inr k) = inr k
 
       meet : (x y t : ℕ) → y + 1 ≡ t → x < t → y ≤ x → x ≡ y
       meet x y t e l k = omega (arith, e, l, k)
 
-      either : (b : Item) → Contains items b → b.net ≡ Some net → (s : Bool) → nat_lt b.id a.id ≡ s → b.id < to
-          → IsCoveredBy d m g b new
-      either b there e true s low =
-          takes.kept b (h.each b there (first.before b there (ltb-true b.id a.id s)) e)
-      either b there e false s low = same b (same_item items b a up there first.there
-          (meet b.id a.id to next low (ltb-false b.id a.id s))) e
+      either : (b : Item) → Contains items b → (s : Bool) → nat_lt b.id a.id ≡ s → b.id < to
+          → CoverTogether d m g b new ⊎ IsForeign d g net b
+      either b there true s low = still b (h.each b there (first.before b there (ltb-true b.id a.id s)))
+      either b there false s low = same b (same_item items b a up there first.there
+          (meet b.id a.id to next low (ltb-false b.id a.id s)))
 
-  -- where no item is left, each is covered
+  -- where no item is left, each is covered or foreign
   pub own_all : (items : List Item) (from : ℕ) (ws : List Window) → All (λ (b : Item). b.id < from) items
       → IsOwnBelow d m items g net from ws → IsOwnCopper d m items g net ws
   own_all items from ws below h = record {
-    each = λ b there e. h.each b there (All-contains (λ (x : Item). x.id < from) items b below there) e;
+    each = λ b there. h.each b there (All-contains (λ (x : Item). x.id < from) items b below there);
   }
 
-  -- nor where no id can be higher
+  -- so it is where no id can be higher
   pub own_by : (items : List Item) (from n : ℕ) (ws : List Window) → n ≤ from → All (λ (b : Item). b.id < n) items
       → IsOwnBelow d m items g net from ws → IsOwnCopper d m items g net ws
   own_by items from n ws h below own = record {
-    each = λ b there e.
+    each = λ b there.
         let low : b.id < n = All-contains (λ (x : Item). x.id < n) items b below there in
-        own.each b there (omega (arith, low, h)) e;
+        own.each b there (omega (arith, low, h));
   }

@@ -1,31 +1,35 @@
 -- The copper of a net itself, as windows of the lattice, and what a map says of a move beside it.
-use Rattle.std.specs.Prelude.{◌≡◌, ℕ, ◌<◌, List, Some, Contains}
+use Rattle.std.specs.Prelude.{◌≡◌, ℕ, ◌<◌, ◌≤◌, ◌⊎◌, List, true, Some, Contains}
+use Rattle.pcb_model.specs.declared.item.Kind.TheVariants as kind
 use Rattle.pcb_model.specs.declared.item.Item.{Item}
 use Rattle.pcb_model.specs.declared.design.Design.{Design}
-use Rattle.route_lattice.specs.Mesh.{Mesh, node_count}
+use Rattle.pcb_model.specs.Inner.{meets_vias}
+use Rattle.pcb_model.specs.Rules.{clearance_of}
+use Rattle.route_lattice.specs.Mesh.{Mesh}
 use Rattle.route_lattice.specs.Ways.{step_at, way}
-use Rattle.route_lattice.specs.Legal.{probe_at}
 use Rattle.route_lattice.specs.declared.moves.Move.{Move}
+use Rattle.route_lattice.specs.declared.moves.Move.TheVariants.{Via}
 use Rattle.move_maps.specs.declared.window.Window.{Window}
-use Rattle.move_maps.specs.Windows.{IsOutOfAll}
-use Rattle.move_maps.specs.Paint.{IsClearAt}
+use Rattle.move_maps.specs.Paint.{CoverTogether}
 
--- the steps of the nodes out of all these windows are clear of the item
-pub record IsCoveredBy (d : Design) (m : Mesh) (g : ℕ) (b : Item) (ws : List Window) : Type 0 where
-  pub each : (v i : ℕ) → v < node_count m → i < 4 → IsOutOfAll m ws v → IsClearAt d g b (probe_at d m g v i)
+-- an item of another net; if it is an smd pad, vias keep a clearance from it, so that none of them touches it
+pub record IsForeign (d : Design) (g net : ℕ) (b : Item) : Type 0 where
+  pub other : ¬ (b.net ≡ Some net)
+  pub met : b.kind ≡ kind.Smd → meets_vias b.metal ≡ true
+  pub apart : b.kind ≡ kind.Smd → 0 < clearance_of d (Some g) kind.Via b.net b.kind
 
--- they are clear of each item of the net
+-- each item is foreign, or the moves of the nodes out of all these windows are clear of it
 pub record IsOwnCopper (d : Design) (m : Mesh) (items : List Item) (g net : ℕ) (ws : List Window) : Type 0 where
-  pub each : (b : Item) → Contains items b → b.net ≡ Some net → IsCoveredBy d m g b ws
+  pub each : (b : Item) → Contains items b → CoverTogether d m g b ws ⊎ IsForeign d g net b
 
--- they are clear of each item of the net below an id
+-- so is each item below an id
 pub record IsOwnBelow (d : Design) (m : Mesh) (items : List Item) (g net from : ℕ) (ws : List Window) : Type 0 where
-  pub each : (b : Item) → Contains items b → b.id < from → b.net ≡ Some net → IsCoveredBy d m g b ws
+  pub each : (b : Item) → Contains items b → b.id < from → CoverTogether d m g b ws ⊎ IsForeign d g net b
 
--- what the old windows cover the new ones do, and an item of the net too
+-- what the old windows cover the new ones do, and an item too that isn't foreign
 pub record TakesOwn (d : Design) (m : Mesh) (g net : ℕ) (b : Item) (old new : List Window) : Type 0 where
-  pub kept : (a : Item) → IsCoveredBy d m g a old → IsCoveredBy d m g a new
-  pub taken : b.net ≡ Some net → IsCoveredBy d m g b new
+  pub kept : (a : Item) → CoverTogether d m g a old → CoverTogether d m g a new
+  pub taken : CoverTogether d m g b new ⊎ IsForeign d g net b
 
 -- move i of a node is a step, and it is there
 pub record IsStepThere (d : Design) (m : Mesh) (net v i : ℕ) : Type 0 where
@@ -33,3 +37,11 @@ pub record IsStepThere (d : Design) (m : Mesh) (net v i : ℕ) : Type 0 where
   pub to : Move × ℕ
   pub there : step_at m v i ≡ Some to
   pub way_is : way d m net v i ≡ Some to
+
+-- move i of a node is a via, and it is there
+pub record IsViaThere (d : Design) (m : Mesh) (net v i : ℕ) : Type 0 where
+  pub is_via : 4 ≤ i
+  pub padstack : ℕ
+  pub layer : ℕ
+  pub to : ℕ
+  pub way_is : way d m net v i ≡ Some (Via padstack layer, to)

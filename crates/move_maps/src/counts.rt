@@ -1,6 +1,6 @@
 //! Counts of one byte each, which are changed in place.
 
-ghost use Rattle.std.specs.Prelude.{◌≡◌, ◌<◌, [], ◌∷◌, ◌++◌, length, slice_index, slice_set, OnOk};
+ghost use Rattle.std.specs.Prelude.{◌≡◌, ◌<◌, [], ◌∷◌, ◌++◌, length, slice_index, slice_set, IfOk, OnOk};
 
 use std::alloc::{AllocError, Global};
 use std::marker::Model;
@@ -35,6 +35,14 @@ impl Counts {
     {
         self.bytes.push(n)?;
         Ok(())
+    }
+
+    /// A table of the same counts.
+    pub(crate) fn copy(&self, alloc: Global) -> Result<Counts, AllocError>
+        ensures { IfOk result (λ s. s ≡ self.now) }
+    {
+        let bytes = Vec::from_slice(alloc, self.bytes.as_slice())?;
+        Ok(Counts { bytes })
     }
 
     /// How many counts there are.

@@ -25,6 +25,7 @@ mod spot;
 mod start;
 mod step;
 mod tally;
+mod via;
 mod window;
 
 pub use counts::Counts;

@@ -1,7 +1,7 @@
 //! The maps of the groups, which follow some copper.
 
-ghost use Rattle.std.specs.Prelude.{◌≡◌, ◌↔◌, ℕ, ◌*◌, ◌<◌, ◌≤◌, ◌^◌, length, All, Contains, IfSome, IfNone, IfOk, OnOk};
-ghost use Rattle.std.specs.Prelude.{OnErr, slice_index_or};
+ghost use Rattle.std.specs.Prelude.{◌≡◌, ◌↔◌, ℕ, ◌*◌, ◌<◌, ◌≤◌, ◌^◌, length, All, Contains, IfSome, IfNone};
+ghost use Rattle.std.specs.Prelude.{IfOk, OnOk, OnErr, slice_index_or};
 ghost use Rattle.pcb_model.specs.Bounds.{HasRulesWithin};
 ghost use Rattle.pcb_model.specs.Sound.{IsSound, IsItemOf};
 ghost use Rattle.route_lattice.specs.Fits.{FitsDesign};
@@ -44,6 +44,30 @@ impl Model for MoveMaps {
     ghost Value = { Seq OneMap };
 
     ghost view = { λ s. s.maps.items };
+}
+
+impl GroupMap {
+    /// The same map once more.
+    fn copy(&self, alloc: Global) -> Result<GroupMap, AllocError>
+        ensures { IfOk result (λ g. g ≡ self.now) }
+    {
+        let counts = self.counts.copy(alloc)?;
+        Ok(GroupMap {
+            first: self.first,
+            counts,
+        })
+    }
+}
+
+// Copies of the maps, in order.
+fn copies_of(alloc: Global, maps: &[GroupMap]) -> Result<Vec<GroupMap>, AllocError>
+    ensures { IfOk result (λ copies. copies.items ≡ maps.now) }
+{
+    let mut copies = Vec::new(alloc);
+    for map in maps {
+        copies.push(map.copy(alloc)?)?;
+    }
+    Ok(copies)
 }
 
 // Changes the counts of a map.
@@ -157,6 +181,14 @@ impl MoveMaps {
         Ok(MoveMaps { maps })
     }
 
+    /// The same maps once more. `AllocError` comes only for want of memory.
+    pub fn copy(&self, alloc: Global) -> Result<MoveMaps, AllocError>
+        ensures { IfOk result (λ maps. maps ≡ self.now) }
+    {
+        let maps = copies_of(alloc, self.maps.as_slice())?;
+        Ok(MoveMaps { maps })
+    }
+
     /// Takes the items that are gone out of the counts and brings in those that have come, so that the maps answer
     /// for the copper. Where memory is wanting nothing changes.
     pub fn follow<C: Copper>(
@@ -178,6 +210,17 @@ impl MoveMaps {
         let maps = self.maps.as_mut_slice();
         change_all(lat, d, c, reach, maps, gone.as_slice(), come.as_slice());
         Ok(())
+    }
+
+    /// The map of the net's group, or None where none of the maps is one of it.
+    pub fn map_of(&self, d: &Design, net: u32) -> Option<&GroupMap>
+        requires net { net < length d.now.nets }
+        requires firsts { All (λ (g : OneMap). g.first < length d.now.nets) self.now }
+        ensures none { IfNone result (All (IsNotFor d.now net) self.now) }
+        ensures there { IfSome result (λ g. Contains self.now g.now) }
+        ensures alike { IfSome result (λ g. AreAlike d.now g.now.first net) }
+    {
+        map_for(d, self.maps.as_slice(), net)
     }
 
     /// The moves of a net on the copper that the maps follow, or None exactly where the net has no map.

@@ -1,5 +1,5 @@
 //! The legal moves of a net, by the map of its group.
-//! A move that is counted is there, so a step is followed without a look at the lattice's borders.
+//! A move that is counted is there, so it is followed without a look at the lattice's borders or the padstack.
 
 ghost use Rattle.std.specs.Prelude.{◌≡◌, ◌<◌, ◌≤◌, ◌*◌, ◌+◌, length, slice_index};
 ghost use Rattle.std.specs.Bool.{OnTrue};
@@ -8,10 +8,11 @@ ghost use Rattle.route_lattice.specs.Ways.{way_count};
 ghost use Rattle.route_lattice.specs.Legal.{CanMove, legal_graph};
 ghost use Rattle.move_maps.specs.Groups.{AreAlike};
 ghost use Rattle.move_maps.specs.Maps.{IsMapOf, place_at};
-ghost use Rattle.move_maps.specs.OwnCopper.{IsStepThere};
+ghost use Rattle.move_maps.specs.OwnCopper.{IsStepThere, IsViaThere};
 
 use crate::map::GroupMap;
 use crate::step::{step_price, step_to};
+use crate::via::via_to;
 use pcb_model::Copper;
 use route_lattice::{LegalMoves, Move, Moves};
 
@@ -50,6 +51,19 @@ impl<C: Copper> MapMoves<'_, C> {
     {
         i < 4 && self.tally(node, i) != u8::MAX
     }
+
+    /// Whether the move is a via that is there, by the map.
+    fn is_via(&self, node: u32, i: u32) -> bool
+        requires ready { let s = self.now.legal in CanMove s.d.now s.lat.now s.net s.via_cost }
+        requires map { let s = self.now.legal in
+            IsMapOf s.d.now s.lat.now (C.items s.c.now) self.now.map.now }
+        requires alike { AreAlike self.now.legal.d.now self.now.map.now.first self.now.legal.net }
+        requires node { node < node_count self.now.legal.lat.now }
+        requires index { let s = self.now.legal in i < way_count s.d.now s.lat.now s.net }
+        ensures { let s = self.now.legal in OnTrue result (IsViaThere s.d.now s.lat.now s.net node i) }
+    {
+        4 <= i && self.tally(node, i) != u8::MAX
+    }
 }
 
 impl<C: Copper> Moves for MapMoves<'_, C> {
@@ -73,6 +87,10 @@ impl<C: Copper> Moves for MapMoves<'_, C> {
         if self.is_step(node, i) {
             return Some(step_to(self.legal.lat, node, i));
         }
+        if self.is_via(node, i) {
+            let legal = &self.legal;
+            return Some(via_to(legal.lat, legal.d, legal.net, node, i));
+        }
         self.legal.at(node, i)
     }
 
@@ -86,6 +104,9 @@ impl<C: Copper> Moves for MapMoves<'_, C> {
     fn price(&self, node: u32, i: u32) -> u64 {
         if self.is_step(node, i) {
             return step_price(self.legal.lat, node, i);
+        }
+        if self.is_via(node, i) {
+            return self.legal.via_cost;
         }
         self.legal.price(node, i)
     }

@@ -1,7 +1,7 @@
 //! The legal moves of a net, by the map of its group and by where the net's own copper lies.
-//! A step away from that copper is open exactly where nothing is counted.
+//! A move away from that copper is open exactly where nothing is counted.
 
-ghost use Rattle.std.specs.Prelude.{◌≡◌, ◌+◌, ◌<◌, ◌≤◌, ◌^◌, slice_index, IfOk, IfSome, IfNone};
+ghost use Rattle.std.specs.Prelude.{◌≡◌, ◌+◌, ◌<◌, ◌≤◌, ◌^◌, length, slice_index, IfOk, IfSome, IfNone};
 ghost use Rattle.std.specs.Bool.{OnTrue};
 ghost use Rattle.route_lattice.specs.Mesh.{node_count};
 ghost use Rattle.route_lattice.specs.Ways.{way_count};
@@ -29,6 +29,7 @@ impl<'a, C: Copper> NetMoves<'a, C> {
     pub fn of(alloc: Global, by_map: MapMoves<'a, C>) -> Result<NetMoves<'a, C>, AllocError>
         requires ready { let s = by_map.legal in CanMove s.d.now s.lat.now s.net s.via_cost }
         requires serves { C.serves by_map.legal.c.now by_map.legal.d.now }
+        requires first { by_map.map.now.first < length by_map.legal.d.now.nets }
         ensures lat { IfOk result (λ s. s.by_map.legal.lat.now ≡ by_map.entry.legal.lat.now) }
         ensures d { IfOk result (λ s. s.by_map.legal.d.now ≡ by_map.entry.legal.d.now) }
         ensures c { IfOk result (λ s. s.by_map.legal.c.now ≡ by_map.entry.legal.c.now) }
@@ -86,7 +87,7 @@ impl MoveMaps {
 }
 
 impl<C: Copper> NetMoves<'_, C> {
-    /// Whether the map counts foreign copper, or the border, in the way of a step away from the net's own copper.
+    /// Whether the map counts foreign copper, or the border, in the way of a move away from the net's own copper.
     fn is_shut(&self, node: u32, i: u32, tally: u8) -> bool
         requires ready { let s = self.now.by_map.legal in CanMove s.d.now s.lat.now s.net s.via_cost }
         requires map { let s = self.now.by_map.legal in
@@ -102,7 +103,7 @@ impl<C: Copper> NetMoves<'_, C> {
         ensures { let s = self.now.by_map.legal in OnTrue result
             (¬ (IsOpen s.d.now (C.items s.c.now) s.net (probe_at s.d.now s.lat.now s.net node i))) }
     {
-        if i >= 4 || tally == u8::MAX {
+        if tally == u8::MAX {
             return false;
         }
         self.own.is_off(self.by_map.legal.lat, node)

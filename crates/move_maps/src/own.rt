@@ -1,19 +1,20 @@
-//! The copper of a net itself, as windows of the lattice: the steps of all nodes out of them are clear of it.
+//! The copper of a net itself, as windows of the lattice: the moves of all nodes out of them are clear of it.
 //! There a map needs no look at the copper: what it counts is foreign.
 
-ghost use Rattle.std.specs.Prelude.{◌≡◌, ◌<◌, ◌≤◌, ◌^◌, IfOk, OnOk, Some};
+ghost use Rattle.std.specs.Prelude.{◌≡◌, ◌<◌, ◌≤◌, ◌^◌, IfOk, OnOk, length};
 ghost use Rattle.std.specs.Bool.{OnTrue};
 ghost use Rattle.pcb_model.specs.Bounds.{IsItemFit, HasRulesWithin};
 ghost use Rattle.pcb_model.specs.Sound.{IsSound};
 ghost use Rattle.route_lattice.specs.Fits.{FitsDesign};
 ghost use Rattle.route_lattice.specs.Mesh.{node_count};
 ghost use Rattle.move_maps.specs.Windows.{IsOutOfAll, Widens};
-ghost use Rattle.move_maps.specs.OwnCopper.{IsOwnCopper, TakesOwn};
+ghost use Rattle.move_maps.specs.OwnCopper.{IsForeign, IsOwnCopper, TakesOwn};
 
-use crate::cover::{joined, step_window};
+use crate::clear::meets_vias;
+use crate::cover::{cover, joined};
 use crate::links::MOST_APART;
 use crate::window::{Window, is_out_of_all};
-use pcb_model::{Copper, Design, Extent, Item, reach_of};
+use pcb_model::{Copper, Design, Extent, Item, Kind, clearance, reach_of};
 use route_lattice::Lattice;
 use std::alloc::{AllocError, Global};
 use std::marker::Model;
@@ -47,7 +48,24 @@ fn add_window(windows: &mut Vec<Window>, w: Window) -> Result<(), AllocError>
     Ok(())
 }
 
-// Takes an item of the net in; another item changes nothing.
+// Whether what the map counts of the item shuts moves of the net: the item is of another net, and no via touches it that
+// keeps its clearance.
+fn is_foreign(d: &Design, g: u32, net: u32, item: &Item) -> bool
+    ensures { OnTrue result (IsForeign d.now g net item.now) }
+{
+    if item.net == Some(net) {
+        return false;
+    }
+    if item.kind != Kind::Smd {
+        return true;
+    }
+    if !meets_vias(&item.metal) {
+        return false;
+    }
+    0 < clearance(d, Some(g), Kind::Via, item.net, item.kind)
+}
+
+// Takes an item in that isn't foreign; another item changes nothing.
 fn take_item(
     windows: &mut Vec<Window>,
     lat: &Lattice,
@@ -59,15 +77,16 @@ fn take_item(
 ) -> Result<(), AllocError>
     requires sound { IsSound d.now }
     requires fits { FitsDesign d.now lat.now }
+    requires g { g < length d.now.nets }
     requires item { IsItemFit item.now }
     requires rules { HasRulesWithin reach d.now }
     requires reach { reach ≤ 2 ^ 28 }
     ensures { OnOk result (TakesOwn d.now lat.now g net item.now windows.old.items windows.new.items) }
 {
-    if item.net != Some(net) {
+    if is_foreign(d, g, net, item) {
         return Ok(());
     }
-    let w = step_window(lat, d, g, Extent::of_item(item), reach);
+    let w = cover(lat, d, g, Extent::of_item(item), reach);
     add_window(windows, w)
 }
 
@@ -82,6 +101,7 @@ fn windows_of<C: Copper>(
 ) -> Result<Vec<Window>, AllocError>
     requires sound { IsSound d.now }
     requires fits { FitsDesign d.now lat.now }
+    requires g { g < length d.now.nets }
     requires serves { C.serves c.now d.now }
     ensures { IfOk result (λ v. IsOwnCopper d.now lat.now (C.items c.now) g net v.items) }
 {
@@ -100,7 +120,7 @@ fn windows_of<C: Copper>(
 }
 
 impl OwnCopper {
-    /// The windows round the copper of the net, for steps of the group of net `g`.
+    /// The windows round the copper of the net, for moves of the group of net `g`.
     pub(crate) fn of<C: Copper>(
         alloc: Global,
         lat: &Lattice,
@@ -111,6 +131,7 @@ impl OwnCopper {
     ) -> Result<OwnCopper, AllocError>
         requires sound { IsSound d.now }
         requires fits { FitsDesign d.now lat.now }
+        requires g { g < length d.now.nets }
         requires serves { C.serves c.now d.now }
         ensures { IfOk result (IsOwnCopper d.now lat.now (C.items c.now) g net) }
     {
@@ -119,7 +140,7 @@ impl OwnCopper {
     }
 
     /// Whether the node is out of all windows.
-    pub(crate) fn is_off(&self, lat: &Lattice, node: u32) -> bool
+    pub fn is_off(&self, lat: &Lattice, node: u32) -> bool
         requires { node < node_count lat.now }
         ensures { OnTrue result (IsOutOfAll lat.now self.now node) }
     {

@@ -21,7 +21,7 @@ ghost use Rattle.move_maps.specs.Spots.{IsSpotOf, join_layers as joins_layers};
 use crate::clear::{is_via_clear, padstack_pieces};
 use crate::counts::Counts;
 use crate::cover::cover;
-use crate::joins::{has_copper, join_layers, pieces_near};
+use crate::joins::join_layers;
 use crate::links::{MOST_APART, windows_near};
 use crate::margins::Margins;
 use crate::span::row_span;
@@ -30,7 +30,7 @@ use crate::window::{Window, is_out_of_all};
 use arrayvec::ArrayVec;
 use geo_kernel::Point;
 use pcb_model::{Copper, Design, Extent, Item};
-use route_lattice::{Lattice, LegalMoves};
+use route_lattice::{Lattice, LegalMoves, has_copper, pieces_near};
 
 /// What becomes of the counts of the moves that an item shuts: one more where it comes, one fewer where it goes; where
 /// it stays for good they are shut, with nothing to be counted.

@@ -15,8 +15,8 @@ ghost use Rattle.pcb_board.specs.Loading.{IsKept, LoadsOne, AreLoaded};
 
 use geo_kernel::{List, Point, Rect4, Spine, box_of};
 use pcb_model::{
-    Copper, Design, FreeWire, Item, Steps, copy_item, copy_metal, greatest_clearance, inside_board,
-    make_item, pairs_are_symmetric, width_ok,
+    Copper, Design, FreeWire, Item, Steps, copy_item, copy_loops, copy_metal, greatest_clearance,
+    inside_board, make_item, pairs_are_symmetric, width_ok,
 };
 use pcb_tiles::Tiles;
 use std::alloc::{AllocError, Global};
@@ -29,16 +29,6 @@ pub(crate) struct Loaded {
     pub(crate) tiles: Tiles,
     pub(crate) given: Vec<Item>,
     pub(crate) dropped: List<u64>,
-}
-
-fn copy_loops(alloc: Global, loops: &[List<Point>]) -> Result<List<List<Point>>, AllocError>
-    ensures { IfOk result (λ ls. ls ≡ loops.now) }
-{
-    let mut copies = List::new(alloc);
-    for points in loops {
-        copies.push(List::from_slice(alloc, points.as_slice())?)?;
-    }
-    Ok(copies)
 }
 
 // The least box that holds the first boundary.

@@ -48,6 +48,18 @@ impl Snap {
         self.design.get()
     }
 
+    /// The same snapshot once more, which shares all with this one.
+    pub fn share(&self) -> Result<Snap, AllocError>
+        ensures { IfOk result (λ s. s ≡ self.now) }
+    {
+        Ok(Snap {
+            alloc: self.alloc,
+            design: self.design.share()?,
+            tiles: self.tiles.share()?,
+            number: self.number,
+        })
+    }
+
     /// What changed since an earlier snapshot: the items that it alone has, by id, and those that this one alone has.
     /// `AllocError` comes only for want of memory.
     pub fn since(&self, old: &Snap) -> Result<Since, AllocError>

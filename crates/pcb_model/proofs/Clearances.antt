@@ -6,7 +6,7 @@ use Rattle.pcb_model.specs.declared.item.Kind.{Kind}
 use Rattle.pcb_model.specs.declared.item.Kind.TheVariants.{Wire, Via, Pin, Smd, Area}
 use Rattle.pcb_model.specs.declared.design.Net.{Net}
 use Rattle.pcb_model.specs.declared.design.Design.{Design}
-use Rattle.pcb_model.specs.Rules.{value_of, clearance_of, levels, first_present, with_class}
+use Rattle.pcb_model.specs.Rules.{value_of, levels, first_present, with_class}
 use Rattle.pcb_model.specs.Bounds.{IsValue, AreValuesWithin, HasRulesWithin, IsGreatestClearance}
 use Rattle.pcb_model.proofs.Far.{clearances_within}
 use Rattle.pcb_model.proofs.First.{cases_lt as below_or_from}

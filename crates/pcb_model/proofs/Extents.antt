@@ -48,7 +48,8 @@ loops_moved : (f : Point → Point) (ls : List (List Point)) → flat_map (λ l.
 loops_moved f [] = refl
 loops_moved f (l ∷ ls) = ap (λ ps. map f l ++ ps) (loops_moved f ls) ∙ sym (map-append f l (flat_map (λ x. x) ls))
 
-vertices_moved : (by : Point) (s : Spine) → vertices (moved_spine by s) ≡ map (moved by) (vertices s)
+-- the vertices of a moved spine
+pub vertices_moved : (by : Point) (s : Spine) → vertices (moved_spine by s) ≡ map (moved by) (vertices s)
 vertices_moved by (Chain ps) = refl
 vertices_moved by (Area ls) = loops_moved (moved by) ls
 

@@ -1,9 +1,10 @@
 -- Least boxes and extents: what they hold, and what they are of one more piece.
-use Rattle.std.proofs.Common.{◌≡◌, ℕ, ℤ, pos, ◌≤◌, ◌<◌, ◌+◌, ◌^◌, max, min, List, [], ◌∷◌, ◌++◌, length, take, flat_map, All, Any, get_or, refl, sym, ap, ◌∙◌, subst, arith}
-use Rattle.std.specs.Prelude.{neg_ℤ, ◌≤ℤ◌, unsigned_abs}
+use Rattle.std.proofs.Common.{◌≡◌, ℕ, ℤ, pos, ◌≤◌, ◌<◌, ◌+◌, ◌^◌, max, min, List, [], ◌∷◌, ◌++◌, length, map, take}
+use Rattle.std.proofs.Common.{All, Any, get_or, refl, sym, ap, ◌∙◌, subst, arith}
+use Rattle.std.specs.Prelude.{neg_ℤ, ◌+ℤ◌, ◌≤ℤ◌, unsigned_abs}
 use Rattle.std.specs.Int.{int_min, int_max}
 use Rattle.std.proofs.lemmas.Int.{ints, clamps}
-use Rattle.std.proofs.lemmas.List.{take_more, append-nil}
+use Rattle.std.proofs.lemmas.List.{take_more, append-nil, map-append}
 use Rattle.std.proofs.lemmas.List.Concat.{flat_map-append}
 use Rattle.std.proofs.lemmas.List.Elements.{All-cons, All-nil, All-head, All-tail, All-append, All-weaker}
 use Rattle.geo_kernel.specs.declared.point.Point.{Point}
@@ -11,13 +12,17 @@ use Rattle.geo_kernel.specs.declared.point.Rect4.{Rect4}
 use Rattle.geo_kernel.specs.declared.spine.Spine.{Spine}
 use Rattle.geo_kernel.specs.Plane.{IsWithin}
 use Rattle.geo_kernel.specs.Boxes.{IsIn, IsBoxOf}
+use Rattle.geo_kernel.specs.Moved.{moved, moved_spine}
 use Rattle.geo_kernel.specs.Spine.{vertices, IsSpineWithin}
 use Rattle.geo_kernel.proofs.Growing.{box_is_of}
 use Rattle.pcb_model.specs.declared.item.Piece.{Piece}
 use Rattle.pcb_model.specs.declared.near.Extent.{Extent}
 use Rattle.pcb_model.specs.Bounds.{IsFit}
-use Rattle.pcb_model.specs.Near.{least, greatest, box_of_points, vertices_of, greatest_width, first_layer, last_layer, extent_of, IsPieceIn, IsExtentOf, IsBoxWithin}
-use Rattle.pcb_model.proofs.Extents.{vertices_within}
+use Rattle.pcb_model.specs.Pieces.{wire_piece}
+use Rattle.pcb_model.specs.Near.{least, greatest, box_of_points, vertices_of, greatest_width, first_layer, last_layer}
+use Rattle.pcb_model.specs.Near.{extent_of, IsBoxWithin, moved_box_by}
+use Rattle.pcb_model.proofs.Probes.{Any-map}
+use Rattle.pcb_model.proofs.Extents.{vertices_within, vertices_moved, spine_moved}
 
 -- ---- the least and the greatest value
 least_edge : (f : Point → ℤ) (ps : List Point) → least f ps ≤ℤ pos (2 ^ 29)
@@ -101,6 +106,27 @@ box_is s r w h =
     let d = greatest_is (λ p. p.y) r.y1 ps (All-weaker (IsIn r) (λ p. p.y ≤ℤ r.y1) (λ p k. k.top) ps h.within) h.top (y_below ps v) in
     box_is_of r.x0 r.y0 r.x1 r.y1 (least (λ p. p.x) ps) (least (λ p. p.y) ps) (greatest (λ p. p.x) ps) (greatest (λ p. p.y) ps) a b c d
 
+-- a side that meets a vertex meets the moved one when both are moved
+side_moved : (by : Point) (side : Point → ℤ) (z step : ℤ) (s : Spine)
+    → ((p : Point) → side (moved by p) ≡ side p +ℤ step)
+    → Any (λ p. side p ≡ z) (vertices s) → Any (λ p. side p ≡ z +ℤ step) (vertices (moved_spine by s))
+side_moved by side z step s moves (k, p, l, e, h) =
+    let P : Point → Type 0 = λ q. side q ≡ z +ℤ step in
+    subst (Any P) (sym (vertices_moved by s))
+    (Any-map P (moved by) (vertices s) (k, p, l, e, moves p ∙ ap (λ (y : ℤ). y +ℤ step) h))
+
+-- the box of a moved spine is its box, moved
+pub moved_box_is : (by : Point) (r : Rect4) (s : Spine) → IsSpineWithin (2 ^ 29) (moved_spine by s) → IsBoxOf s r
+    → moved_box_by by r ≡ box_of_points (vertices (moved_spine by s))
+moved_box_is by r s w h =
+    box_is (moved_spine by s) (moved_box_by by r) w (record {
+      within = spine_moved by r s h;
+      left = side_moved by (λ p. p.x) r.x0 by.x s (λ p. refl) h.left;
+      right = side_moved by (λ p. p.x) r.x1 by.x s (λ p. refl) h.right;
+      bottom = side_moved by (λ p. p.y) r.y0 by.y s (λ p. refl) h.bottom;
+      top = side_moved by (λ p. p.y) r.y1 by.y s (λ p. refl) h.top;
+    })
+
 -- ---- one more piece
 width_append : (ps qs : List Piece) → greatest_width (ps ++ qs) ≡ max (greatest_width ps) (greatest_width qs)
 width_append [] qs = omega arith
@@ -155,6 +181,49 @@ pub extent_more : (o e : Extent) (ps : List Piece) (i : ℕ) (p : Piece) → i <
 extent_more o e ps i p l is y h j =
     let f : Extent → Type 0 = λ x. IsJoined o x p in
     joined_is o (take i ps) p y (subst f h j) ∙ sym (ap extent_of (take_more ps i p l ∙ ap (λ (q : Piece). take i ps ++ q ∷ []) (sym is)))
+
+-- the same, of moved pieces
+pub extent_more_moved : (f : Piece → Piece) (o e : Extent) (ps : List Piece) (i : ℕ) (p : Piece) → i < length ps
+    → p ≡ get_or ps i p → (f p).layer ≤ 255 → e ≡ extent_of (map f (take i ps)) → IsJoined o e (f p)
+    → o ≡ extent_of (map f (take (i + 1) ps))
+extent_more_moved f o e ps i p l is y h j =
+    let F : Extent → Type 0 = λ x. IsJoined o x (f p) in
+    let more : take (i + 1) ps ≡ take i ps ++ p ∷ [] =
+    take_more ps i p l ∙ ap (λ (q : Piece). take i ps ++ q ∷ []) (sym is) in
+    joined_is o (map f (take i ps)) (f p) y (subst F h j)
+    ∙ sym (ap extent_of (ap (map f) more ∙ map-append f (take i ps) (p ∷ [])))
+
+-- ---- wires of one or two points
+-- the extent of a wire of two points
+pub step_extent : (r : Rect4) (layer width : ℕ) (p q : Point) → layer ≤ 255 → IsWithin (2 ^ 29) p → IsWithin (2 ^ 29) q
+    → r.x0 ≡ int_min p.x q.x → r.y0 ≡ int_min p.y q.y → r.x1 ≡ int_max p.x q.x → r.y1 ≡ int_max p.y q.y
+    → (let e : Extent = record { bounds = r; width = width; first = layer; last = layer } in e)
+    ≡ extent_of (wire_piece layer width (p ∷ q ∷ []) ∷ [])
+step_extent r layer width p q y a b x0 y0 x1 y1 =
+    let vs : List Point = p ∷ q ∷ [] in
+    let fx : Point → ℤ = λ v. v.x in
+    let fy : Point → ℤ = λ v. v.y in
+    extent_is_of r (box_of_points vs) width (max width 0) layer (min layer 255) layer (max layer 0)
+    (box_is_of r.x0 r.y0 r.x1 r.y1 (least fx vs) (least fy vs) (greatest fx vs) (greatest fy vs)
+    (omega (arith, ints, clamps, x0, a.0, b.0)) (omega (arith, ints, clamps, y0, a.1, b.1))
+    (omega (arith, ints, clamps, x1, a.0, b.0)) (omega (arith, ints, clamps, y1, a.1, b.1)))
+    (omega arith) (omega (arith, y)) (omega arith)
+
+-- a point that is said twice
+pub disc_extent : (layer width : ℕ) (p : Point)
+    → extent_of (wire_piece layer width (p ∷ p ∷ []) ∷ []) ≡ extent_of (wire_piece layer width (p ∷ []) ∷ [])
+disc_extent layer width p =
+    let vs : List Point = p ∷ p ∷ [] in
+    let us : List Point = p ∷ [] in
+    let fx : Point → ℤ = λ v. v.x in
+    let fy : Point → ℤ = λ v. v.y in
+    extent_is_of (box_of_points vs) (box_of_points us) (max width 0) (max width 0) (min layer 255) (min layer 255)
+    (max layer 0) (max layer 0)
+    (box_is_of (least fx vs) (least fy vs) (greatest fx vs) (greatest fy vs) (least fx us) (least fy us)
+    (greatest fx us) (greatest fy us)
+    (omega (arith, ints, clamps)) (omega (arith, ints, clamps)) (omega (arith, ints, clamps))
+    (omega (arith, ints, clamps)))
+    refl refl refl
 
 -- ---- what the least extent holds
 width_in : (ps : List Piece) → All (λ p. p.width ≤ greatest_width ps) ps

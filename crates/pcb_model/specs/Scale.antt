@@ -7,6 +7,7 @@ use Rattle.geo_kernel.specs.declared.spine.Spine.{Spine}
 use Rattle.geo_kernel.specs.declared.spine.Spine.TheVariants.{Chain, Area}
 use Rattle.geo_kernel.specs.declared.unit.Unit.TheVariants.{Um}
 use Rattle.geo_kernel.specs.Units.{unit_nm}
+use Rattle.pcb_model.specs.declared.rules.TheConstants.{DEFAULT_WIDTH}
 use Rattle.pcb_model.specs.declared.item.Piece.{Piece}
 use Rattle.pcb_model.specs.declared.item.Item.{Item}
 use Rattle.pcb_model.specs.declared.item.Metal.{Metal}
@@ -46,7 +47,7 @@ is_whole_metal d nm (Ban wires vias) = true
 
 -- the width that the rules give a net, as `width_for` at its number
 abbrev pub net_width : Design → Net → ℕ
-net_width d n = first_present 250000 (map (λ (rs : RuleSet). rs.width) (with_class d (Some n) ++ d.rules ∷ []))
+net_width d n = first_present DEFAULT_WIDTH (map (λ (rs : RuleSet). rs.width) (with_class d (Some n) ++ d.rules ∷ []))
 
 -- a net's width, and the padstacks of its vias
 abbrev pub is_whole_net : Design → ℕ → Net → Bool

@@ -5,6 +5,7 @@ ghost use Rattle.std.specs.Prelude.{◌≡◌, ℕ, ◌+◌, ◌≤◌, ◌<◌,
 ghost use Rattle.std.specs.Bool.{OnTrue, OnFalse};
 ghost use Rattle.std.specs.Option.{option_copied};
 ghost use Rattle.pcb_model.specs.declared.item.Item.{Item as OneItem};
+ghost use Rattle.pcb_model.specs.declared.item.Probe.{Probe as OneProbe};
 ghost use Rattle.pcb_model.specs.declared.design.Design.{Design as TheDesign};
 ghost use Rattle.pcb_model.specs.Bounds.{IsItemFit, IsProbeFit};
 ghost use Rattle.pcb_model.specs.Pairs.{Agrees, ProbeAgrees, AreTouching};
@@ -24,6 +25,13 @@ pub trait Copper {
 
     /// How many pair tests a search for what disagrees with an item takes at most.
     ghost ticks: { Self → OneItem → ℕ };
+
+    /// How many pair tests a search for what touches an item takes at most.
+    ghost touch_ticks: { Self → OneItem → ℕ };
+
+    /// How many pair tests a search for what is in the way of a probe takes at most. The design says what copper
+    /// a via's padstack is.
+    ghost probe_ticks: { Self → TheDesign → OneProbe → ℕ };
 
     /// The items stand in order of id, so no two have one id: a call that does nothing but say so.
     fn in_order(&self)
@@ -64,7 +72,9 @@ pub trait Copper {
     ) -> Option<u64>
         requires serves { serves self.now d.now }
         requires p_fits { IsProbeFit d.now p.now }
-        ensures { Finds (λ b. ProbeAgrees d.now net p.now b → ⊥) (ProbeAgrees d.now net p.now) from None (items self.now) result };
+        ensures finds { Finds (λ b. ProbeAgrees d.now net p.now b → ⊥) (ProbeAgrees d.now net p.now) from None
+            (items self.now) result }
+        ensures cost { steps.new ≤ steps.old + probe_ticks self.now d.now p.now };
 
     /// Whether some item disagrees with what the probe of the net stands for: the search ends at the first that it meets.
     fn is_blocked<L: Ledger>(&self, d: &Design, net: u32, p: &Probe, steps: &mut Steps<L>) -> bool
@@ -72,6 +82,7 @@ pub trait Copper {
         requires p_fits { IsProbeFit d.now p.now }
         ensures yes { OnTrue result (IsBlocked d.now net p.now (items self.now)) }
         ensures no { OnFalse result (IsUnblocked d.now net p.now (items self.now)) }
+        ensures cost { steps.new ≤ steps.old + probe_ticks self.now d.now p.now }
     {
         self.next_block(d, net, p, 0, steps).is_some()
     }
@@ -80,7 +91,9 @@ pub trait Copper {
     /// with the id of `a`, or None exactly where there is none.
     fn next_touch<L: Ledger>(&self, a: &Item, from: u64, steps: &mut Steps<L>) -> Option<u64>
         requires a_fits { IsItemFit a.now }
-        ensures { Finds (AreTouching a.now) (λ b. AreTouching a.now b → ⊥) from (Some a.now.id) (items self.now) result };
+        ensures finds { Finds (AreTouching a.now) (λ b. AreTouching a.now b → ⊥) from (Some a.now.id)
+            (items self.now) result }
+        ensures cost { steps.new ≤ steps.old + touch_ticks self.now a.now };
 
     /// Copper that serves a design holds its fixed items, and all its items fit the design.
     ghost serving: { (c : Self) → (d : TheDesign) → serves c d → Serves (items c) d };

@@ -26,7 +26,7 @@ pub use greatest::greatest_clearance;
 pub use item::{Item, Kind, Metal, Piece, Probe};
 pub use laws::{counts_are_unique, pairs_are_symmetric};
 pub use legal::{inside_board, width_ok};
-pub use make::{copy_item, copy_metal, make_item};
+pub use make::{copy_item, copy_loops, copy_metal, copy_spine, make_item};
 pub use near::{Extent, Query};
 pub use pair::{pair_ok, touch};
 pub use plain::PlainCopper;

@@ -144,7 +144,8 @@ pub fn make_item(
     })
 }
 
-fn copy_loops(alloc: Global, loops: &[List<Point>]) -> Result<List<List<Point>>, AllocError>
+/// Equal loops. `AllocError` comes only for want of memory.
+pub fn copy_loops(alloc: Global, loops: &[List<Point>]) -> Result<List<List<Point>>, AllocError>
     ensures { IfOk result (λ ls. ls ≡ loops.now) }
 {
     let mut copies = List::new(alloc);
@@ -154,7 +155,8 @@ fn copy_loops(alloc: Global, loops: &[List<Point>]) -> Result<List<List<Point>>,
     Ok(copies)
 }
 
-fn copy_spine(alloc: Global, s: &Spine) -> Result<Spine, AllocError>
+/// An equal spine. `AllocError` comes only for want of memory.
+pub fn copy_spine(alloc: Global, s: &Spine) -> Result<Spine, AllocError>
     ensures { IfOk result (λ t. t ≡ s.now) }
 {
     match s {

@@ -79,13 +79,13 @@ impl Extent {
         ensures has { IsPieceIn result (moved_piece by p.now) }
         ensures width_within { result.width ≤ 2 ^ 28 }
         ensures within { IsBoxWithin (2 ^ 29) result.bounds }
+        ensures bounds { result.bounds ≡ box_of_points (vertices (moved_spine by p.now.spine)) }
+        ensures width { result.width ≡ p.now.width }
+        ensures layer_within { p.now.layer ≤ 255 }
+        ensures first { result.first ≡ p.now.layer }
+        ensures last { result.last ≡ p.now.layer }
     {
-        Extent {
-            bounds: moved_box(&p.spine, by),
-            width: p.width,
-            first: p.layer,
-            last: p.layer,
-        }
+        Extent::on_layer(p.layer, moved_box(&p.spine, by), p.width)
     }
 
     // The least extent over both.
@@ -127,6 +127,7 @@ impl Extent {
         requires ps_fit { All IsFit ps.now }
         requires moved_fit { All (λ p. IsFit (moved_piece by p)) ps.now }
         ensures has { IsExtentOf (map (moved_piece by) ps.now) result }
+        ensures least { result ≡ extent_of (map (moved_piece by) ps.now) }
         ensures within { IsBoxWithin (2 ^ 29) result.bounds }
     {
         let mut extent = Extent::empty();
@@ -151,6 +152,7 @@ impl Extent {
         requires design { IsDesignFit d.now }
         requires p_fits { IsProbeFit d.now p.now }
         ensures has { IsExtentOf (pieces_of d.now (metal_of p.now)) result }
+        ensures least { result ≡ extent_of (pieces_of d.now (metal_of p.now)) }
         ensures within { IsBoxWithin (2 ^ 29) result.bounds }
     {
         match *p {
@@ -209,6 +211,7 @@ fn moved_box(s: &Spine, by: Point) -> Rect4
     requires within { IsSpineWithin (2 ^ 29) s.now }
     requires moved_within { IsSpineWithin (2 ^ 29) (moved_spine by s.now) }
     ensures has { IsInBox result (moved_spine by s.now) }
+    ensures least { result ≡ box_of_points (vertices (moved_spine by s.now)) }
     ensures within { IsBoxWithin (2 ^ 29) result }
 {
     shifted(box_of(s), by)
@@ -240,6 +243,7 @@ fn of_wire(layer: u8, width: u64, a: Point, b: Point) -> Extent
     requires width_within { width ≤ 2 ^ 28 }
     ensures one { IsExtentOf (wire_piece layer width (a ∷ []) ∷ []) result }
     ensures two { IsExtentOf (wire_piece layer width (a ∷ b ∷ []) ∷ []) result }
+    ensures least { result ≡ extent_of (wire_piece layer width (a ∷ b ∷ []) ∷ []) }
     ensures within { IsBoxWithin (2 ^ 29) result.bounds }
 {
     Extent {

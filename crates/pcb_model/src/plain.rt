@@ -97,6 +97,10 @@ impl Copper for PlainCopper {
 
     ghost ticks = { λ c a. length c };
 
+    ghost touch_ticks = { λ c a. length c };
+
+    ghost probe_ticks = { λ c d p. length c };
+
     fn in_order(&self) {
         let _ = self.items();
     }

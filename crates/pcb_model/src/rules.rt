@@ -128,8 +128,8 @@ pub fn clearance(d: &Design, a: Option<u32>, ka: Kind, b: Option<u32>, kb: Kind)
     value(d, a, ka, kb).max(value(d, b, ka, kb))
 }
 
-// The width in nm of a net that no rule gives one.
-const DEFAULT_WIDTH: u64 = 250_000;
+/// The width in nm of a net that no rule gives one.
+pub(crate) const DEFAULT_WIDTH: u64 = 250_000;
 
 pub(crate) fn width_in_class(d: &Design, class: Option<u32>, rest: u64) -> u64
     ensures { result ≡ first_present rest (map (λ (rs : TheRules). rs.width) (class_rules d.now class)) }
@@ -143,7 +143,7 @@ pub(crate) fn width_in_class(d: &Design, class: Option<u32>, rest: u64) -> u64
     }
 }
 
-/// The least width in nm of a net's wires: of the net, of its class, of the structure, or else 250,000.
+/// The least width in nm of a net's wires: of the net, of its class, of the structure, or else the default.
 pub fn width_of(d: &Design, net: u32) -> u64
     ensures { result ≡ width_for d.now net }
 {

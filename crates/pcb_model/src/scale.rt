@@ -5,7 +5,7 @@ ghost use Rattle.std.specs.Prelude.{◌≡◌, ◌<◌, ◌≤◌};
 ghost use Rattle.std.specs.List.{list_all};
 ghost use Rattle.pcb_model.specs.Scale.{is_whole_point, is_whole_spine, is_whole_piece, is_whole_padstack, is_whole_metal, net_width, is_whole_net, is_on_scale, scale_of};
 
-use crate::rules::width_in_class;
+use crate::rules::{DEFAULT_WIDTH, width_in_class};
 use crate::{Component, Design, FreeWire, Item, Metal, Net, Piece, SesScale};
 use geo_kernel::{List, Point, Spine, Unit};
 
@@ -80,7 +80,7 @@ fn has_whole_metal(d: &Design, nm: u64, metal: &Metal) -> bool
 fn width_of_net(d: &Design, n: &Net) -> u64
     ensures { result ≡ net_width d.now n.now }
 {
-    let structure = d.rules.width.unwrap_or(250000);
+    let structure = d.rules.width.unwrap_or(DEFAULT_WIDTH);
     n.rules
         .width
         .unwrap_or(width_in_class(d, n.class, structure))

@@ -72,6 +72,7 @@ fn blocks<L: Ledger>(
     requires extent_of { IsExtentOf b.now.pieces extent.now }
     ensures yes { OnTrue result (ProbeAgrees d.now net p.now b.now → ⊥) }
     ensures no { OnFalse result (ProbeAgrees d.now net p.now b.now) }
+    ensures cost { steps.new ≤ steps.old + 1 }
 {
     if q.extent.is_far_from(extent, q.reach) {
         return false;
@@ -145,7 +146,9 @@ pub(crate) fn first_block<L: Ledger>(
     requires ascends { Ascends items.now }
     requires fit { All IsItemFit items.now }
     requires paired { AreExtentsOf items.now extents.now }
-    ensures { Finds (λ b. ProbeAgrees d.now net p.now b → ⊥) (ProbeAgrees d.now net p.now) from None items.now result }
+    ensures finds { Finds (λ b. ProbeAgrees d.now net p.now b → ⊥) (ProbeAgrees d.now net p.now) from None
+        items.now result }
+    ensures cost { steps.new ≤ steps.old + length items.now }
 {
     let q = Query::of_probe(d, net, p);
     for i in place_of(items, from)..items.len() {
@@ -167,7 +170,8 @@ pub(crate) fn first_touch<L: Ledger>(
     requires ascends { Ascends items.now }
     requires fit { All IsItemFit items.now }
     requires paired { AreExtentsOf items.now extents.now }
-    ensures { Finds (AreTouching a.now) (λ b. AreTouching a.now b → ⊥) from (Some a.now.id) items.now result }
+    ensures finds { Finds (AreTouching a.now) (λ b. AreTouching a.now b → ⊥) from (Some a.now.id) items.now result }
+    ensures cost { steps.new ≤ steps.old + length items.now }
 {
     let around = Extent::of_item(a);
     for i in place_of(items, from)..items.len() {

@@ -24,3 +24,4 @@ pub use legal::{LegalMoves, legal_among, legal_graph_sound, legal_node};
 pub use make::LatticeFault;
 pub use mesh::Lattice;
 pub use moves::{Found, Move, Moves, Reach, Walk};
+pub use near::{has_copper, pieces_near};

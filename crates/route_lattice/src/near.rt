@@ -59,7 +59,8 @@ fn spine_near(spine: &Spine, by: Point) -> bool
     }
 }
 
-fn pieces_near(pieces: &[Piece], by: Point) -> bool
+/// Whether all vertices of the pieces stay within 2^29 nm where they are moved by a vector.
+pub fn pieces_near(pieces: &[Piece], by: Point) -> bool
     requires fit { All IsFit pieces.now }
     requires by_within { IsWithin (2 ^ 29) by }
     ensures { result ≡ are_near_at by pieces.now }
@@ -67,7 +68,8 @@ fn pieces_near(pieces: &[Piece], by: Point) -> bool
     pieces.iter().all(|q| spine_near(&q.spine, by))
 }
 
-fn has_copper(pieces: &[Piece], layer: u8) -> bool
+/// Whether some piece lies on the layer.
+pub fn has_copper(pieces: &[Piece], layer: u8) -> bool
     ensures { result ≡ has_copper_on pieces.now layer }
 {
     pieces.iter().any(|q| q.layer == layer)

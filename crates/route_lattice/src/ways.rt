@@ -71,7 +71,7 @@ impl Lattice {
     }
 
     /// The node above or below a node, on signal layer `level`.
-    fn node_on(&self, node: u32, level: usize) -> u32
+    pub fn node_on(&self, node: u32, level: usize) -> u32
         requires few { node_count self.now ≤ 2 ^ 24 }
         requires node { node < node_count self.now }
         requires level { level < length self.now.layers }
@@ -91,8 +91,12 @@ impl Lattice {
         ensures { result ≡ via_at d.now self.now node padstack level }
     {
         let layer = self.layers().as_slice()[level];
+        let from = self.layer(node);
+        if from == layer {
+            return None;
+        }
         let pieces = padstack_pieces(d, padstack);
-        if can_join(pieces, self.point(node), self.layer(node), layer) {
+        if can_join(pieces, self.point(node), from, layer) {
             Some((Move::Via { padstack, layer }, self.node_on(node, level)))
         } else {
             None

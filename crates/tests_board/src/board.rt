@@ -1,15 +1,14 @@
 //! Boards from short texts, and what stands at a place in their lists.
 //! The free wiring of a text is the copper that a test lays; its fixed items are what it meets.
 
-ghost use Rattle.std.specs.Prelude.{◌≡◌, IfOk, IfSome};
+ghost use Rattle.std.specs.Prelude.{IfSome};
 ghost use Rattle.std.specs.Option.{option_copied};
 ghost use Rattle.pcb_model.specs.Bounds.{IsItemFit, IsProbeFit};
 ghost use Rattle.pcb_model.specs.Sound.{IsSound};
 
 use dsn_design::read_design;
-use geo_kernel::List;
-use pcb_model::{Design, Item, Metal, Probe, make_item};
-use std::alloc::{AllocError, Global};
+use pcb_model::{Design, Item, Metal, Probe, copy_metal, make_item};
+use std::alloc::Global;
 
 /// The design of a short text, or None where it is refused.
 pub(crate) fn board(alloc: Global, text: &str) -> Option<Design>
@@ -31,31 +30,6 @@ pub(crate) fn fixed(d: &Design, at: usize) -> Option<&Item>
     ensures { IfSome (option_copied result) IsItemFit }
 {
     d.fixed.get(at)
-}
-
-fn copy_metal(alloc: Global, metal: &Metal) -> Result<Metal, AllocError>
-    ensures { IfOk result (λ m. m ≡ metal.now) }
-{
-    match metal {
-        Metal::Wire {
-            layer,
-            width,
-            chain,
-        } => Ok(Metal::Wire {
-            layer: *layer,
-            width: *width,
-            chain: List::from_slice(alloc, chain.as_slice())?,
-        }),
-        Metal::Via { padstack, at } => Ok(Metal::Via {
-            padstack: *padstack,
-            at: *at,
-        }),
-        Metal::Pad { pin } => Ok(Metal::Pad { pin: *pin }),
-        Metal::Ban { wires, vias } => Ok(Metal::Ban {
-            wires: *wires,
-            vias: *vias,
-        }),
-    }
 }
 
 /// The routed item that free wiring makes.

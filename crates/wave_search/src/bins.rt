@@ -9,11 +9,11 @@ ghost use Rattle.wave_search.specs.Order.{entry_of};
 use std::alloc::{AllocError, Global};
 use std::marker::Model;
 
-/// An entry as it is kept: of equal keys the least in order comes first.
+/// An entry as it is kept, in 16 bytes: of equal keys the least in order comes first.
 #[derive(Clone, Copy, Debug, PartialEq, Eq, PartialOrd, Ord)]
 pub(crate) struct Item {
     pub key: u64,
-    pub order: u64,
+    pub order: u32,
     pub node: u32,
 }
 

@@ -211,14 +211,14 @@ impl Front {
         }
     }
 
-    /// Lets an entry wait, before those of its key that have a greater order.
+    /// Lets an entry wait, before those of its key that have a greater order; orders above 2^32 are one.
     pub(crate) fn push(&mut self, e: Entry, order: u64) -> Result<(), AllocError>
         ensures ok { OnOk result (IsAdded self.old e self.new) }
         ensures err { OnErr result (self.new ≡ self.old) }
     {
         self.parts.place(Item {
             key: e.key,
-            order,
+            order: u32::try_from(order).unwrap_or(u32::MAX),
             node: e.node,
         })
     }

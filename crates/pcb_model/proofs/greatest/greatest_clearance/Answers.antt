@@ -1,4 +1,4 @@
-use Rattle.std.proofs.Common.{arith, sym, subst, ◌<◌, ℕ}
+use Rattle.std.proofs.Common.{arith}
 use Rattle.pcb_model.proofs.Clearances.{greatest_is, greatest_within}
 use Rattle.pcb_model.proofs.greatest.greatest_clearance.Goals as goal
 

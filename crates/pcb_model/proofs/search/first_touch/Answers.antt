@@ -8,21 +8,41 @@ use Rattle.pcb_model.proofs.First.{found_id, one_more, none_found, item_at, exte
 use Rattle.pcb_model.proofs.search.first_touch.Goals as goal
 
 pub bounds-extents-i : goal.bounds-extents-i
-bounds-extents-i g c = omega (arith, c.loop-i-test.true, zip_length (λ (a : Item) (e : Extent). IsExtentOf a.pieces e) c.args.items.now c.args.extents.now c.requires.paired)
+bounds-extents-i g c = omega (
+  arith,
+  c.loop-i-test.true,
+  zip_length (λ (a : Item) (e : Extent). IsExtentOf a.pieces e) c.args.items.now c.args.extents.now c.requires.paired,
+)
 
 pub joins-requires-clause-b_fits : goal.joins-requires-clause-b_fits
-joins-requires-clause-b_fits g c = item_at IsItemFit c.args.items.now c.requires.fit c.loop-i.i c.loop-i-test.true c.index-items-i.result c.index-items-i.is
+joins-requires-clause-b_fits g c =
+    item_at IsItemFit c.args.items.now c.requires.fit c.loop-i.i c.loop-i-test.true c.index-items-i.result
+    c.index-items-i.is
 
 pub joins-requires-clause-extent_of : goal.joins-requires-clause-extent_of
-joins-requires-clause-extent_of g c = extent_at c.args.items.now c.args.extents.now c.loop-i.i c.index-items-i.result no_extent c.requires.paired c.loop-i-test.true c.index-items-i.is
+joins-requires-clause-extent_of g c =
+    extent_at c.args.items.now c.args.extents.now c.loop-i.i c.index-items-i.result no_extent c.requires.paired
+    c.loop-i-test.true c.index-items-i.is
 
-pub returns-then-joins : goal.returns-then-joins
-returns-then-joins g c =
-    found_id (AreTouching c.args.a.now) (λ b. AreTouching c.args.a.now b → ⊥) c.args.from (Some c.args.a.now.id) c.args.items.now c.loop-i.i c.index-items-i.result c.index-items-i-then-joins.result c.requires.ascends c.loop-i-test.true c.loop-i.invariant c.index-items-i.is
-    (c.place_of-i.ensures.above c.loop-i.i c.index-items-i.result c.loop-i.auto.i c.loop-i-test.true) c.if-joins.ensures.yes.0 c.if-joins.ensures.yes.1
+pub returns-then-joins-clause-finds : goal.returns-then-joins-clause-finds
+returns-then-joins-clause-finds g c =
+    found_id (AreTouching c.args.a.now) (λ b. AreTouching c.args.a.now b → ⊥) c.args.from
+    (Some c.args.a.now.id) c.args.items.now c.loop-i.i c.index-items-i.result c.index-items-i-then-joins.result
+    c.requires.ascends c.loop-i-test.true c.loop-i.invariant.passed c.index-items-i.is
+    (c.place_of-i.ensures.above c.loop-i.i c.index-items-i.result c.loop-i.auto.i c.loop-i-test.true)
+    c.if-joins.ensures.yes.0 c.if-joins.ensures.yes.1
+
+pub returns-then-joins-clause-cost : goal.returns-then-joins-clause-cost
+returns-then-joins-clause-cost g c = omega (arith, c.joins.ensures.cost, c.loop-i.invariant.cost, c.loop-i-test.true)
 
 pub loop-i-preserved : goal.loop-i-preserved
-loop-i-preserved g c = one_more (λ b. AreTouching c.args.a.now b → ⊥) c.args.from (Some c.args.a.now.id) c.args.items.now c.loop-i.i c.index-items-i.result c.loop-i-test.true c.loop-i.invariant c.index-items-i.is c.if-joins.ensures.no
+loop-i-preserved g c = record {
+  passed = one_more (λ b. AreTouching c.args.a.now b → ⊥) c.args.from
+      (Some c.args.a.now.id) c.args.items.now c.loop-i.i c.index-items-i.result c.loop-i-test.true
+      c.loop-i.invariant.passed c.index-items-i.is c.if-joins.ensures.no;
+  cost = omega (arith, c.joins.ensures.cost, c.loop-i.invariant.cost);
+}
 
-pub returns : goal.returns
-returns g c = none_found (λ b. AreTouching c.args.a.now b → ⊥) c.args.from (Some c.args.a.now.id) c.args.items.now c.loop-i.i c.loop-i-test.false c.loop-i.invariant
+pub returns-clause-finds : goal.returns-clause-finds
+returns-clause-finds g c = none_found (λ b. AreTouching c.args.a.now b → ⊥) c.args.from
+    (Some c.args.a.now.id) c.args.items.now c.loop-i.i c.loop-i-test.false c.loop-i.invariant.passed

@@ -8,11 +8,10 @@ pub returns : goal.returns
 returns g c =
     let s = c.args.self.now.by_map in
     let items = g.C.Copper.items s.legal.c.now in
-    let four : c.args.i < 4 = omega (arith, c.if-i-ge4.false) in
     let few : c.args.tally < 255 = omega (arith, c.ranges.tally, c.if-tally-eq255.false) in
     on_then c.is_off.result (IsOutOfAll s.legal.lat.now c.args.self.now.own c.args.node)
     (¬ (IsOpen s.legal.d.now items s.legal.net
     (probe_at s.legal.d.now s.legal.lat.now s.legal.net c.args.node c.args.i)))
     (map_shut s.legal.d.now s.legal.lat.now items s.map.now s.legal.net c.args.node c.args.i c.args.tally c.requires.map
-    c.requires.alike c.requires.node c.requires.index c.requires.tally c.args.self.now.own c.requires.own four few
+    c.requires.alike c.requires.node c.requires.index c.requires.tally c.args.self.now.own c.requires.own few
     c.requires.counted) c.is_off.ensures

@@ -1,8 +1,11 @@
-use Rattle.std.proofs.Common.{All, [], ◌∷◌, sym, subst}
+use Rattle.std.proofs.Common.{List, All, [], ◌∷◌, map, sym, ap, ◌∙◌, subst}
 use Rattle.pcb_model.specs.declared.item.Piece.{Piece}
+use Rattle.pcb_model.specs.declared.item.Probe.{Probe}
 use Rattle.pcb_model.specs.Bounds.{IsFit}
-use Rattle.pcb_model.specs.Pieces.{moved_piece}
+use Rattle.pcb_model.specs.Pieces.{moved_piece, pieces_of, metal_of}
+use Rattle.pcb_model.specs.Near.{extent_of}
 use Rattle.pcb_model.proofs.Inside.{wire_within, wire_end_within}
+use Rattle.pcb_model.proofs.Least.{disc_extent}
 use Rattle.pcb_model.proofs.Probes.{disc_fit, step_fit, via_fit, stack_fit}
 use Rattle.pcb_model.proofs.near.Extent.of_probe.Goals as goal
 
@@ -34,3 +37,19 @@ pub of_moved-requires-clause-moved_fit : goal.of_moved-requires-clause-moved_fit
 of_moved-requires-clause-moved_fit c =
     let M : Piece → Type 0 = λ r. IsFit (moved_piece c.in-Via.at r) in
     subst (All M) (sym c.padstack_pieces.ensures) (via_fit c.args.d.now c.args.p.now c.in-Via.padstack c.in-Via.at c.in-Via.is c.requires.p_fits)
+
+pub returns-in-Disc-clause-least : goal.returns-in-Disc-clause-least
+returns-in-Disc-clause-least c =
+    let is = ap (λ (q : Probe). extent_of (pieces_of c.args.d.now (metal_of q))) c.in-Disc.is in
+    c.of_wire.ensures.least ∙ (disc_extent c.in-Disc.layer c.in-Disc.width c.in-Disc.at ∙ sym is)
+
+pub returns-in-Step-clause-least : goal.returns-in-Step-clause-least
+returns-in-Step-clause-least c =
+    let is = ap (λ (q : Probe). extent_of (pieces_of c.args.d.now (metal_of q))) c.in-Step.is in
+    c.of_wire-in-Step.ensures.least ∙ sym is
+
+pub returns-in-Via-clause-least : goal.returns-in-Via-clause-least
+returns-in-Via-clause-least c =
+    let is = ap (λ (q : Probe). extent_of (pieces_of c.args.d.now (metal_of q))) c.in-Via.is in
+    let stack = ap (λ (ps : List Piece). extent_of (map (moved_piece c.in-Via.at) ps)) c.padstack_pieces.ensures in
+    c.of_moved.ensures.least ∙ (stack ∙ sym is)

@@ -1,5 +1,0 @@
-use Rattle.std.proofs.Common.{◌≡◌, take}
-use Rattle.dsn_design.proofs.copper.copy_loops.Given as goal
-
-abbrev pub invariant-loop-points : goal.invariant-loop-points
-invariant-loop-points l = l.copies ≡ take l.points-index l.loops

@@ -6,9 +6,9 @@ ghost use Rattle.std.specs.Prelude.{vec_capacity, vec_len};
 ghost use Rattle.crossbeam_utils.specs.Padded.{padded_value};
 ghost use Rattle.route_lattice.specs.Mesh.{node_count};
 ghost use Rattle.claim_counter.specs.Claims.{hand, times};
-ghost use Rattle.board_turn.specs.Turns.{passes_of};
+ghost use Rattle.board_turn.specs.Turns.{passes_of, opening};
 ghost use Rattle.searcher_pool.specs.Passes.{claimed};
-ghost use Rattle.searcher_pool.specs.Working.{pass_of, IsTurnOf, MayWork, Worked};
+ghost use Rattle.searcher_pool.specs.Working.{pass_of, IsTurnOf, HasFixed, MayWork, Worked};
 ghost use Rattle.searcher_pool.specs.Crews.{AreFresh, AreBack, AreLogsOf, AreEnded};
 
 use crate::log::WorkerLog;
@@ -88,6 +88,7 @@ fn work_padded<R: Wait, G: Gate>(
     w: &mut CachePadded<Worker>,
 )
     requires turn { IsTurnOf (pass_of job) turn.now }
+    requires fixed { HasFixed job (opening turn.now).design }
     requires few { length job.tasks.now < 2 ^ 32 }
     requires counter { counter.now.tasks ≡ length job.tasks.now }
     requires fresh { MayWork (pass_of job) turn.now counter.now (padded_value w.old) }
@@ -106,6 +107,7 @@ fn all_work<R: Threads + Wait + Sync, G: Gate + Sync>(
     workers: &mut [CachePadded<Worker>],
 )
     requires turn { IsTurnOf (pass_of job) turn.now }
+    requires fixed { HasFixed job (opening turn.now).design }
     requires few { length job.tasks.now < 2 ^ 32 }
     requires counter { counter.now.tasks ≡ length job.tasks.now }
     requires fresh { All (λ w. MayWork (pass_of job) turn.now counter.now (padded_value w)) workers.old }
@@ -136,6 +138,7 @@ pub(crate) fn crew_works<R: Threads + Wait + Sync, G: Gate + Sync>(
     crew: &mut Crew,
 )
     requires turn { IsTurnOf (pass_of job) turn.now }
+    requires fixed { HasFixed job (opening turn.now).design }
     requires few { length job.tasks.now < 2 ^ 32 }
     requires counter { counter.now.tasks ≡ length job.tasks.now }
     requires fresh { AreFresh (pass_of job) turn.now counter.now crew.old.items }

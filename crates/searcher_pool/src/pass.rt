@@ -1,9 +1,12 @@
 //! A pass: workers share the board by a turn, draw the tasks one after another, and work each off.
 
-ghost use Rattle.std.specs.Prelude.{◌≡◌, ◌<◌, ◌≤◌, ◌^◌, IfOk, IfErr, false, length, vec_capacity, vec_len};
+ghost use Rattle.std.specs.Prelude.{◌≡◌, ◌<◌, ◌≤◌, ◌^◌, IfOk, IfErr, IfSome, false, length, vec_capacity, vec_len};
+ghost use Rattle.pcb_model.specs.Sound.{IsSound};
+ghost use Rattle.route_lattice.specs.Fits.{FitsDesign};
+ghost use Rattle.move_maps.specs.Maps.{AreMapsOf};
 ghost use Rattle.board_turn.specs.Turns.{passes_of, opening};
 ghost use Rattle.searcher_pool.specs.Passes.{IsPassed, Grows};
-ghost use Rattle.searcher_pool.specs.Working.{pass_of, pass_from, IsTask, IsTurnOf};
+ghost use Rattle.searcher_pool.specs.Working.{pass_of, pass_from, IsTask, IsTurnOf, HasFixed};
 ghost use Rattle.searcher_pool.specs.Crews.{AreRooms};
 
 use crate::crew::{Crew, crew_works, dismiss, searches, staff};
@@ -12,7 +15,10 @@ use crate::worker::Job;
 use board_turn::{Pass, Turn};
 use claim_counter::{Claimer, Counter};
 use desk_io::Gate;
+use map_rips::fixed_maps;
+use move_maps::MoveMaps;
 use pcb_board::{Board, PassBack};
+use pcb_model::Design;
 use route_lattice::Lattice;
 use std::alloc::{AllocError, Global};
 use std::sync::Wait;
@@ -27,6 +33,23 @@ struct Rooms {
     logs: Vec<WorkerLog>,
     counter: Counter,
     home: Claimer,
+}
+
+// The maps of the moves on the design's fixed items, where there is a penalty.
+fn fixed_for(
+    alloc: Global,
+    lat: &Lattice,
+    d: &Design,
+    penalty: Option<u64>,
+) -> Result<Option<MoveMaps>, AllocError>
+    requires sound { IsSound d.now }
+    requires fits { FitsDesign d.now lat.now }
+    ensures { IfOk result (λ o. IfSome o (AreMapsOf d.now lat.now d.now.fixed)) }
+{
+    match penalty {
+        Some(_) => Ok(Some(fixed_maps(alloc, lat, d)?)),
+        None => Ok(None),
+    }
 }
 
 fn make_rooms(alloc: Global, job: Job<'_>) -> Result<Rooms, AllocError>
@@ -56,6 +79,7 @@ fn turn_over<R: Threads + Wait + Sync, G: Gate + Sync>(
     gate: &G,
 ) -> (Board, Vec<WorkerLog>, bool)
     requires turn { IsTurnOf (pass_of job) turn }
+    requires fixed { HasFixed job (opening turn).design }
     requires some { 0 < job.workers }
     requires few { length job.tasks.now < 2 ^ 32 }
     requires passes { (passes.items ≡ passes_of turn 0 (vec_len passes)) × (vec_len passes ≡ job.workers)
@@ -125,12 +149,17 @@ pub fn run_pass<R: Threads + Wait + Sync, G: Gate + Sync>(
         (λ e. Grows (pass_from lat.now via_cost workers tasks.items penalty) board e.board) }
 {
     board.keeps();
+    let fixed = match fixed_for(alloc, lat, board.design(), penalty) {
+        Ok(fixed) => fixed,
+        Err(cause) => return Err(PassBack { board, cause }),
+    };
     let job = Job {
         lat,
         via_cost,
         workers,
         tasks: tasks.as_slice(),
         penalty,
+        fixed: fixed.as_ref(),
     };
     let rooms = match make_rooms(alloc, job) {
         Ok(rooms) => rooms,

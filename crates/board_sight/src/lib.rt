@@ -4,4 +4,4 @@
 
 mod sight;
 
-pub use sight::{Sight, see};
+pub use sight::{Sight, look, see};

@@ -3,11 +3,12 @@
 
 ghost use Rattle.std.specs.Prelude.{◌≡◌, IfOk, IfSome, OnOk};
 ghost use Rattle.move_maps.specs.Maps.{AreMapsOf};
-ghost use Rattle.board_sight.specs.Sights.{CanSee, IsLater, IsSightOf};
+ghost use Rattle.route_lattice.specs.Fits.{FitsDesign};
+ghost use Rattle.board_sight.specs.Sights.{CanSee, IsLater, IsSeenOn, IsSightOf};
 
 use copper_change::differences_are_changes;
 use move_maps::MoveMaps;
-use pcb_board::Snap;
+use pcb_board::{Board, Snap, boards_serve, ids_stay};
 use pcb_model::Copper;
 use route_lattice::Lattice;
 use std::alloc::{AllocError, Global};
@@ -70,4 +71,23 @@ pub fn see(
             Ok(Sight { snap, maps })
         }
     }
+}
+
+/// The board as it is, with the maps of the moves on it, by what was seen of it before. `AllocError` comes only for
+/// want of memory.
+pub fn look(
+    alloc: Global,
+    lat: &Lattice,
+    last: Option<Sight>,
+    board: &Board,
+) -> Result<Sight, AllocError>
+    requires fits { FitsDesign board.now.design lat.now }
+    requires last { IfSome last (IsSeenOn lat.now board.now) }
+    ensures { IfOk result (IsSeenOn lat.now board.now) }
+{
+    board.keeps();
+    boards_serve();
+    ids_stay();
+    let snap = board.snap()?;
+    see(alloc, lat, last, snap)
 }

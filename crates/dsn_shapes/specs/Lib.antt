@@ -1,6 +1,7 @@
 pub mod Refusals
 pub mod First
 pub mod Tabled
+pub mod Known
 pub mod Lists
 pub mod Numbers
 pub mod Angles

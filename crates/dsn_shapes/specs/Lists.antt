@@ -8,7 +8,9 @@ use Rattle.dsn_tree.specs.declared.tree.Tree.TheOpen.{Tree-F}
 use Rattle.dsn_tree.specs.declared.tree.Tree.TheViews.{out-Tree}
 use Rattle.dsn_tree.specs.declared.tree.Tree.TheOpen as layer
 use Rattle.dsn_tree.specs.Heads.{items_of, is_headed, is_keyword}
+use Rattle.dsn_shapes.specs.declared.known.ListKind.{ListKind}
 use Rattle.dsn_shapes.specs.declared.refusal.Refusal.{Refusal}
+use Rattle.dsn_shapes.specs.Known.{idle_in, read_in}
 use Rattle.dsn_shapes.specs.Refusals.{refused}
 
 abbrev pub at_in : Tree-F Tree → ℕ
@@ -83,17 +85,21 @@ has_head heads t = list_any (λ head. is_headed head t) heads
 unfoldable pub lists : List (List ℕ) → List Tree → List Tree
 lists heads ts = flat_map (λ t. filter (has_head heads) (items_of t)) ts
 
--- a list that is passed over where lists with these heads are read or known
-abbrev pub is_note : List (List ℕ) → Tree → Bool
-is_note heads t = not (is_word t) && (not (is_left_out t) && not (has_head heads t))
+-- a list that is read in a list of this kind, or known there without effect
+abbrev pub is_known : ListKind → Tree → Bool
+is_known kind t = has_head (read_in kind) t || has_head (idle_in kind) t
+
+-- a list that is passed over in a list of this kind
+abbrev pub is_note : ListKind → Tree → Bool
+is_note kind t = not (is_word t) && (not (is_left_out t) && not (is_known kind t))
 
 -- a count, which ends at 2^64 - 1
 abbrev pub capped : ℕ → ℕ
 capped n = min n (2 ^ 64 - 1)
 
--- how many lists are passed over directly in these lists
-unfoldable pub notes_in : List (List ℕ) → List Tree → ℕ
-notes_in heads ts = sum_by (λ t. count_by (is_note heads) (items_of t)) ts
+-- how many lists are passed over directly in these lists of one kind
+unfoldable pub notes_in : ListKind → List Tree → ℕ
+notes_in kind ts = sum_by (λ t. count_by (is_note kind) (items_of t)) ts
 
 -- the lists directly in these lists that are left out
 unfoldable pub left_out_in : List Tree → List Refusal

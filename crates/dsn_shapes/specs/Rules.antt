@@ -9,6 +9,7 @@ use Rattle.pcb_model.specs.declared.item.Kind.{Kind}
 use Rattle.pcb_model.specs.declared.item.Kind.TheVariants.{Wire, Via, Pin, Smd, Area}
 use Rattle.pcb_model.specs.declared.design.Typed.{Typed}
 use Rattle.pcb_model.specs.declared.design.RuleSet.{RuleSet}
+use Rattle.dsn_shapes.specs.declared.known.ListKind.TheVariants as list
 use Rattle.dsn_shapes.specs.declared.refusal.Refusal.{Refusal}
 use Rattle.dsn_shapes.specs.declared.rules.Pairing.{Pairing}
 use Rattle.dsn_shapes.specs.declared.rules.Pairing.TheVariants.{Plain, Unknown, Known}
@@ -97,13 +98,10 @@ rules_left_out rules clearances = left_out_in rules ++ left_out_in clearances
 abbrev pub rule_refusals : ℕ → List Tree → List Refusal
 rule_refusals nm rules = rules_left_out rules (clearances_in rules) ++ set_refusals nm (widths_in rules) (clearances_in rules)
 
--- `type` stands in a clearance, and `width` and `clearance` in a rule; elsewhere in the two they are passed over in silence
-abbrev pub rule_heads : List (List ℕ)
-rule_heads = codes "width" ∷ codes "clearance" ∷ codes "type" ∷ []
-
 -- a clearance of an unknown type is passed over
 unfoldable pub notes_with : List Tree → List Tree → ℕ
-notes_with rules clearances = notes_in rule_heads rules + (notes_in rule_heads clearances + count_by (λ t. is_unknown (pairing_of t)) clearances)
+notes_with rules clearances = notes_in list.Rule rules
+    + (notes_in list.Rule clearances + count_by (λ t. is_unknown (pairing_of t)) clearances)
 
 abbrev pub rule_notes : List Tree → ℕ
 rule_notes rules = notes_with rules (clearances_in rules)

@@ -14,6 +14,7 @@ use Rattle.dsn_shapes.specs.declared.form.Form.TheVariants.{Circle, Rect, Polygo
 use Rattle.dsn_shapes.specs.declared.form.Outline.{Outline}
 use Rattle.dsn_shapes.specs.declared.shape.Rim.{Rim}
 use Rattle.dsn_shapes.specs.declared.refusal.Refusal.{Refusal}
+use Rattle.dsn_shapes.specs.Known.{form_heads}
 use Rattle.dsn_shapes.specs.Refusals.{refused}
 use Rattle.dsn_shapes.specs.Lists.{at_of, is_word, place_of, has_head}
 use Rattle.dsn_shapes.specs.Forms.{form_of, outline_of, outline_refusals, points_of, ring_of, ring_refusals, vertex_limit}
@@ -83,10 +84,6 @@ unfoldable pub area_of : List Rim → LayerShape
 area_of rs = record { layers = first_layers rs; spine = Area (map (λ (r : Rim). r.points) rs); width = fold (λ w (r : Rim). max w r.width) 0 rs }
 
 -- ---- forms that stand in a list
--- the heads of forms, with those that are left out
-abbrev pub form_heads : List (List ℕ)
-form_heads = codes "circle" ∷ codes "rect" ∷ codes "polygon" ∷ codes "path" ∷ codes "qarc" ∷ codes "polyline_path" ∷ []
-
 -- the form in a list is the first, and where there is none the list is refused
 abbrev pub form_in : Tree → Option Tree
 form_in t = find (has_head form_heads) (items_of t)
@@ -106,9 +103,6 @@ abbrev pub notes_beside : Tree → ℕ
 notes_beside t = count_by (λ i. not (is_word i)) (items_of t) - 1
 
 -- ---- keepouts and boundaries
-abbrev pub keepout_heads : List (List ℕ)
-keepout_heads = codes "keepout" ∷ codes "via_keepout" ∷ codes "wire_keepout" ∷ []
-
 abbrev pub windows_of : Tree → List Tree
 windows_of t = filter (is_headed (codes "window")) (items_of t)
 

@@ -9,6 +9,7 @@ ghost use Rattle.dsn_shapes.specs.Lists.{capped, has_head, trees_of};
 ghost use Rattle.dsn_shapes.specs.Refusals.{noted};
 ghost use Rattle.dsn_shapes.specs.Shapes.{area_of, ban_notes, ban_of, ban_refusals, ban_shape, bound_forms, bound_of, bound_refusals, first_layers, is_beside, notes_beside, windows_of};
 
+use crate::known::form_heads;
 use crate::lists::{at_of, is_word};
 use crate::part::{Part, read_each};
 use crate::parts::{BanShape, Layer, LayerShape};
@@ -194,17 +195,7 @@ fn bound_forms<'a>(alloc: Global, tree: &'a Tree) -> Result<Trees<'a>, AllocErro
     ensures { IfOk result (λ ts. ts ≡ bound_forms tree.now) }
 {
     let mut forms = Trees::new(alloc);
-    forms.push_lists(
-        tree,
-        &[
-            b"circle".as_slice(),
-            b"rect",
-            b"polygon",
-            b"path",
-            b"qarc",
-            b"polyline_path",
-        ],
-    )?;
+    forms.push_lists(tree, form_heads())?;
     Ok(forms)
 }
 

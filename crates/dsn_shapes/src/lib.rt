@@ -5,6 +5,7 @@
 mod angles;
 mod area;
 mod form;
+mod known;
 mod laws;
 mod layers;
 mod lists;
@@ -20,6 +21,7 @@ mod trees;
 
 pub use angles::angle_in;
 pub use area::{Bounds, Keepouts, Shapes, ban_notes, shape_notes};
+pub use known::{ListKind, form_heads, idle_in, keepout_heads, read_in};
 pub use laws::first_counts;
 pub use lists::{
     at_of, is_left_out, is_word, name_of, nth_word, place_of, refuse_left_out, refuse_quoted_name,

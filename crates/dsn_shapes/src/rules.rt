@@ -10,6 +10,7 @@ ghost use Rattle.dsn_shapes.specs.Numbers.{extent_at, extent_refusal, word_exten
 ghost use Rattle.dsn_shapes.specs.Refusals.{noted};
 ghost use Rattle.dsn_shapes.specs.Rules.{both, clearances_in, is_plain, is_unknown, is_zero, kind_of, last_of, pair_of, pairing_of, plain_at, notes_with, rule_notes, rule_refusals, rule_set, rules_left_out, set_of, set_refusals, split_pair, typed_at, typed_by, width_refusals, widths_in, zero_width};
 
+use crate::known::ListKind;
 use crate::lists::{name_of, nth_word, place_of};
 use crate::numbers::{extent_at, peek_extent};
 use crate::refusal::{Refusal, note, refused};
@@ -243,9 +244,8 @@ fn pass_over_rules(first: &mut Option<Refusal>, rules: &Trees, clearances: &Tree
     ensures noted { first.new ≡ noted first.old (rules_left_out rules.now clearances.now) }
     ensures value { result ≡ capped (notes_with rules.now clearances.now) }
 {
-    let heads = [b"width".as_slice(), b"clearance", b"type"];
-    let beside = pass_over(first, rules, &heads);
-    let inside = pass_over(first, clearances, &heads);
+    let beside = pass_over(first, rules, ListKind::Rule);
+    let inside = pass_over(first, clearances, ListKind::Rule);
     let unknown = unknown_pairings(clearances.as_slice());
     beside.saturating_add(inside).saturating_add(unknown)
 }

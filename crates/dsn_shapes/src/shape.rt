@@ -4,17 +4,20 @@
 ghost use Rattle.std.specs.Prelude.{◌≡◌, ◌∷◌, [], IfOk, OnOk, length};
 ghost use Rattle.std.specs.Option.{option_copied, option_map_or};
 ghost use Rattle.geo_kernel.specs.declared.spine.Spine.TheVariants.{Area};
+ghost use Rattle.dsn_shapes.specs.Known.{form_heads};
 ghost use Rattle.dsn_shapes.specs.Lists.{has_head};
 ghost use Rattle.dsn_shapes.specs.Forms.{points_of, ring_of, ring_refusals};
 ghost use Rattle.dsn_shapes.specs.Refusals.{Reads, noted};
-ghost use Rattle.dsn_shapes.specs.Shapes.{empty_rim, empty_shape, form_heads, form_in, held_loop, is_circle, held_shape, loop_of, loop_refusals, no_form, refusals_in, rim_of, rim_refusals, shape_of, shape_refusals, spine_of, spine_refusals};
+ghost use Rattle.dsn_shapes.specs.Shapes.{empty_rim, empty_shape, form_in, held_loop, is_circle, held_shape, loop_of, loop_refusals, no_form, refusals_in, rim_of, rim_refusals, shape_of, shape_refusals, spine_of, spine_refusals};
 
 use crate::form::{
     Form, Outline, form_of, points_of, read_outline, refuse_many, refuse_ring, ring_of,
 };
+use crate::known::form_heads;
 use crate::lists::{at_of, place_of};
 use crate::parts::{Layer, LayerShape};
 use crate::refusal::{ReadFault, Refusal, note, refused};
+use crate::trees::has_head;
 use dsn_tree::{Tree, is_headed, items};
 use dsn_units::Scale;
 use geo_kernel::{List, Point, Spine};
@@ -199,12 +202,7 @@ fn form_in(tree: &Tree) -> Option<&Tree>
 pub(crate) fn is_form_like(tree: &Tree) -> bool
     ensures { result ≡ has_head form_heads tree.now }
 {
-    is_headed(tree, b"circle")
-        || is_headed(tree, b"rect")
-        || is_headed(tree, b"polygon")
-        || is_headed(tree, b"path")
-        || is_headed(tree, b"qarc")
-        || is_headed(tree, b"polyline_path")
+    has_head(tree, form_heads())
 }
 
 /// The shape of a list such as `(shape (circle F.Cu 1000))`: its first form.

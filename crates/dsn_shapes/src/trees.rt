@@ -5,9 +5,10 @@ ghost use Rattle.std.specs.Prelude.{◌≡◌, [], ◌∷◌, ◌++◌, ◌<◌,
 ghost use Rattle.std.specs.Option.{option_copied};
 ghost use Rattle.std.specs.List.{list_any, flat_map};
 ghost use Rattle.dsn_tree.specs.Heads.{is_headed, items_of};
-ghost use Rattle.dsn_shapes.specs.Lists.{capped, has_head, heads_of, is_note, left_out, left_out_in, lists, notes_in, trees_of, words_of};
+ghost use Rattle.dsn_shapes.specs.Lists.{capped, has_head, heads_of, is_known, is_note, left_out, left_out_in, lists, notes_in, trees_of, words_of};
 ghost use Rattle.dsn_shapes.specs.Refusals.{noted};
 
+use crate::known::{ListKind, idle_in, read_in};
 use crate::lists::{is_left_out, is_word, refuse_left_out};
 use crate::refusal::Refusal;
 use dsn_tree::{Tree, is_headed, items};
@@ -161,39 +162,45 @@ fn refuse_left_out_in(first: &mut Option<Refusal>, tree: &Tree)
     }
 }
 
-fn is_note(tree: &Tree, heads: &[&[u8]]) -> bool
-    ensures { result ≡ is_note (heads_of heads.now) tree.now }
+fn is_known(tree: &Tree, kind: ListKind) -> bool
+    ensures { result ≡ is_known kind tree.now }
 {
-    !is_word(tree) && !is_left_out(tree) && !has_head(tree, heads)
+    has_head(tree, read_in(kind)) || has_head(tree, idle_in(kind))
 }
 
-fn notes_of(tree: &Tree, heads: &[&[u8]]) -> u64
-    ensures { result ≡ count_by (is_note (heads_of heads.now)) (items_of tree.now) }
+fn is_note(tree: &Tree, kind: ListKind) -> bool
+    ensures { result ≡ is_note kind tree.now }
+{
+    !is_word(tree) && !is_left_out(tree) && !is_known(tree, kind)
+}
+
+fn notes_of(tree: &Tree, kind: ListKind) -> u64
+    ensures { result ≡ count_by (is_note kind) (items_of tree.now) }
 {
     items(tree)
         .iter()
-        .filter(|item| is_note(item, heads))
+        .filter(|item| is_note(item, kind))
         .count() as u64
 }
 
-/// Passes over what stands directly in these lists, where lists with these heads are read or known:
+/// Passes over what stands directly in these lists of one kind, beside what is read or known there:
 /// refuses the lists that are left out, and counts the others.
-pub fn pass_over(first: &mut Option<Refusal>, trees: &Trees, heads: &[&[u8]]) -> u64
+pub fn pass_over(first: &mut Option<Refusal>, trees: &Trees, kind: ListKind) -> u64
     ensures noted { first.new ≡ noted first.old (left_out_in trees.now) }
-    ensures notes { result ≡ capped (notes_in (heads_of heads.now) trees.now) }
+    ensures notes { result ≡ capped (notes_in kind trees.now) }
 {
-    pass_over_each(first, trees.as_slice(), heads)
+    pass_over_each(first, trees.as_slice(), kind)
 }
 
 #[tactic(auto, unfolding(crate::specs::Lists::left_out_in, crate::specs::Lists::notes_in))]
-fn pass_over_each(first: &mut Option<Refusal>, trees: &[&Tree], heads: &[&[u8]]) -> u64
+fn pass_over_each(first: &mut Option<Refusal>, trees: &[&Tree], kind: ListKind) -> u64
     ensures noted { first.new ≡ noted first.old (left_out_in (trees_of trees.now)) }
-    ensures notes { result ≡ capped (notes_in (heads_of heads.now) (trees_of trees.now)) }
+    ensures notes { result ≡ capped (notes_in kind (trees_of trees.now)) }
 {
     let mut notes: u64 = 0;
     for tree in trees {
         refuse_left_out_in(first, tree);
-        notes = notes.saturating_add(notes_of(tree, heads));
+        notes = notes.saturating_add(notes_of(tree, kind));
     }
     notes
 }

@@ -9,19 +9,17 @@ use Rattle.pcb_model.specs.Pairs.{PiecesKeep}
 use Rattle.route_lattice.specs.Mesh.{Mesh, node_count}
 use Rattle.route_lattice.specs.Ways.{way_count}
 use Rattle.route_lattice.specs.Legal.{probe_at}
-use Rattle.move_maps.specs.declared.window.Window.{Window}
 use Rattle.move_maps.specs.declared.map.GroupMap.{GroupMap}
 use Rattle.move_maps.specs.Groups.{AreAlike}
 use Rattle.move_maps.specs.Clear.{IsClearOf}
 use Rattle.move_maps.specs.Maps.{IsTally, IsMapOf, place_at}
-use Rattle.move_maps.specs.Paint.{IsClearAt}
-use Rattle.move_maps.specs.OwnCopper.{IsCoveredBy, IsOwnCopper}
 use Rattle.move_maps.proofs.Alike.{same_clearance, same_probe, same_way_count}
 use Rattle.move_maps.proofs.Grouping.{back, through}
 use Rattle.map_rips.proofs.Parting.{missed_alike}
 
 -- what is clear of an item for one net of a group is so for another
-clear_alike : (d : Design) (g h : ℕ) → AreAlike d g h → (p : Probe) (b : Item) → IsClearOf d g p b → IsClearOf d h p b
+clear_alike : (d : Design) (g h : ℕ) → AreAlike d g h → (p : Probe) (b : Item) → IsClearOf d g p b
+    → IsClearOf d h p b
 clear_alike d g h alike p b c = record {
   keep = λ compared. subst (λ k. PiecesKeep k (pieces_of d (metal_of p)) b.pieces)
       (same_clearance d g h (kind_of (metal_of p)) b.net b.kind alike) (c.keep compared);
@@ -50,31 +48,19 @@ tally_alike d g h items (Some p) n alike (inr (few, (k, o, misses, out, e))) = i
   ),
 )
 
--- what a map of the group counts is a tally for the net itself
+-- what a map counts is a tally for the first net of the group
 pub tally_at : (d : Design) (m : Mesh) (items : List Item) (map : GroupMap) (net v i n : ℕ) → IsMapOf d m items map
     → AreAlike d map.first net → v < node_count m → i < way_count d m net
-    → n ≡ slice_index map.counts (place_at d m map.first v i) → IsTally d net items (probe_at d m net v i) n
+    → n ≡ slice_index map.counts (place_at d m map.first v i)
+    → IsTally d map.first items (probe_at d m map.first v i) n
 tally_at d m items map net v i n h k hv hi e =
-    subst (λ (o : Option Probe). IsTally d net items o n) (same_probe d m map.first net v i k)
-    (tally_alike d map.first net items (probe_at d m map.first v i) n k
-    (subst (IsTally d map.first items (probe_at d m map.first v i)) (sym e)
-    (h.tallies v i hv (subst (λ x. i < x) (sym (same_way_count d m map.first net k)) hi))))
+    subst (IsTally d map.first items (probe_at d m map.first v i)) (sym e)
+    (h.tallies v i hv (subst (λ x. i < x) (sym (same_way_count d m map.first net k)) hi))
 
--- what is laid, if anything
-clear_at : (d : Design) (g h : ℕ) (b : Item) (o : Option Probe) → AreAlike d g h → IsClearAt d g b o
-    → IsClearAt d h b o
-clear_at d g h b None alike c = c
-clear_at d g h b (Some p) alike c = clear_alike d g h alike p b c
-
--- windows round the net's own copper for steps of the group are so for steps of the net
-pub own_of_net : (d : Design) (m : Mesh) (items : List Item) (g net : ℕ) (ws : List Window) → AreAlike d g net
-    → IsOwnCopper d m items g net ws → IsOwnCopper d m items net net ws
-own_of_net d m items g net ws alike own = record {
-  each = λ b there is. covered b (own.each b there is);
-}
-  where
-    covered : (b : Item) → IsCoveredBy d m g b ws → IsCoveredBy d m net b ws
-    covered b c = record {
-      each = λ v i hv hi out. subst (λ (o : Option Probe). IsClearAt d net b o) (same_probe d m g net v i alike)
-          (clear_at d g net b (probe_at d m g v i) alike (c.each v i hv hi out));
-    }
+-- and so it is for the first net of another map of the group
+pub other_tally : (d : Design) (m : Mesh) (items : List Item) (g h net v i n : ℕ) → AreAlike d g net
+    → AreAlike d h net → IsTally d g items (probe_at d m g v i) n → IsTally d h items (probe_at d m h v i) n
+other_tally d m items g h net v i n a b tally =
+    let alike = through d g net h a (back d h net b) in
+    subst (λ (o : Option Probe). IsTally d h items o n) (same_probe d m g h v i alike)
+    (tally_alike d g h items (probe_at d m g v i) n alike tally)

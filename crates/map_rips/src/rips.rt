@@ -9,7 +9,6 @@ ghost use Rattle.route_lattice.specs.Legal.{IsOpen, probe_at};
 ghost use Rattle.ripup.specs.Rips.{CanRip, IsCharged, IsRipPrice, rip_graph};
 ghost use Rattle.move_maps.specs.Groups.{HasMap};
 ghost use Rattle.move_maps.specs.Maps.{IsTally, AreMapsOf};
-ghost use Rattle.move_maps.specs.Windows.{IsOutOfAll};
 ghost use Rattle.map_rips.specs.RipMaps.{AreRipMaps};
 
 use move_maps::{GroupMap, MoveMaps, NetMoves};
@@ -41,8 +40,8 @@ impl<C: Copper> MapRips<'_, C> {
             self.now.moves.by_map.map.now self.now.fixed.now self.now.moves.own }
         requires node { node < node_count self.now.moves.by_map.legal.lat.now }
         requires index { let t = self.now.moves.by_map.legal in i < way_count t.d.now t.lat.now t.net }
-        ensures { let t = self.now.moves.by_map.legal in
-            IsTally t.d.now t.net (C.items t.c.now) (probe_at t.d.now t.lat.now t.net node i) result }
+        ensures { let t = self.now.moves.by_map.legal in let g = self.now.moves.by_map.map.now.first in
+            IsTally t.d.now g (C.items t.c.now) (probe_at t.d.now t.lat.now g node i) result }
     {
         let place = node as usize * self.moves.by_map.legal.arity as usize + i as usize;
         self.moves.by_map.map.counts.get(place)
@@ -54,23 +53,11 @@ impl<C: Copper> MapRips<'_, C> {
             self.now.moves.by_map.map.now self.now.fixed.now self.now.moves.own }
         requires node { node < node_count self.now.moves.by_map.legal.lat.now }
         requires index { let t = self.now.moves.by_map.legal in i < way_count t.d.now t.lat.now t.net }
-        ensures { let t = self.now.moves.by_map.legal in
-            IsTally t.d.now t.net t.d.now.fixed (probe_at t.d.now t.lat.now t.net node i) result }
+        ensures { let t = self.now.moves.by_map.legal in let g = self.now.moves.by_map.map.now.first in
+            IsTally t.d.now g t.d.now.fixed (probe_at t.d.now t.lat.now g node i) result }
     {
         let place = node as usize * self.moves.by_map.legal.arity as usize + i as usize;
         self.fixed.counts.get(place)
-    }
-
-    /// Whether the move is a step, away from the net's own copper.
-    fn is_away(&self, node: u32, i: u32) -> bool
-        requires { node < node_count self.now.moves.by_map.legal.lat.now }
-        ensures { OnTrue result
-            ((i < 4) × IsOutOfAll self.now.moves.by_map.legal.lat.now self.now.moves.own node) }
-    {
-        if i >= 4 {
-            return false;
-        }
-        self.moves.own.is_off(self.moves.by_map.legal.lat, node)
     }
 
     /// Whether the count tells that something fixed shuts the move.
@@ -81,8 +68,9 @@ impl<C: Copper> MapRips<'_, C> {
         requires maps { let t = self.now.moves.by_map.legal in AreRipMaps t.d.now t.lat.now (C.items t.c.now) t.net
             self.now.moves.by_map.map.now self.now.fixed.now self.now.moves.own }
         requires node { node < node_count self.now.moves.by_map.legal.lat.now }
-        requires tally { let t = self.now.moves.by_map.legal in
-            IsTally t.d.now t.net t.d.now.fixed (probe_at t.d.now t.lat.now t.net node i) fixed }
+        requires index { let t = self.now.moves.by_map.legal in i < way_count t.d.now t.lat.now t.net }
+        requires tally { let t = self.now.moves.by_map.legal in let g = self.now.moves.by_map.map.now.first in
+            IsTally t.d.now g t.d.now.fixed (probe_at t.d.now t.lat.now g node i) fixed }
         requires counted { 0 < fixed }
         ensures { let t = self.now.moves.by_map.legal in
             OnTrue result (¬ (IsOpen t.d.now t.d.now.fixed t.net (probe_at t.d.now t.lat.now t.net node i))) }
@@ -90,7 +78,7 @@ impl<C: Copper> MapRips<'_, C> {
         if fixed == u8::MAX {
             return false;
         }
-        self.is_away(node, i)
+        self.moves.own.is_off(self.moves.by_map.legal.lat, node)
     }
 
     /// For how many routed items the move is charged, at most 16, or None where the maps don't tell.
@@ -114,7 +102,7 @@ impl<C: Copper> MapRips<'_, C> {
         if all == fixed {
             return Some(0);
         }
-        if !self.is_away(node, i) {
+        if !self.moves.own.is_off(self.moves.by_map.legal.lat, node) {
             return None;
         }
         Some(at_most_16(all.saturating_sub(fixed)))

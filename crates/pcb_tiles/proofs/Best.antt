@@ -10,7 +10,7 @@ use Rattle.pcb_tiles.specs.declared.cells.Entry.{Entry}
 use Rattle.pcb_tiles.specs.declared.block.Block.{Block}
 use Rattle.pcb_tiles.specs.Cells.{cell_at, row_in}
 use Rattle.pcb_tiles.specs.Searches.{IsUnder, Falls, IsBetter, IsPassed, IsFoundIn, CellSoFar, IsFoundInRow}
-use Rattle.pcb_tiles.specs.Searches.{RowSoFar, IsFoundInRows, RowsSoFar}
+use Rattle.pcb_tiles.specs.Searches.{RowSoFar, IsFoundInRows, RowsSoFar, IsRowPassed, AreRowsPassed}
 use Rattle.pcb_tiles.proofs.Ranges.{get_or_any}
 
 pub same_or_less : (i j : ℕ) → i < j + 1 → (i ≡ j) ⊎ (i < j)
@@ -218,4 +218,25 @@ rows_step Yes No from old new grid b row l h k = record {
     | inr n ↦ all_passed_fall No from new old (cell_at (row_in grid i) j) k.falls (h.passed i j a n f t)
   ];
   found = row_found Yes from new old grid b row l h.found k.found;
+}
+
+-- ---- nothing sought so far
+pub row_passed : (No : Item → Type 0) (row : List (List Entry)) (first column : ℕ) → IsRowPassed No row first column
+    → All (IsPassed No 0 None) (cell_at row column) → IsRowPassed No row first (column + 1)
+row_passed No row first column h k = record {
+  each = λ i a b. elim (same_or_less i column b) [
+    | inl e ↦ let F : ℕ → Type 0 = λ j. All (IsPassed No 0 None) (cell_at row j) in subst F (sym e) k
+    | inr m ↦ h.each i a m
+  ];
+}
+
+pub rows_passed : (No : Item → Type 0) (grid : List (List (List Entry))) (b : Block) (row : ℕ)
+    → AreRowsPassed No grid b row → IsRowPassed No (row_in grid row) b.first_column (suc b.last_column)
+    → AreRowsPassed No grid b (row + 1)
+rows_passed No grid b row h k = record {
+  each = λ i a m. elim (same_or_less i row m) [
+    | inl e ↦ let F : ℕ → Type 0 = λ r. IsRowPassed No (row_in grid r) b.first_column (suc b.last_column) in
+        subst F (sym e) k
+    | inr n ↦ h.each i a n
+  ];
 }

@@ -24,7 +24,7 @@ use Rattle.pcb_model.specs.Near.{IsExtentOf, AreFar}
 use Rattle.pcb_model.proofs.Least.{least_in, greatest_in}
 use Rattle.pcb_model.proofs.Far.{far_apart, apart_agree}
 use Rattle.pcb_tiles.specs.declared.block.Block.{Block}
-use Rattle.pcb_tiles.specs.Tiling.{IsArea, IsBlockOf, block_of, own_block, asked_block, half_up, place_of}
+use Rattle.pcb_tiles.specs.Tiling.{IsArea, IsBlockOf, block_of, own_block, asked_block, probed_block, half_up, place_of}
 use Rattle.pcb_tiles.specs.Searches.{Meets, IsHit, Sought, IsMet}
 use Rattle.pcb_tiles.proofs.Tilings.{gap_between, gap_before}
 
@@ -293,4 +293,12 @@ pub own_is : {by : ℕ} (area : Rect4) (q : Extent) (b : Block) (a : Item) → I
 own_is {by} area q b a e k s =
     let F : ℕ → Block = λ n. block_of area q.bounds n in
     let G : Extent → Block = λ x. block_of area x.bounds (half_up x.width) in
+    e.is ∙ (ap F k ∙ ap G s)
+
+pub probed_is : {by : ℕ} (area : Rect4) (reach : ℕ) (q : Extent) (b : Block) (d : Design) (p : Probe)
+    → IsBlockOf area q.bounds by b → by ≡ reach + half_up q.width → q ≡ extent_of (pieces_of d (metal_of p))
+    → b ≡ probed_block area reach d p
+probed_is {by} area reach q b d p e k s =
+    let F : ℕ → Block = λ n. block_of area q.bounds n in
+    let G : Extent → Block = λ x. block_of area x.bounds (reach + half_up x.width) in
     e.is ∙ (ap F k ∙ ap G s)

@@ -46,6 +46,15 @@ sum_range_more f a i h =
 pub sum_range_none : (f : ℕ → ℕ) (a : ℕ) → sum_by f (range_with_len a (a - a)) ≡ 0
 sum_range_none f a = let e : a - a ≡ 0 = omega arith in ap (λ (n : ℕ). sum_by f (range_with_len a n)) e
 
+-- the first places sum to no more than all
+pub sum_range_part : (f : ℕ → ℕ) (a m n : ℕ) → m ≤ n
+    → sum_by f (range_with_len a m) ≤ sum_by f (range_with_len a n)
+sum_range_part f a zero n h = omega arith
+sum_range_part f a (suc m) zero h = absurd (omega (arith, h))
+sum_range_part f a (suc m) (suc n) h =
+    let rest = sum_range_part f (a + 1) m n (omega (arith, h)) in
+    omega (arith, rest, sum_by-cons f a (range_with_len (a + 1) m), sum_by-cons f a (range_with_len (a + 1) n))
+
 -- ---- answers of a test
 pub on_true : {P Q : Type 0} (b : Bool) → (P → Q) → OnTrue b P → OnTrue b Q
 on_true true f h = f h

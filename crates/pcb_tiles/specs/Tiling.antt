@@ -5,6 +5,9 @@ use Rattle.std.specs.Int.{int_min, int_max}
 use Rattle.std.specs.List.{range_with_len, count_by, sum_by}
 use Rattle.geo_kernel.specs.declared.point.Rect4.{Rect4}
 use Rattle.pcb_model.specs.declared.item.Item.{Item}
+use Rattle.pcb_model.specs.declared.item.Probe.{Probe}
+use Rattle.pcb_model.specs.declared.design.Design.{Design}
+use Rattle.pcb_model.specs.Pieces.{pieces_of, metal_of}
 use Rattle.pcb_model.specs.Near.{IsBoxWithin, box_of_points, vertices_of, greatest_width}
 use Rattle.pcb_tiles.specs.declared.block.Block.{Block}
 
@@ -86,6 +89,12 @@ has_entry area row column a = is_in (own_block area a) column row
 -- the tiles that an asked item's box, grown by the reach and its greatest width, meets
 abbrev pub asked_block : Rect4 → ℕ → Item → Block
 asked_block area reach a = block_of area (box_of_points (vertices_of a.pieces)) (reach + greatest_width a.pieces)
+
+-- the tiles that a probe's box, grown by the reach and half its greatest width, meets
+abbrev pub probed_block : Rect4 → ℕ → Design → Probe → Block
+probed_block area reach d p =
+    let ps = pieces_of d (metal_of p) in
+    block_of area (box_of_points (vertices_of ps)) (reach + half_up (greatest_width ps))
 
 -- how many entries stand in a block of tiles
 abbrev pub entries_in : Rect4 → List Item → Block → ℕ

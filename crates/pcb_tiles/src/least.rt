@@ -9,7 +9,7 @@ ghost use Rattle.pcb_model.specs.Pairs.{Agrees, ProbeAgrees, AreTouching};
 ghost use Rattle.pcb_model.specs.Near.{extent_of};
 ghost use Rattle.pcb_model.specs.Copper.{Finds, Ascends, IsBlocked, IsUnblocked};
 ghost use Rattle.pcb_tiles.specs.Kept.{IsSpread};
-ghost use Rattle.pcb_tiles.specs.Tiling.{IsArea, IsBlockIn, own_block, asked_block, entries_in};
+ghost use Rattle.pcb_tiles.specs.Tiling.{IsArea, IsBlockIn, own_block, asked_block, probed_block, entries_in};
 ghost use Rattle.pcb_tiles.specs.Cells.{with_item, without_item, grid_of};
 ghost use Rattle.pcb_tiles.specs.Shelves.{flat};
 ghost use Rattle.pcb_tiles.specs.Searches.{Sought, IsMet};
@@ -61,6 +61,7 @@ fn seek_any<S: Seeks, L: Ledger>(
     requires block { IsBlockIn area b.now }
     ensures yes { OnTrue result (IsMet (S.yes s.now) (flat shelf.now)) }
     ensures no { OnFalse result (Sought (S.yes s.now) (S.no s.now) 0 area b.now (flat shelf.now) None) }
+    ensures cost { steps.new ≤ steps.old + entries_in area (flat shelf.now) b.now }
 {
     let _ = shelf;
     let _ = reach;
@@ -113,8 +114,9 @@ pub(crate) fn least_block<L: Ledger>(
     requires design { IsDesignFit d.now }
     requires reaches { HasClearancesWithin reach d.now }
     requires p_fits { IsProbeFit d.now p.now }
-    ensures { Finds (λ b. ProbeAgrees d.now net p.now b → ⊥) (ProbeAgrees d.now net p.now) from None
+    ensures finds { Finds (λ b. ProbeAgrees d.now net p.now b → ⊥) (ProbeAgrees d.now net p.now) from None
         (flat shelf.now) result }
+    ensures cost { steps.new ≤ steps.old + entries_in area (flat shelf.now) (probed_block area reach d.now p.now) }
 {
     let e = Extent::of_probe(d, p);
     let b = block_around(area, e.bounds, reach + (e.width + 1) / 2);
@@ -145,6 +147,7 @@ pub(crate) fn is_any_block<L: Ledger>(
     requires p_fits { IsProbeFit d.now p.now }
     ensures yes { OnTrue result (IsBlocked d.now net p.now (flat shelf.now)) }
     ensures no { OnFalse result (IsUnblocked d.now net p.now (flat shelf.now)) }
+    ensures cost { steps.new ≤ steps.old + entries_in area (flat shelf.now) (probed_block area reach d.now p.now) }
 {
     let e = Extent::of_probe(d, p);
     let b = block_around(area, e.bounds, reach + (e.width + 1) / 2);
@@ -170,7 +173,9 @@ pub(crate) fn least_touch<L: Ledger>(
 ) -> Option<u64>
     requires spread { IsSpread area reach shelf.now grid.now }
     requires a_fits { IsItemFit a.now }
-    ensures { Finds (AreTouching a.now) (λ b. AreTouching a.now b → ⊥) from (Some a.now.id) (flat shelf.now) result }
+    ensures finds { Finds (AreTouching a.now) (λ b. AreTouching a.now b → ⊥) from (Some a.now.id)
+        (flat shelf.now) result }
+    ensures cost { steps.new ≤ steps.old + entries_in area (flat shelf.now) (own_block area a.now) }
 {
     let e = Extent::of_item(a);
     let b = block_around(area, e.bounds, (e.width + 1) / 2);

@@ -220,6 +220,7 @@ fn any_in_cell<S: Seeks, L: Ledger>(s: &S, cell: &[Entry], steps: &mut Steps<L>)
     requires entries { All IsEntry cell.now }
     ensures yes { OnTrue result (IsMetIn (S.yes s.now) cell.now) }
     ensures no { OnFalse result (All (IsPassed (S.no s.now) 0 None) cell.now) }
+    ensures cost { steps.new ≤ steps.old + length cell.now }
 {
     for e in cell {
         if s.is_sought(e.item.get(), &e.extent, steps) {
@@ -237,6 +238,7 @@ fn any_in_row<S: Seeks, L: Ledger>(s: &S, row: &[Cell], b: &Block, steps: &mut S
     requires columns { b.now.first_column ≤ b.now.last_column }
     ensures yes { OnTrue result (IsMetInRow (S.yes s.now) row.now b.now.first_column (suc b.now.last_column)) }
     ensures no { OnFalse result (IsRowPassed (S.no s.now) row.now b.now.first_column (suc b.now.last_column)) }
+    ensures cost { steps.new ≤ steps.old + sum_by (λ column. length (cell_at row.now column)) (columns_of b.now) }
 {
     for at in b.first_column..b.last_column + 1 {
         if any_in_cell(s, row[at].get().as_slice(), steps) {
@@ -261,6 +263,9 @@ pub(crate) fn any_in_rows<S: Seeks, L: Ledger>(
     requires order { b.now.first_row ≤ b.now.last_row }
     ensures yes { OnTrue result (IsMetInRows (S.yes s.now) rows.now b.now) }
     ensures no { OnFalse result (AreRowsPassed (S.no s.now) rows.now b.now (suc b.now.last_row)) }
+    ensures cost { steps.new ≤ steps.old + sum_by
+        (λ row. sum_by (λ column. length (cell_at (row_in rows.now row) column)) (columns_of b.now))
+        (rows_of b.now) }
 {
     for at in b.first_row..b.last_row + 1 {
         if any_in_row(s, rows[at].get().as_slice(), b, steps) {

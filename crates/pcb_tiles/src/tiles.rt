@@ -6,7 +6,7 @@ ghost use Rattle.std.specs.Prelude.{MatchOption};
 ghost use Rattle.pcb_model.specs.Bounds.{IsItemFit};
 ghost use Rattle.std.specs.Option.{option_copied};
 ghost use Rattle.pcb_model.specs.Copper.{Ascends};
-ghost use Rattle.pcb_tiles.specs.Tiling.{IsArea, asked_block, entries_in};
+ghost use Rattle.pcb_tiles.specs.Tiling.{IsArea, asked_block, own_block, probed_block, entries_in};
 ghost use Rattle.pcb_tiles.specs.Cells.{with_item, without_item};
 ghost use Rattle.pcb_tiles.specs.Spread.{holding, Gains, Loses, ServesSpread};
 
@@ -203,6 +203,10 @@ impl Copper for Tiles {
     ghost serves = { λ t d. ServesSpread t d };
 
     ghost ticks = { λ t a. entries_in t.area t.items (asked_block t.area t.reach a) };
+
+    ghost touch_ticks = { λ t a. entries_in t.area t.items (own_block t.area a) };
+
+    ghost probe_ticks = { λ t d p. entries_in t.area t.items (probed_block t.area t.reach d p) };
 
     fn in_order(&self) {
         let _ = &self.shelf;

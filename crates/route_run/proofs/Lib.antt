@@ -3,3 +3,4 @@ mod Counting
 mod Worked
 mod Passing
 mod Running
+mod Sights

@@ -1,17 +1,20 @@
 //! Passes one after another: each works off the nets that have several islands when it starts.
 //! They end where nothing is open, where a pass above the first made no entry, or where the board takes no more.
 
-ghost use Rattle.std.specs.Prelude.{◌≡◌, ◌+◌, ◌<◌, ◌≤◌, [], IfOk, IsTrue, not, length};
+ghost use Rattle.std.specs.Prelude.{◌≡◌, ◌+◌, ◌<◌, ◌≤◌, [], IfOk, IfSome, IsTrue, not, length};
+ghost use Rattle.board_sight.specs.Sights.{IsSeenOn};
+ghost use Rattle.route_lattice.specs.Fits.{FitsDesign};
 ghost use Rattle.route_run.specs.Runs.{run_from, pass_at, penalty_of as penalty_at, HaveEnded};
 ghost use Rattle.route_run.specs.Passing.{IsTask, AreOpenOn, IsMade, EndsBy, HasPassed, Stays};
 
 use crate::connections::{OpenNets, look_over};
+use board_sight::{Sight, look};
 use desk_io::Gate;
 use geo_kernel::List;
 use pcb_board::Board;
 use route_lattice::Lattice;
 use route_report::PassLine;
-use searcher_pool::{full_passes_are_spent, is_full, passes_are_least, run_pass};
+use searcher_pool::{full_passes_are_spent, is_full, passes_are_least, run_pass_from};
 use std::alloc::{AllocError, Global};
 use std::sync::Wait;
 use std::thread::Threads;
@@ -37,6 +40,24 @@ fn penalty_of(pass: u32) -> Option<u64>
     }
 }
 
+// What is seen of the board before a pass, by what was seen before the last one; nothing where no net is open.
+fn look_before(
+    alloc: Global,
+    lat: &Lattice,
+    board: &Board,
+    open_nets: &OpenNets,
+    last: Option<Sight>,
+) -> Result<Option<Sight>, AllocError>
+    requires fits { FitsDesign board.now.design lat.now }
+    requires last { IfSome last (IsSeenOn lat.now board.now) }
+    ensures { IfOk result (λ o. IfSome o (IsSeenOn lat.now board.now)) }
+{
+    if open_nets.nets.is_empty() {
+        return Ok(None);
+    }
+    Ok(Some(look(alloc, lat, last, board)?))
+}
+
 // Makes the pass of a number over the open nets.
 fn one_pass<R: Threads + Wait + Sync, G: Gate + Sync>(
     rt: &R,
@@ -47,19 +68,21 @@ fn one_pass<R: Threads + Wait + Sync, G: Gate + Sync>(
     number: u32,
     board: Board,
     open_nets: OpenNets,
+    base: Option<&Sight>,
     gate: &G,
 ) -> Result<Made, AllocError>
     requires task { IsTask board.design lat.now via_cost }
     requires workers { (1 ≤ workers) × (workers ≤ 16) }
     requires number { number ≤ 99 }
     requires open_nets { AreOpenOn board open_nets }
+    requires base { IfSome base (λ s. IsSeenOn lat.now board s.now) }
     ensures made { IfOk result (IsMade (pass_at lat.now via_cost workers number) board) }
     ensures open_nets { IfOk result (λ made. AreOpenOn made.board made.open_nets) }
 {
     board.keeps();
     let before = board.history().len() as u64;
     let penalty = penalty_of(number);
-    let (board, logs) = match run_pass(
+    let (board, logs) = match run_pass_from(
         rt,
         alloc,
         board,
@@ -68,6 +91,7 @@ fn one_pass<R: Threads + Wait + Sync, G: Gate + Sync>(
         workers,
         open_nets.nets,
         penalty,
+        base,
         gate,
     ) {
         Ok(made) => made,
@@ -122,10 +146,21 @@ pub(crate) fn make_passes<R: Threads + Wait + Sync, G: Gate + Sync>(
     let mut board = board;
     let mut open_nets = look_over(alloc, &board)?;
     let mut lines = List::new(alloc);
+    let mut last = None;
     for k in 0..passes {
         let number = k + 1;
+        let base = look_before(alloc, lat, &board, &open_nets, last)?;
         let made = one_pass(
-            rt, alloc, lat, via_cost, workers, number, board, open_nets, gate,
+            rt,
+            alloc,
+            lat,
+            via_cost,
+            workers,
+            number,
+            board,
+            open_nets,
+            base.as_ref(),
+            gate,
         )?;
         let line = made.line;
         lines.push(line)?;
@@ -134,6 +169,7 @@ pub(crate) fn make_passes<R: Threads + Wait + Sync, G: Gate + Sync>(
         }
         board = made.board;
         open_nets = made.open_nets;
+        last = base;
     }
     Ok((board, lines))
 }

@@ -33,6 +33,13 @@ pub seen_still : (p : PassOf) (t : TurnOf) (es fs : List Event) (o : Option Sigh
     → HasSeen p t es o → HasSeen p t fs o
 seen_still p t es fs o more has = record { seen = λ b reached. seen_on p t es fs o b more has reached }
 
+-- what was seen of the board of the turn stays seen
+pub seen_first : (p : PassOf) (t : TurnOf) (es : List Event) (o : Option Sight)
+    → IfSome o (IsSeenOn p.lattice (opening t)) → HasSeen p t es o
+seen_first p t es o h = record {
+  seen = λ b reached. still_seen p.lattice (opening t) b o (reaches_grows (opening t) b es reached) h;
+}
+
 -- the sight of a snapshot is seen on its board
 sight_seen : (m : Mesh) (b : BoardOf) (s : SnapOf) (o : Option Sight) → IsBoard b → s ≡ snap_of b
     → IfSome o (IsSightOf m s) → IfSome o (IsSeenOn m b)

@@ -1,11 +1,12 @@
 //! The workers of a pass: each has a pass of the turn and a seat at the counter of tasks, and works in a thread of its
 //! own. Where no thread can be started its work is done by the caller.
 
-ghost use Rattle.std.specs.Prelude.{◌≡◌, ℕ, ◌-◌, ◌<◌, ◌≤◌, ◌^◌, All, IfOk, [], false, length, slice_index_or};
+ghost use Rattle.std.specs.Prelude.{◌≡◌, ℕ, ◌-◌, ◌<◌, ◌≤◌, ◌^◌, All, IfOk, IfSome, [], false, length, slice_index_or};
 ghost use Rattle.std.specs.Prelude.{vec_capacity, vec_len};
 ghost use Rattle.crossbeam_utils.specs.Padded.{padded_value};
 ghost use Rattle.route_lattice.specs.Mesh.{node_count};
 ghost use Rattle.claim_counter.specs.Claims.{hand, times};
+ghost use Rattle.board_sight.specs.Sights.{IsSeenOn};
 ghost use Rattle.board_turn.specs.Turns.{passes_of, opening};
 ghost use Rattle.searcher_pool.specs.Passes.{claimed};
 ghost use Rattle.searcher_pool.specs.Working.{pass_of, IsTurnOf, HasFixed, MayWork, Worked};
@@ -89,6 +90,7 @@ fn work_padded<R: Wait, G: Gate>(
 )
     requires turn { IsTurnOf (pass_of job) turn.now }
     requires fixed { HasFixed job (opening turn.now).design }
+    requires base { IfSome job.base (λ s. IsSeenOn job.lat.now (opening turn.now) s.now) }
     requires few { length job.tasks.now < 2 ^ 32 }
     requires counter { counter.now.tasks ≡ length job.tasks.now }
     requires fresh { MayWork (pass_of job) turn.now counter.now (padded_value w.old) }
@@ -108,6 +110,7 @@ fn all_work<R: Threads + Wait + Sync, G: Gate + Sync>(
 )
     requires turn { IsTurnOf (pass_of job) turn.now }
     requires fixed { HasFixed job (opening turn.now).design }
+    requires base { IfSome job.base (λ s. IsSeenOn job.lat.now (opening turn.now) s.now) }
     requires few { length job.tasks.now < 2 ^ 32 }
     requires counter { counter.now.tasks ≡ length job.tasks.now }
     requires fresh { All (λ w. MayWork (pass_of job) turn.now counter.now (padded_value w)) workers.old }
@@ -139,6 +142,7 @@ pub(crate) fn crew_works<R: Threads + Wait + Sync, G: Gate + Sync>(
 )
     requires turn { IsTurnOf (pass_of job) turn.now }
     requires fixed { HasFixed job (opening turn.now).design }
+    requires base { IfSome job.base (λ s. IsSeenOn job.lat.now (opening turn.now) s.now) }
     requires few { length job.tasks.now < 2 ^ 32 }
     requires counter { counter.now.tasks ≡ length job.tasks.now }
     requires fresh { AreFresh (pass_of job) turn.now counter.now crew.old.items }

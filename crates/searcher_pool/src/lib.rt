@@ -10,4 +10,4 @@ mod worker;
 
 pub use laws::{full_passes_are_spent, passes_are_least};
 pub use log::{OfferNote, WorkerLog, is_full};
-pub use pass::run_pass;
+pub use pass::{run_pass, run_pass_from};

@@ -1,9 +1,11 @@
 //! A pass: workers share the board by a turn, draw the tasks one after another, and work each off.
 
-ghost use Rattle.std.specs.Prelude.{◌≡◌, ◌<◌, ◌≤◌, ◌^◌, IfOk, IfErr, IfSome, false, length, vec_capacity, vec_len};
+ghost use Rattle.std.specs.Prelude.{◌≡◌, ◌<◌, ◌≤◌, ◌^◌, IfOk, IfErr, IfSome, false, length, vec_capacity};
+ghost use Rattle.std.specs.Prelude.{vec_len};
 ghost use Rattle.pcb_model.specs.Sound.{IsSound};
 ghost use Rattle.route_lattice.specs.Fits.{FitsDesign};
 ghost use Rattle.move_maps.specs.Maps.{AreMapsOf};
+ghost use Rattle.board_sight.specs.Sights.{IsSeenOn};
 ghost use Rattle.board_turn.specs.Turns.{passes_of, opening};
 ghost use Rattle.searcher_pool.specs.Passes.{IsPassed, Grows};
 ghost use Rattle.searcher_pool.specs.Working.{pass_of, pass_from, IsTask, IsTurnOf, HasFixed};
@@ -12,6 +14,7 @@ ghost use Rattle.searcher_pool.specs.Crews.{AreRooms};
 use crate::crew::{Crew, crew_works, dismiss, searches, staff};
 use crate::log::WorkerLog;
 use crate::worker::Job;
+use board_sight::Sight;
 use board_turn::{Pass, Turn};
 use claim_counter::{Claimer, Counter};
 use desk_io::Gate;
@@ -80,6 +83,7 @@ fn turn_over<R: Threads + Wait + Sync, G: Gate + Sync>(
 ) -> (Board, Vec<WorkerLog>, bool)
     requires turn { IsTurnOf (pass_of job) turn }
     requires fixed { HasFixed job (opening turn).design }
+    requires base { IfSome job.base (λ s. IsSeenOn job.lat.now (opening turn) s.now) }
     requires some { 0 < job.workers }
     requires few { length job.tasks.now < 2 ^ 32 }
     requires passes { (passes.items ≡ passes_of turn 0 (vec_len passes)) × (vec_len passes ≡ job.workers)
@@ -123,6 +127,64 @@ fn turn_over<R: Threads + Wait + Sync, G: Gate + Sync>(
     (board, logs, false)
 }
 
+/// `run_pass` where something was seen of the board before: each worker begins with a copy of it.
+///
+/// # Errors
+///
+/// Where memory is wanting the board comes back with what was joined.
+pub fn run_pass_from<R: Threads + Wait + Sync, G: Gate + Sync>(
+    rt: &R,
+    alloc: Global,
+    board: Board,
+    lat: &Lattice,
+    via_cost: u64,
+    workers: u32,
+    tasks: Vec<u32>,
+    penalty: Option<u64>,
+    base: Option<&Sight>,
+    gate: &G,
+) -> Result<(Board, Vec<WorkerLog>), PassBack>
+    requires workers { (1 ≤ workers) × (workers ≤ 16) }
+    requires task { IsTask (pass_from lat.now via_cost workers tasks.items penalty) board.design }
+    requires few { vec_len tasks < 2 ^ 32 }
+    requires base { IfSome base (λ s. IsSeenOn lat.now board s.now) }
+    ensures ok { IfOk result
+        (λ r. IsPassed (pass_from lat.now via_cost workers tasks.items penalty) board r.0 r.1.items) }
+    ensures back { IfErr result
+        (λ e. Grows (pass_from lat.now via_cost workers tasks.items penalty) board e.board) }
+{
+    board.keeps();
+    let fixed = match fixed_for(alloc, lat, board.design(), penalty) {
+        Ok(fixed) => fixed,
+        Err(cause) => return Err(PassBack { board, cause }),
+    };
+    let job = Job {
+        lat,
+        via_cost,
+        workers,
+        tasks: tasks.as_slice(),
+        penalty,
+        base,
+        fixed: fixed.as_ref(),
+    };
+    let rooms = match make_rooms(alloc, job) {
+        Ok(rooms) => rooms,
+        Err(cause) => return Err(PassBack { board, cause }),
+    };
+    let (turn, passes) = match Turn::new(alloc, board, workers) {
+        Ok(made) => made,
+        Err(back) => return Err(back),
+    };
+    let (board, logs, failed) = turn_over(rt, alloc, job, turn, passes, rooms, gate);
+    if failed {
+        return Err(PassBack {
+            board,
+            cause: AllocError,
+        });
+    }
+    Ok((board, logs))
+}
+
 /// Makes one pass of so many workers over the tasks, which are nets, with a penalty in nm or without; a via costs
 /// `via_cost` nm. Each worker works in a thread of its own, or where none can be started in the caller's.
 ///
@@ -148,33 +210,7 @@ pub fn run_pass<R: Threads + Wait + Sync, G: Gate + Sync>(
     ensures back { IfErr result
         (λ e. Grows (pass_from lat.now via_cost workers tasks.items penalty) board e.board) }
 {
-    board.keeps();
-    let fixed = match fixed_for(alloc, lat, board.design(), penalty) {
-        Ok(fixed) => fixed,
-        Err(cause) => return Err(PassBack { board, cause }),
-    };
-    let job = Job {
-        lat,
-        via_cost,
-        workers,
-        tasks: tasks.as_slice(),
-        penalty,
-        fixed: fixed.as_ref(),
-    };
-    let rooms = match make_rooms(alloc, job) {
-        Ok(rooms) => rooms,
-        Err(cause) => return Err(PassBack { board, cause }),
-    };
-    let (turn, passes) = match Turn::new(alloc, board, workers) {
-        Ok(made) => made,
-        Err(back) => return Err(back),
-    };
-    let (board, logs, failed) = turn_over(rt, alloc, job, turn, passes, rooms, gate);
-    if failed {
-        return Err(PassBack {
-            board,
-            cause: AllocError,
-        });
-    }
-    Ok((board, logs))
+    run_pass_from(
+        rt, alloc, board, lat, via_cost, workers, tasks, penalty, None, gate,
+    )
 }

@@ -3,7 +3,7 @@
 ghost use Rattle.std.specs.Prelude.{◌≡◌, ◌<◌, ◌≤◌, ◌^◌, IfOk, IfSome, OnOk, length};
 ghost use Rattle.route_lattice.specs.Mesh.{node_count};
 ghost use Rattle.pcb_board.specs.Boards.{BoardOf};
-ghost use Rattle.board_sight.specs.Sights.{IsLater, IsSightOf};
+ghost use Rattle.board_sight.specs.Sights.{IsLater, IsSeenOn, IsSightOf};
 ghost use Rattle.route_plan.specs.Plans.{CanPlan, IsSnapOf, Plans};
 ghost use Rattle.board_turn.specs.Turns.{opening};
 ghost use Rattle.searcher_pool.specs.Working.{pass_of, IsTurnOf, IsReady, IsDrawn, IsPlanned, IsAfter, Attempts};
@@ -27,8 +27,8 @@ use wave_search::Search;
 /// As many offers of a task may come too late before it is left.
 const MOST_LATE: u32 = 8;
 
-/// What a pass goes by: the lattice, the price of a via, how many workers there are, the nets of its tasks, the
-/// penalty, and maps of the moves on the fixed items alone.
+/// What a pass goes by: the lattice, the price of a via, how many workers there are, the nets of its tasks, the penalty,
+/// what was seen of the board before, and maps of the moves on the fixed items alone.
 #[derive(Clone, Copy)]
 pub(crate) struct Job<'a> {
     pub lat: &'a Lattice,
@@ -36,6 +36,7 @@ pub(crate) struct Job<'a> {
     pub workers: u32,
     pub tasks: &'a [u32],
     pub penalty: Option<u64>,
+    pub base: Option<&'a Sight>,
     pub fixed: Option<&'a MoveMaps>,
 }
 
@@ -218,6 +219,18 @@ fn work_off<R: Wait, G: Gate>(
     Ok(())
 }
 
+// What a worker has seen before it begins: a copy of what was seen before the pass.
+fn first_sight(alloc: Global, job: Job<'_>, turn: &Turn) -> Result<Option<Sight>, AllocError>
+    requires base { IfSome job.base (λ s. IsSeenOn job.lat.now (opening turn.now) s.now) }
+    ensures { IfOk result (λ o. IfSome o (IsSeenOn job.lat.now (opening turn.now))) }
+{
+    let _turn = turn;
+    match job.base {
+        Some(base) => Ok(Some(base.copy(alloc)?)),
+        None => Ok(None),
+    }
+}
+
 // Draws tasks and works them off, until none is left.
 fn draw_all<R: Wait, G: Gate>(
     rt: &R,
@@ -253,6 +266,32 @@ fn draw_all<R: Wait, G: Gate>(
     unreachable!()
 }
 
+// Begins with what was seen before the pass, and draws until no task is left.
+fn draw_from<R: Wait, G: Gate>(
+    rt: &R,
+    alloc: Global,
+    job: Job<'_>,
+    turn: &Turn,
+    counter: &Counter,
+    gate: &G,
+    w: &mut Worker,
+) -> Result<(), AllocError>
+    requires turn { IsTurnOf (pass_of job) turn.now }
+    requires fixed { HasFixed job (opening turn.now).design }
+    requires base { IfSome job.base (λ s. IsSeenOn job.lat.now (opening turn.now) s.now) }
+    requires few { length job.tasks.now < 2 ^ 32 }
+    requires counter { counter.now.tasks ≡ length job.tasks.now }
+    requires may_work { MayWork (pass_of job) turn.now counter.now w.old }
+    ensures ready { IsReady (pass_of job.entry) turn.now w.new }
+    ensures seated { IsSeated counter.now w.new }
+    ensures name { w.new.pass.name ≡ w.old.pass.name }
+    ensures done { OnOk result ((counter.now.tasks ≤ w.new.seat.hand.floor)
+        × EndsDrawn (pass_of job.entry) turn.now w.new.pass w.new.drawn.items w.new.notes.items) }
+{
+    let mut sight = first_sight(alloc, job, turn)?;
+    draw_all(rt, alloc, job, turn, counter, gate, w, &mut sight)
+}
+
 /// The work of one worker in a pass.
 pub(crate) fn work<R: Wait, G: Gate>(
     rt: &R,
@@ -265,12 +304,12 @@ pub(crate) fn work<R: Wait, G: Gate>(
 )
     requires turn { IsTurnOf (pass_of job) turn.now }
     requires fixed { HasFixed job (opening turn.now).design }
+    requires base { IfSome job.base (λ s. IsSeenOn job.lat.now (opening turn.now) s.now) }
     requires few { length job.tasks.now < 2 ^ 32 }
     requires counter { counter.now.tasks ≡ length job.tasks.now }
     requires may_work { MayWork (pass_of job) turn.now counter.now w.old }
     ensures { Worked (pass_of job.entry) turn.now counter.now w.old.pass.name w.new }
 {
-    let mut sight = None;
-    let drew = draw_all(rt, alloc, job, turn, counter, gate, w, &mut sight);
+    let drew = draw_from(rt, alloc, job, turn, counter, gate, w);
     w.failed = drew.is_err();
 }

@@ -1,11 +1,20 @@
-use Rattle.std.proofs.Common.{arith}
+use Rattle.std.proofs.Common.{◌≡◌, arith, ap}
+use Rattle.pcb_tiles.specs.Tiling.{own_block, entries_in}
 use Rattle.pcb_tiles.specs.Shelves.{flat}
-use Rattle.pcb_tiles.proofs.Nearness.{touch_finds}
+use Rattle.pcb_tiles.proofs.Nearness.{touch_finds, own_is}
 use Rattle.pcb_tiles.proofs.least.least_touch.Goals as goal
 
-pub returns : goal.returns
-returns g c =
+pub returns-clause-finds : goal.returns-clause-finds
+returns-clause-finds g c =
     touch_finds c.args.area c.of_item-e.result c.block_around-b.result c.args.a.now
     (flat c.args.shelf.now) c.args.from
     c.seek.result c.block_around-b.ensures.of (omega arith) c.requires.spread.area_is c.of_item-e.ensures.has
     c.requires.spread.fit c.seek.ensures.so
+
+pub returns-clause-cost : goal.returns-clause-cost
+returns-clause-cost g c =
+    let b : c.block_around-b.result ≡ own_block c.args.area c.args.a.now =
+    own_is c.args.area c.of_item-e.result c.block_around-b.result c.args.a.now
+    c.block_around-b.ensures.of (omega arith) c.of_item-e.ensures.least in
+    let n = ap (entries_in c.args.area (flat c.args.shelf.now)) b in
+    omega (arith, n, c.seek.ensures.cost)

@@ -1,7 +1,11 @@
 use Rattle.std.proofs.Common.{◌+◌, ◌<◌, ℕ, [], ◌∷◌, length, length-append, refl, sym, ap, subst, arith}
+use Rattle.pcb_model.specs.declared.design.Design.{Design}
+use Rattle.route_lattice.specs.Fits.{FitsDesign}
+use Rattle.board_sight.proofs.Seeing.{still_seen}
 use Rattle.route_run.specs.Runs.{HaveEnded, run_from, pass_at}
 use Rattle.route_run.specs.Passing.{EndsBy, HasPassed, MayFollow}
-use Rattle.route_run.proofs.Passing.{pass_more, passed_none}
+use Rattle.route_run.proofs.Passing.{grown_by, pass_more, passed_none}
+use Rattle.route_run.proofs.Sights.{lent_seen}
 use Rattle.route_run.proofs.Running.{ended_by, ended_last, follow_more, follow_none, stays_same, stays_on}
 use Rattle.route_run.proofs.passes.make_passes.Goals as goal
 
@@ -15,7 +19,18 @@ loop-k-init g c =
       count = ap length c.new-lines.ensures;
       open_nets = c.in_ok-open_nets.ensures;
       same = stays_same c.args.board;
+      last = tt;
     }
+
+-- the lattice fits the board's design, which stays
+pub look_before-requires-clause-fits : goal.look_before-requires-clause-fits
+look_before-requires-clause-fits g c = subst (λ (d : Design). FitsDesign d c.args.lat.now)
+    (sym c.loop-k.invariant.same.design_stays) c.requires.task.fits
+
+-- what was seen is lent to the pass
+pub one_pass-requires-clause-base : goal.one_pass-requires-clause-base
+one_pass-requires-clause-base g c = lent_seen c.args.lat.now c.loop-k.board c.as_ref.result c.in_ok-base.base
+    c.as_ref.ensures.value c.in_ok-base.ensures
 
 pub returns-then-not-may_follow-clause-passed : goal.returns-then-not-may_follow-clause-passed
 returns-then-not-may_follow-clause-passed g c =
@@ -62,6 +77,8 @@ loop-k-preserved g c =
       open_nets = c.in_ok-made.ensures.open_nets;
       same = stays_on (pass_at m c.args.via_cost c.args.workers (c.loop-k.k + 1)) c.args.board c.loop-k.board made.board
           before.same is.grows;
+      last = still_seen m c.loop-k.board made.board c.in_ok-base.base (grown_by _ c.loop-k.board made.board is.grows)
+          c.in_ok-base.ensures;
     }
 
 pub returns-clause-ended : goal.returns-clause-ended

@@ -12,9 +12,9 @@ returns g c =
     let node = c.args.node in
     let i = c.args.i in
     let few : c.args.fixed < 255 = omega (arith, c.ranges.fixed, c.if-fixed-eq255.false) in
-    on_then c.is_away.result ((i < 4) × IsOutOfAll t.lat.now s.own node)
+    on_then c.is_off.result (IsOutOfAll t.lat.now s.own node)
     (¬ (IsOpen t.d.now t.d.now.fixed t.net (probe_at t.d.now t.lat.now t.net node i)))
-    (λ away. fixed_shut t.d.now t.lat.now (g.C.Copper.items t.c.now) t.net s.by_map.map.now c.args.self.now.fixed.now
-    s.own c.requires.maps c.requires.can_rip.can_move.sound
-    (g.met.C.Copper.serving t.c.now t.d.now c.requires.serves) node i c.requires.node c.args.fixed away.0 few
-    c.requires.counted c.requires.tally away.1) c.is_away.ensures
+    (fixed_shut t.d.now t.lat.now (g.C.Copper.items t.c.now) t.net s.by_map.map.now c.args.self.now.fixed.now s.own
+    c.requires.maps c.requires.can_rip.can_move.sound
+    (g.met.C.Copper.serving t.c.now t.d.now c.requires.serves) node i c.requires.node c.requires.index c.args.fixed few
+    c.requires.counted c.requires.tally) c.is_off.ensures

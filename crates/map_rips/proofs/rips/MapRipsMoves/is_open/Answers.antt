@@ -8,4 +8,4 @@ returns-then-fixed-eq0-clause-opens g c =
     fixed_opens t.d.now t.lat.now (g.C.Copper.items t.c.now) t.net s.by_map.map.now c.args.self.now.fixed.now s.own
     c.requires.ready.1 c.requires.ready.0.0.can_move.sound
     (g.met.C.Copper.serving t.c.now t.d.now c.requires.ready.0.1) c.args.node c.args.i c.requires.node
-    c.fixed_tally-fixed.result c.if-fixed-eq0.true c.fixed_tally-fixed.ensures
+    c.requires.index c.fixed_tally-fixed.result c.if-fixed-eq0.true c.fixed_tally-fixed.ensures

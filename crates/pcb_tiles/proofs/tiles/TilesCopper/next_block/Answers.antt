@@ -6,9 +6,9 @@ use Rattle.pcb_tiles.specs.Spread.{Spread}
 use Rattle.pcb_tiles.specs.Shelves.{flat}
 use Rattle.pcb_tiles.proofs.tiles.TilesCopper.next_block.Goals as goal
 
-pub returns : goal.returns
-returns g c =
+pub returns-clause-finds : goal.returns-clause-finds
+returns-clause-finds g c =
     let e : flat c.self.inside.shelf ≡ c.args.self.now.items = ap (λ (t : Spread). t.items) c.self.view_is in
     subst (λ (items : List Item). Finds (λ b. ProbeAgrees c.args.d.now c.args.net c.args.p.now b → ⊥)
     (ProbeAgrees c.args.d.now c.args.net c.args.p.now) c.args.from None items c.least_block.result) e
-    c.least_block.ensures
+    c.least_block.ensures.finds

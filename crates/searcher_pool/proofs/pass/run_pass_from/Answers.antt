@@ -1,5 +1,5 @@
 use Rattle.searcher_pool.proofs.Crews.{grows_by_none}
-use Rattle.searcher_pool.proofs.pass.run_pass.Goals as goal
+use Rattle.searcher_pool.proofs.pass.run_pass_from.Goals as goal
 
 pub returns-in-Err-new-clause-back : goal.returns-in-Err-new-clause-back
 returns-in-Err-new-clause-back g c =

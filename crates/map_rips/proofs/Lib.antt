@@ -1,1 +1,4 @@
-pub mod Passed
+pub mod Parting
+pub mod Alike
+pub mod Telling
+pub mod Serving

@@ -1,7 +1,7 @@
 //! The plans of workers and the offers of the closing pass: by which moves each is searched.
 //! A search goes over the copper, over given moves, or over maps where the net has one.
 
-ghost use Rattle.std.specs.Prelude.{◌≡◌, ◌≤◌, ◌<◌, ℕ, None, Some, IfOk};
+ghost use Rattle.std.specs.Prelude.{◌≡◌, ◌≤◌, ◌<◌, ℕ, None, Some, IfOk, IfSome};
 ghost use Rattle.route_lattice.specs.Mesh.{node_count};
 ghost use Rattle.route_lattice.specs.Legal.{legal_graph};
 ghost use Rattle.cut_certificate.specs.Same.{SameMoves};
@@ -155,7 +155,8 @@ fn plan_legal_by_maps(
     }
 }
 
-/// `plan_passing_in` by maps of the snapshot's copper, where the net has one.
+/// `plan_passing_in` by maps of the snapshot's copper and of the design's fixed items, where they are given and the net
+/// has one.
 fn plan_passing_by_maps(
     alloc: Global,
     search: &mut Search,
@@ -163,6 +164,7 @@ fn plan_passing_by_maps(
     d: &Design,
     snap: &Snap,
     maps: &MoveMaps,
+    fixed: Option<&MoveMaps>,
     via_cost: u64,
     worker: u32,
     net: u32,
@@ -170,13 +172,19 @@ fn plan_passing_by_maps(
 ) -> Result<Planned, AllocError>
     requires can_plan { CanPlan d.now lat.now snap.now net via_cost (Some penalty) }
     requires maps { AreMapsOf d.now lat.now snap.now.items maps.now }
+    requires fixed { IfSome fixed (λ f. AreMapsOf d.now lat.now d.now.fixed f.now) }
     requires worker { worker ≤ 16 }
     requires size { search.old ≡ node_count lat.now }
     ensures plan { IfOk result (λ p. (b : BoardOf) → IsSnapOf snap.now b
         → Plans lat.now via_cost b worker net (Some penalty) p) }
     ensures size { search.new ≡ search.old }
 {
-    match rips_of(maps, lat, d, snap, net, via_cost, penalty) {
+    let Some(fixed) = fixed else {
+        return plan_passing_in(alloc, search, lat, d, snap, via_cost, worker, net, penalty);
+    };
+    match rips_of(
+        alloc, maps, fixed, lat, d, snap, net, via_cost, penalty,
+    )? {
         Some(moves) => plan_passing_with(
             alloc, search, lat, d, snap, &moves, via_cost, worker, net, penalty,
         ),
@@ -238,7 +246,8 @@ pub fn plan_with<M: Moves>(
     }
 }
 
-/// `plan_in` by maps of the snapshot's copper, where the net has one.
+/// `plan_in` by maps of the snapshot's copper, where the net has one; with a penalty only where the maps of the
+/// design's fixed items are given too.
 pub fn plan_by_maps(
     alloc: Global,
     search: &mut Search,
@@ -246,6 +255,7 @@ pub fn plan_by_maps(
     d: &Design,
     snap: &Snap,
     maps: &MoveMaps,
+    fixed: Option<&MoveMaps>,
     via_cost: u64,
     worker: u32,
     net: u32,
@@ -253,6 +263,7 @@ pub fn plan_by_maps(
 ) -> Result<Planned, AllocError>
     requires can_plan { CanPlan d.now lat.now snap.now net via_cost penalty }
     requires maps { AreMapsOf d.now lat.now snap.now.items maps.now }
+    requires fixed { IfSome fixed (λ f. AreMapsOf d.now lat.now d.now.fixed f.now) }
     requires worker { worker ≤ 16 }
     requires size { search.old ≡ node_count lat.now }
     ensures plan { IfOk result (λ p. (b : BoardOf) → IsSnapOf snap.now b
@@ -261,9 +272,9 @@ pub fn plan_by_maps(
 {
     match penalty {
         None => plan_legal_by_maps(alloc, search, lat, d, snap, maps, via_cost, worker, net),
-        Some(p) => {
-            plan_passing_by_maps(alloc, search, lat, d, snap, maps, via_cost, worker, net, p)
-        }
+        Some(p) => plan_passing_by_maps(
+            alloc, search, lat, d, snap, maps, fixed, via_cost, worker, net, p,
+        ),
     }
 }
 

@@ -1,5 +1,5 @@
 -- What a worker has seen last, and what a plan on it says.
-use Rattle.std.proofs.Common.{◌≡◌, ℕ, sym, subst, List, Option, Some, None, Result, IfOk}
+use Rattle.std.proofs.Common.{◌≡◌, ℕ, sym, ap, ◌∙◌, subst, List, Option, Some, None, Result, IfOk}
 use Rattle.std.specs.Prelude.{IfSome}
 use Rattle.pcb_model.specs.declared.design.Design.{Design}
 use Rattle.route_lattice.specs.Mesh.{Mesh}
@@ -17,7 +17,8 @@ use Rattle.board_turn.specs.Events.{Reaches, IsPrefix}
 use Rattle.board_turn.specs.Turns.{TurnOf, opening}
 use Rattle.board_turn.proofs.EventLists.{reaches_grows, reaches_one, reaches_parts}
 use Rattle.searcher_pool.specs.Passes.{PassOf}
-use Rattle.searcher_pool.specs.Working.{HasSeen}
+use Rattle.searcher_pool.specs.declared.worker.Job.{Job}
+use Rattle.searcher_pool.specs.Working.{HasSeen, HasFixed}
 
 -- ---- what was seen last
 -- what was seen stays seen where the pass sees more
@@ -84,3 +85,17 @@ pub plans_on : {E : Type 0} (m : Mesh) (s : SnapOf) (sight : Sight) (via_cost wo
 plans_on m s sight via_cost worker net penalty r is h =
     subst (λ (x : SnapOf). IfOk r (λ p. (b : BoardOf) → IsSnapOf x b → Plans m via_cost b worker net penalty p))
     is.snap_is h
+
+-- the maps of the fixed items are so on the sight
+pub fixed_seen : (j : Job) (s : SnapOf) (sight : Sight) (d : Design) → IsSightOf j.lat.now s sight
+    → d ≡ sight.snap.design → HasFixed j s.design → IfSome j.fixed (λ f. AreMapsOf d j.lat.now d.fixed f.now)
+fixed_seen j s sight d is design_is has =
+    subst (λ (x : Design). IfSome j.fixed (λ f. AreMapsOf x j.lat.now x.fixed f.now)) (sym design_is)
+    (subst (λ (x : SnapOf). IfSome j.fixed (λ f. AreMapsOf x.design j.lat.now x.design.fixed f.now)) (sym is.snap_is)
+    has.maps)
+
+-- the design of a board that events leave is that of the first one
+pub fixed_still : (j : Job) (t : TurnOf) (es : List Event) (b : BoardOf) (s : SnapOf) → Reaches (opening t) es b
+    → s ≡ snap_of b → HasFixed j (opening t).design → HasFixed j s.design
+fixed_still j t es b s reached is has =
+    subst (HasFixed j) (sym (ap (λ (x : SnapOf). x.design) is ∙ (reaches_grows (opening t) b es reached).design_stays)) has

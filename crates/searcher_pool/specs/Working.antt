@@ -5,6 +5,7 @@ use Rattle.pcb_model.specs.declared.design.Design.{Design}
 use Rattle.pcb_model.specs.Plain.{IsPlainCopper}
 use Rattle.route_lattice.specs.Mesh.{Mesh, node_count}
 use Rattle.route_lattice.specs.Fits.{FitsDesign}
+use Rattle.move_maps.specs.Maps.{AreMapsOf}
 use Rattle.pcb_board.specs.declared.answer.Answer.{Answer}
 use Rattle.pcb_board.specs.declared.answer.Answer.TheVariants.{Committed, Stale}
 use Rattle.pcb_board.specs.Boards.{BoardOf, is_worker, worker_entries}
@@ -54,6 +55,10 @@ pub record IsTurnOf (p : PassOf) (t : TurnOf) : Type 0 where
   pub task : IsTask p (opening t).design
   pub count : count_of t ≡ p.workers
   pub few : p.workers ≤ 16
+
+-- the maps of a job, if it has any, are those of the design's fixed items alone
+pub record HasFixed (j : Job) (d : Design) : Type 0 where
+  pub maps : IfSome j.fixed (λ f. AreMapsOf d j.lat.now d.fixed f.now)
 
 -- ---- what a worker knows
 -- the offers among events, with their answers

@@ -9,7 +9,7 @@ ghost use Rattle.claim_counter.specs.Claims.{hand, times};
 ghost use Rattle.board_sight.specs.Sights.{IsSeenOn};
 ghost use Rattle.board_turn.specs.Turns.{passes_of, opening};
 ghost use Rattle.searcher_pool.specs.Passes.{claimed};
-ghost use Rattle.searcher_pool.specs.Working.{pass_of, IsTurnOf, MayWork, Worked};
+ghost use Rattle.searcher_pool.specs.Working.{pass_of, IsTurnOf, HasFixed, MayWork, Worked};
 ghost use Rattle.searcher_pool.specs.Crews.{AreFresh, AreBack, AreLogsOf, AreEnded};
 
 use crate::log::WorkerLog;
@@ -89,6 +89,7 @@ fn work_padded<R: Wait, G: Gate>(
     w: &mut CachePadded<Worker>,
 )
     requires turn { IsTurnOf (pass_of job) turn.now }
+    requires fixed { HasFixed job (opening turn.now).design }
     requires base { IfSome job.base (λ s. IsSeenOn job.lat.now (opening turn.now) s.now) }
     requires few { length job.tasks.now < 2 ^ 32 }
     requires counter { counter.now.tasks ≡ length job.tasks.now }
@@ -108,6 +109,7 @@ fn all_work<R: Threads + Wait + Sync, G: Gate + Sync>(
     workers: &mut [CachePadded<Worker>],
 )
     requires turn { IsTurnOf (pass_of job) turn.now }
+    requires fixed { HasFixed job (opening turn.now).design }
     requires base { IfSome job.base (λ s. IsSeenOn job.lat.now (opening turn.now) s.now) }
     requires few { length job.tasks.now < 2 ^ 32 }
     requires counter { counter.now.tasks ≡ length job.tasks.now }
@@ -139,6 +141,7 @@ pub(crate) fn crew_works<R: Threads + Wait + Sync, G: Gate + Sync>(
     crew: &mut Crew,
 )
     requires turn { IsTurnOf (pass_of job) turn.now }
+    requires fixed { HasFixed job (opening turn.now).design }
     requires base { IfSome job.base (λ s. IsSeenOn job.lat.now (opening turn.now) s.now) }
     requires few { length job.tasks.now < 2 ^ 32 }
     requires counter { counter.now.tasks ≡ length job.tasks.now }

@@ -2,10 +2,13 @@
 
 ghost use Rattle.std.specs.Prelude.{◌≡◌, ◌<◌, ◌≤◌, ◌^◌, IfOk, IfErr, IfSome, false, length, vec_capacity};
 ghost use Rattle.std.specs.Prelude.{vec_len};
+ghost use Rattle.pcb_model.specs.Sound.{IsSound};
+ghost use Rattle.route_lattice.specs.Fits.{FitsDesign};
+ghost use Rattle.move_maps.specs.Maps.{AreMapsOf};
 ghost use Rattle.board_sight.specs.Sights.{IsSeenOn};
 ghost use Rattle.board_turn.specs.Turns.{passes_of, opening};
 ghost use Rattle.searcher_pool.specs.Passes.{IsPassed, Grows};
-ghost use Rattle.searcher_pool.specs.Working.{pass_of, pass_from, IsTask, IsTurnOf};
+ghost use Rattle.searcher_pool.specs.Working.{pass_of, pass_from, IsTask, IsTurnOf, HasFixed};
 ghost use Rattle.searcher_pool.specs.Crews.{AreRooms};
 
 use crate::crew::{Crew, crew_works, dismiss, searches, staff};
@@ -15,7 +18,10 @@ use board_sight::Sight;
 use board_turn::{Pass, Turn};
 use claim_counter::{Claimer, Counter};
 use desk_io::Gate;
+use map_rips::fixed_maps;
+use move_maps::MoveMaps;
 use pcb_board::{Board, PassBack};
+use pcb_model::Design;
 use route_lattice::Lattice;
 use std::alloc::{AllocError, Global};
 use std::sync::Wait;
@@ -30,6 +36,23 @@ struct Rooms {
     logs: Vec<WorkerLog>,
     counter: Counter,
     home: Claimer,
+}
+
+// The maps of the moves on the design's fixed items, where there is a penalty.
+fn fixed_for(
+    alloc: Global,
+    lat: &Lattice,
+    d: &Design,
+    penalty: Option<u64>,
+) -> Result<Option<MoveMaps>, AllocError>
+    requires sound { IsSound d.now }
+    requires fits { FitsDesign d.now lat.now }
+    ensures { IfOk result (λ o. IfSome o (AreMapsOf d.now lat.now d.now.fixed)) }
+{
+    match penalty {
+        Some(_) => Ok(Some(fixed_maps(alloc, lat, d)?)),
+        None => Ok(None),
+    }
 }
 
 fn make_rooms(alloc: Global, job: Job<'_>) -> Result<Rooms, AllocError>
@@ -59,6 +82,7 @@ fn turn_over<R: Threads + Wait + Sync, G: Gate + Sync>(
     gate: &G,
 ) -> (Board, Vec<WorkerLog>, bool)
     requires turn { IsTurnOf (pass_of job) turn }
+    requires fixed { HasFixed job (opening turn).design }
     requires base { IfSome job.base (λ s. IsSeenOn job.lat.now (opening turn) s.now) }
     requires some { 0 < job.workers }
     requires few { length job.tasks.now < 2 ^ 32 }
@@ -130,6 +154,10 @@ pub fn run_pass_from<R: Threads + Wait + Sync, G: Gate + Sync>(
         (λ e. Grows (pass_from lat.now via_cost workers tasks.items penalty) board e.board) }
 {
     board.keeps();
+    let fixed = match fixed_for(alloc, lat, board.design(), penalty) {
+        Ok(fixed) => fixed,
+        Err(cause) => return Err(PassBack { board, cause }),
+    };
     let job = Job {
         lat,
         via_cost,
@@ -137,6 +165,7 @@ pub fn run_pass_from<R: Threads + Wait + Sync, G: Gate + Sync>(
         tasks: tasks.as_slice(),
         penalty,
         base,
+        fixed: fixed.as_ref(),
     };
     let rooms = match make_rooms(alloc, job) {
         Ok(rooms) => rooms,

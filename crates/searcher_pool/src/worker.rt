@@ -8,7 +8,7 @@ ghost use Rattle.route_plan.specs.Plans.{CanPlan, IsSnapOf, Plans};
 ghost use Rattle.board_turn.specs.Turns.{opening};
 ghost use Rattle.searcher_pool.specs.Working.{pass_of, IsTurnOf, IsReady, IsDrawn, IsPlanned, IsAfter, Attempts};
 ghost use Rattle.searcher_pool.specs.Working.{attempt_of, EndsSeen, EndsDrawn, IsSeated, MayWork, Worked};
-ghost use Rattle.searcher_pool.specs.Working.{HasSeen};
+ghost use Rattle.searcher_pool.specs.Working.{HasSeen, HasFixed};
 
 use crate::log::OfferNote;
 use board_sight::{Sight, see};
@@ -16,6 +16,7 @@ use board_turn::{Pass, Turn, events_keep};
 use claim_counter::{Claimer, Counter};
 use desk_io::Gate;
 use late_offer::late_offers_are_fair;
+use move_maps::MoveMaps;
 use pcb_board::{Answer, Offer, Snap, boards_serve, copy_offer, ids_stay};
 use route_lattice::Lattice;
 use route_plan::{Planned, plan_by_maps};
@@ -27,7 +28,7 @@ use wave_search::Search;
 const MOST_LATE: u32 = 8;
 
 /// What a pass goes by: the lattice, the price of a via, how many workers there are, the nets of its tasks, the penalty,
-/// and what was seen of the board before.
+/// what was seen of the board before, and maps of the moves on the fixed items alone.
 #[derive(Clone, Copy)]
 pub(crate) struct Job<'a> {
     pub lat: &'a Lattice,
@@ -36,6 +37,7 @@ pub(crate) struct Job<'a> {
     pub tasks: &'a [u32],
     pub penalty: Option<u64>,
     pub base: Option<&'a Sight>,
+    pub fixed: Option<&'a MoveMaps>,
 }
 
 /// A worker: its number, its pass of the turn and its seat at the counter of tasks, the places that it drew, what it
@@ -121,6 +123,7 @@ fn plan_on(
     sight: &mut Option<Sight>,
 ) -> Result<Planned, AllocError>
     requires can_plan { CanPlan snap.design job.lat.now snap net job.via_cost job.penalty }
+    requires fixed { HasFixed job snap.design }
     requires number { number ≤ 16 }
     requires size { search.old ≡ node_count job.lat.now }
     requires sight { IfSome sight.old (λ s. IsLater job.lat.now s snap) }
@@ -137,6 +140,7 @@ fn plan_on(
         seen.snap.design(),
         &seen.snap,
         &seen.maps,
+        job.fixed,
         job.via_cost,
         number,
         net,
@@ -158,6 +162,7 @@ fn plan_and_offer<R: Wait, G: Gate>(
     sight: &mut Option<Sight>,
 ) -> Result<Attempt, AllocError>
     requires turn { IsTurnOf (pass_of job) turn.now }
+    requires fixed { HasFixed job (opening turn.now).design }
     requires drawn { IsDrawn (pass_of job) w.old.drawn.items net }
     requires net { net < length (opening turn.now).design.nets }
     requires ready { IsReady (pass_of job) turn.now w.old }
@@ -193,6 +198,7 @@ fn work_off<R: Wait, G: Gate>(
     sight: &mut Option<Sight>,
 ) -> Result<(), AllocError>
     requires turn { IsTurnOf (pass_of job) turn.now }
+    requires fixed { HasFixed job (opening turn.now).design }
     requires drawn { IsDrawn (pass_of job) w.old.drawn.items net }
     requires net { net < length (opening turn.now).design.nets }
     requires ready { IsReady (pass_of job) turn.now w.old }
@@ -237,6 +243,7 @@ fn draw_all<R: Wait, G: Gate>(
     sight: &mut Option<Sight>,
 ) -> Result<(), AllocError>
     requires turn { IsTurnOf (pass_of job) turn.now }
+    requires fixed { HasFixed job (opening turn.now).design }
     requires few { length job.tasks.now < 2 ^ 32 }
     requires counter { counter.now.tasks ≡ length job.tasks.now }
     requires may_work { MayWork (pass_of job) turn.now counter.now w.old }
@@ -270,6 +277,7 @@ fn draw_from<R: Wait, G: Gate>(
     w: &mut Worker,
 ) -> Result<(), AllocError>
     requires turn { IsTurnOf (pass_of job) turn.now }
+    requires fixed { HasFixed job (opening turn.now).design }
     requires base { IfSome job.base (λ s. IsSeenOn job.lat.now (opening turn.now) s.now) }
     requires few { length job.tasks.now < 2 ^ 32 }
     requires counter { counter.now.tasks ≡ length job.tasks.now }
@@ -295,6 +303,7 @@ pub(crate) fn work<R: Wait, G: Gate>(
     w: &mut Worker,
 )
     requires turn { IsTurnOf (pass_of job) turn.now }
+    requires fixed { HasFixed job (opening turn.now).design }
     requires base { IfSome job.base (λ s. IsSeenOn job.lat.now (opening turn.now) s.now) }
     requires few { length job.tasks.now < 2 ^ 32 }
     requires counter { counter.now.tasks ≡ length job.tasks.now }

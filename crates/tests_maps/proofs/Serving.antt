@@ -23,32 +23,8 @@ use Rattle.route_lattice.specs.Mesh.{Mesh}
 use Rattle.move_maps.specs.declared.map.GroupMap.{GroupMap}
 use Rattle.copper_change.specs.Changes.{IsMerge}
 use Rattle.move_maps.specs.Maps.{AreMapsOf, FollowFrom}
+use Rattle.map_rips.proofs.Serving.{fixed_at, fixed_serve}
 use Rattle.tests_maps.specs.Laying.{IsLaidOn}
-
--- a fixed item of a sound design
-pub fixed_at : (d : Design) → IsSound d → (k : ℕ) (x : Item) → k < length d.fixed
-    → IsFixedSound d k (get_or d.fixed k x)
-fixed_at d sound k x within = sound.fixed k (get_or d.fixed k x) (slice_get-get_or d.fixed k x within)
-
--- an item of the design
-abbrev IsFixed : Item → Type 0
-IsFixed a = a.fixed ≡ true
-
--- items that are all fixed
-kept : (xs : List Item) → All IsFixed xs → filter is_fixed xs ≡ xs
-kept [] fixed = refl
-kept (x ∷ xs) fixed =
-    subst (λ (b : Bool). cond b (x ∷ filter is_fixed xs) (filter is_fixed xs) ≡ x ∷ xs)
-    (sym (fixed 0 x (omega arith)))
-    (ap (λ rest. x ∷ rest) (kept xs (λ k d within. fixed (suc k) d (omega arith))))
-
--- the fixed items serve the design
-pub fixed_serve : (d : Design) → IsSound d → Serves d.fixed d
-fixed_serve d sound = record {
-  design_fits = sound.fits;
-  fixed_there = kept d.fixed (λ k x within. (fixed_at d sound k x within).fixed);
-  items_fit = λ k x within. (fixed_at d sound k x within).item;
-}
 
 -- ---- the item that free wiring makes
 -- moved pieces lie on their layers

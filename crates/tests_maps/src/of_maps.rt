@@ -16,7 +16,7 @@ use route_lattice::{Lattice, LegalMoves, Moves};
 use std::alloc::{AllocError, Global};
 
 /// How many moves of a net were compared, how many of them are open, and how many the map opens by itself.
-type Seen = (u32, u32, u32);
+pub(crate) type Seen = (u32, u32, u32);
 
 /// Whether two kinds of moves answer alike for a move.
 fn are_alike<M: Moves, L: Moves>(moves: &M, legal: &L, node: u32, i: u32) -> bool
@@ -68,7 +68,7 @@ fn seen_at<M: Moves, L: Moves>(
 }
 
 /// What is seen of all moves, or None where the two answer otherwise.
-fn seen_by<M: Moves, L: Moves>(moves: &M, legal: &L, counts: &Counts) -> Option<Seen>
+pub(crate) fn seen_by<M: Moves, L: Moves>(moves: &M, legal: &L, counts: &Counts) -> Option<Seen>
     requires ready { M.ready moves.now }
     requires legal_ready { L.ready legal.now }
 {
@@ -127,7 +127,8 @@ fn seen_on(
     Some([first, second])
 }
 
-fn maps_of(alloc: Global, lat: &Lattice, d: &Design, c: &PlainCopper) -> Option<MoveMaps>
+/// The maps of the copper.
+pub(crate) fn maps_of(alloc: Global, lat: &Lattice, d: &Design, c: &PlainCopper) -> Option<MoveMaps>
     requires sound { IsSound d.now }
     requires fits { FitsDesign d.now lat.now }
     requires serves { Serves c.now d.now }

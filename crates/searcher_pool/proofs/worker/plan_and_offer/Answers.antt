@@ -3,7 +3,7 @@ use Rattle.route_plan.specs.Plans.{Plans}
 use Rattle.board_turn.specs.declared.event.Deed.TheVariants.{Looked, Idle}
 use Rattle.searcher_pool.specs.declared.worker.Worker.{Worker}
 use Rattle.searcher_pool.specs.Working.{Attempts, pass_of}
-use Rattle.searcher_pool.proofs.Following.{seen_still, seen_last, seen_before}
+use Rattle.searcher_pool.proofs.Following.{fixed_still, seen_still, seen_last, seen_before}
 use Rattle.searcher_pool.proofs.Knowing.{legal}
 use Rattle.searcher_pool.proofs.Steps.{attempt_on, board_kept, board_seen, ends_shut, ends_whole, on_ok, quiet, snap_is}
 use Rattle.searcher_pool.proofs.worker.plan_and_offer.Goals as goal
@@ -160,6 +160,13 @@ returns-in_err-snap-clause-sight g c =
     (quiet (pass_of c.args.job) c.args.turn.now c.args.w.now looked Idle c.in_err-snap.ensures.err.0 c.requires.ready
     (record { number = refl; size = c.requires.ready.size; drawn = refl; seat = refl; failed = refl }) refl refl refl
     c.in_err-snap.ensures.err.1).after.seen c.requires.sight
+
+pub plan_on-requires-clause-fixed : goal.plan_on-requires-clause-fixed
+plan_on-requires-clause-fixed g c =
+    let b = c.in_ok-snap.ensures.ok.0 in
+    fixed_still c.args.job c.args.turn.now c.snap.new.pass.seen b c.in_ok-snap.snap
+    (board_seen (pass_of c.args.job) c.args.turn.now c.requires.turn c.events_keep.ensures.boards c.args.w.now
+    c.snap.new.pass b c.requires.ready c.in_ok-snap.ensures.ok.1) c.in_ok-snap.ensures.ok.2 c.requires.fixed
 
 pub plan_on-requires-clause-sight : goal.plan_on-requires-clause-sight
 plan_on-requires-clause-sight g c =

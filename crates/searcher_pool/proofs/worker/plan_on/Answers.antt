@@ -1,4 +1,4 @@
-use Rattle.searcher_pool.proofs.Following.{may_plan, has_maps, plans_on}
+use Rattle.searcher_pool.proofs.Following.{may_plan, has_maps, fixed_seen, plans_on}
 use Rattle.searcher_pool.proofs.worker.plan_on.Goals as goal
 
 pub see-requires-clause-see : goal.see-requires-clause-see
@@ -17,6 +17,11 @@ pub plan_by_maps-planned-requires-clause-maps : goal.plan_by_maps-planned-requir
 plan_by_maps-planned-requires-clause-maps c =
     has_maps c.args.job.lat.now c.args.snap c.in_ok-seen.seen c.design.result.now c.in_ok-seen.ensures
     c.design.ensures
+
+pub plan_by_maps-planned-requires-clause-fixed : goal.plan_by_maps-planned-requires-clause-fixed
+plan_by_maps-planned-requires-clause-fixed c =
+    fixed_seen c.args.job c.args.snap c.in_ok-seen.seen c.design.result.now c.in_ok-seen.ensures c.design.ensures
+    c.requires.fixed
 
 pub returns-clause-plan : goal.returns-clause-plan
 returns-clause-plan c =

@@ -1,11 +1,13 @@
-use Rattle.move_maps.proofs.Tallies.{opens}
-use Rattle.map_rips.proofs.Passed.{way_alone}
+use Rattle.std.proofs.Common.{◌≡◌, ◌+◌, ◌*◌, arith, ap}
+use Rattle.ripup.proofs.Pricing.{price_small, charge_small}
 use Rattle.map_rips.proofs.rips.MapRipsMoves.price.Goals as goal
 
-pub returns-then-tally-eq0 : goal.returns-then-tally-eq0
-returns-then-tally-eq0 g c =
-    let s = c.args.self.now.rips.legal in
-    let items = g.C.Copper.items s.c.now in
-    way_alone s.d.now s.lat.now items s.net s.via_cost c.args.self.now.rips.penalty c.args.node c.args.i c.price.result
-    (opens s.d.now s.lat.now items c.args.self.now.map.now s.net c.args.node c.args.i c.tally.result c.requires.ready.1
-    c.requires.ready.2 c.requires.node c.requires.index c.tally.ensures c.if-tally-eq0.true) c.price.ensures
+pub overflow_add-result : goal.overflow_add-result
+overflow_add-result g c =
+    let s = c.args.self.now in
+    let t = s.moves.by_map.legal in
+    let can = c.requires.ready.0.0 in
+    let way = price_small t.d.now t.lat.now (g.C.Copper.items t.c.now) t.net t.via_cost s.penalty c.args.node c.args.i
+    can c.requires.node in
+    let charge = charge_small s.penalty c.in-Some.n can.small_penalty c.in-Some.ensures.few in
+    omega (arith, c.price.ensures, way, charge)

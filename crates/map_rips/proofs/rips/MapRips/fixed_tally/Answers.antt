@@ -1,0 +1,22 @@
+use Rattle.std.proofs.Common.{◌∙◌}
+use Rattle.move_maps.proofs.Tallies.{within, place}
+use Rattle.map_rips.proofs.Alike.{tally_at, other_tally}
+use Rattle.map_rips.proofs.rips.MapRips.fixed_tally.Goals as goal
+
+pub get-requires : goal.get-requires
+get-requires g c =
+    let t = c.args.self.now.moves.by_map.legal in
+    within t.d.now t.lat.now t.d.now.fixed c.args.self.now.fixed.now t.net t.arity c.args.node c.args.i
+    c.requires.maps.fixed_is c.requires.maps.fixed_alike t.arity_is c.requires.node c.requires.index
+
+pub returns : goal.returns
+returns g c =
+    let s = c.args.self.now.moves.by_map in
+    let t = s.legal in
+    let fixed = c.args.self.now.fixed.now in
+    other_tally t.d.now t.lat.now t.d.now.fixed fixed.first s.map.now.first t.net c.args.node c.args.i c.get.result
+    c.requires.maps.fixed_alike c.requires.maps.alike
+    (tally_at t.d.now t.lat.now t.d.now.fixed fixed t.net c.args.node c.args.i c.get.result c.requires.maps.fixed_is
+    c.requires.maps.fixed_alike c.requires.node c.requires.index
+    (c.get.ensures ∙ place t.d.now t.lat.now t.d.now.fixed fixed t.net t.arity c.args.node c.args.i
+    c.requires.maps.fixed_is c.requires.maps.fixed_alike t.arity_is))

@@ -106,7 +106,7 @@ number_at lib place n (p ∷ ps) i r few e =
 
 -- the number that a design gives to its i-th pin is i
 pub number_is : (lib : Library) (places : List Place) (i : ℕ) (r : PinRef) → length (refs_from lib 0 places) ≤ 2 ^ 32 - 1 → slice_get (refs_from lib 0 places) i ≡ Some r → counted_number (first_pins lib places) r ≡ i
-unfolding first_pins
+unfolding first_pins counted_number
 number_is lib places i r few e =
     let w = number_at lib 0 0 places i r (omega arith) e in
     let k : r.place ≡ w.k = omega (arith, w.place_is) in

@@ -1,7 +1,7 @@
 -- Sums of indices never end early in a design of sound parts, so each number that counts up is a place in a list.
 use Rattle.std.proofs.Common.{◌≡◌, ◌<◌, ◌≤◌, ◌+◌, ◌-◌, ◌++◌, ◌^◌, ◌∙◌, ap, sym, ℕ, suc, cond, Bool, true, false, List, [], ◌∷◌, Some, length, map, refl, arith}
 use Rattle.std.specs.Prelude.{All, filter, slice_get, unwrap_or}
-use Rattle.std.specs.List.{enumerate_from, flat_map, position_from}
+use Rattle.std.specs.List.{enumerate_from, flat_map}
 use Rattle.std.proofs.lemmas.Bool.{cond-true, false_from_ne_true}
 use Rattle.std.proofs.lemmas.List.{length-append, map-append}
 use Rattle.std.proofs.lemmas.List.Elements.{All-head, All-tail, All-weaker}
@@ -113,12 +113,12 @@ number_same lib places r few h =
     number_is lib places w.0 r few w.1 ∙ sym (place_is lib places w.0 r few w.1)
 
 -- ---- pins
-pins_at_same : (parts : Parts) (stacks : List Padstack) (c : PlacedComponent) (pin : ℕ) (is : List ImagePin) → pin + length is ≤ 2 ^ 32 - 1 → pins_at parts stacks c.number c.component c.place pin is ≡ map (pin_of parts stacks) (map (placed_pin c) (enumerate_from pin is))
+pins_at_same : (parts : Parts) (stacks : List Padstack) (c : PlacedComponent) (pin : ℕ) (is : List ImagePin) → pin + length is ≤ 2 ^ 32 - 1 → pins_at parts stacks c.number c.index c.place pin is ≡ map (pin_of parts stacks) (map (placed_pin c) (enumerate_from pin is))
 pins_at_same parts stacks c pin [] few = refl
 pins_at_same parts stacks c pin (i ∷ is) few =
     let next : plus pin 1 ≡ pin + 1 = omega arith in
     let here = pin_of parts stacks (placed_pin c (pin, i)) in
-    ap (λ n. here ∷ pins_at parts stacks c.number c.component c.place n is) next
+    ap (λ n. here ∷ pins_at parts stacks c.number c.index c.place n is) next
     ∙ ap (λ qs. here ∷ qs) (pins_at_same parts stacks c (pin + 1) is (omega arith))
 
 -- a count of placed components goes on

@@ -59,7 +59,7 @@ unfoldable pub first_pins : Library → List Place → List ℕ
 first_pins lib places = firsts_from lib 0 places
 
 -- the number of a pin, where the components' first pins have these numbers
-abbrev pub counted_number : List ℕ → PinRef → ℕ
+unfoldable pub counted_number : List ℕ → PinRef → ℕ
 counted_number firsts r = plus (unwrap_or (slice_get firsts r.place) 0) r.pin
 
 abbrev pub counted_nets : Parts → List Padstack → List Net

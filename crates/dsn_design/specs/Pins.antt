@@ -42,12 +42,12 @@ component_of lib p = record { name = p.name; image = image_name lib p; at = unwr
 
 -- a component that has coordinates: its number among those, its number in the placement, and its place
 pub record PlacedComponent : Type 0 where
-  pub component : ℕ
+  pub index : ℕ
   pub number : ℕ
   pub place : Place
 
 abbrev pub placed_as : ℕ × (ℕ × Place) → PlacedComponent
-placed_as e = record { component = e.0; number = e.1.0; place = e.1.1 }
+placed_as e = record { index = e.0; number = e.1.0; place = e.1.1 }
 
 abbrev pub has_place : ℕ × Place → Bool
 has_place e = is_placed e.1
@@ -106,7 +106,7 @@ is_smd stacks pin = option_map_or (λ (s : Padstack). is_on_one s.pieces) (slice
 
 unfoldable pub pin_of : Parts → List Padstack → PlacedPin → Pin
 pin_of parts stacks q = record {
-  component = q.component.component;
+  component = q.component.index;
   name = q.image_pin.name;
   net = net_of_pin parts.network.nets q.ref;
   centre = centre_of parts.structure.flip_last q.component.place q.image_pin;

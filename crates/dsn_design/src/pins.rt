@@ -298,6 +298,7 @@ pub(crate) fn first_pins(
 }
 
 /// The number of a pin, where the components' first pins have these numbers.
+#[tactic(auto, unfolding(crate::specs::Counts::counted_number))]
 pub(crate) fn pin_number(firsts: &List<u32>, pin: PinRef) -> u32
     ensures { result ≡ counted_number firsts.now pin }
 {

@@ -1,5 +1,6 @@
 -- What the private functions of `pins`, `nets`, `items` and `board` give: numbers that count up, and end at 2^32 - 1.
-use Rattle.std.specs.Prelude.{◌≡◌, ◌+◌, ◌-◌, ◌^◌, ◌++◌, min, ℕ, List, [], ◌∷◌, filter, length, map, slice_get, unwrap_or, if◌then◌else◌}
+use Rattle.std.specs.Prelude.{◌≡◌, ◌+◌, ◌-◌, ◌^◌, ◌++◌, min, ℕ, List, [], ◌∷◌, filter, length, map, slice_get}
+use Rattle.std.specs.Prelude.{unwrap_or, if◌then◌else◌}
 use Rattle.pcb_model.specs.declared.design.Component.{Component}
 use Rattle.pcb_model.specs.declared.design.Design.{Design}
 use Rattle.pcb_model.specs.declared.design.FreeWire.{FreeWire}
@@ -15,7 +16,8 @@ use Rattle.dsn_design.specs.declared.parts.Parts.{Parts}
 use Rattle.dsn_design.specs.Items.{ban_item, edge_item, fixed_wiring, free_wiring, numbered, pad_item, placed_ban}
 use Rattle.dsn_design.specs.Made.{ArePadstacksOf, design_with, structure_vias}
 use Rattle.dsn_design.specs.Nets.{net_of}
-use Rattle.dsn_design.specs.Pins.{component_of, image_bans, image_pins, is_placed, layer_count, pin_of, pin_ref, placed_as, placed_pin}
+use Rattle.dsn_design.specs.Pins.{component_of, image_bans, image_pins, is_placed, layer_count, pin_of, pin_ref}
+use Rattle.dsn_design.specs.Pins.{placed_as, placed_pin}
 
 -- a sum of indices, which ends at 2^32 - 1
 abbrev pub plus : ℕ → ℕ → ℕ
@@ -30,10 +32,13 @@ counted_components lib places = map (component_of lib) (filter is_placed places)
 -- of these pins of an image, the first has this number
 abbrev pub pins_at : Parts → List Padstack → ℕ → ℕ → Place → ℕ → List ImagePin → List Pin
 pins_at parts stacks place component p pin [] = []
-pins_at parts stacks place component p pin (i ∷ is) = pin_of parts stacks (placed_pin (placed_as (component, (place, p))) (pin, i)) ∷ pins_at parts stacks place component p (plus pin 1) is
+pins_at parts stacks place component p pin (i ∷ is) =
+    pin_of parts stacks (placed_pin (placed_as (component, (place, p))) (pin, i))
+    ∷ pins_at parts stacks place component p (plus pin 1) is
 
 unfoldable pub place_pins : Parts → List Padstack → ℕ → ℕ → Place → List Pin
-place_pins parts stacks place component p = if is_placed p then pins_at parts stacks place component p 0 (image_pins parts.library p) else []
+place_pins parts stacks place component p =
+    if is_placed p then pins_at parts stacks place component p 0 (image_pins parts.library p) else []
 
 abbrev pub next_component : ℕ → Place → ℕ
 next_component component p = if is_placed p then plus component 1 else component
@@ -41,7 +46,8 @@ next_component component p = if is_placed p then plus component 1 else component
 -- of these components, the first is number `place` of all, and `component` placed ones stand before it
 abbrev pub pins_from : Parts → List Padstack → ℕ → ℕ → List Place → List Pin
 pins_from parts stacks place component [] = []
-pins_from parts stacks place component (p ∷ ps) = place_pins parts stacks place component p ++ pins_from parts stacks (plus place 1) (next_component component p) ps
+pins_from parts stacks place component (p ∷ ps) =
+    place_pins parts stacks place component p ++ pins_from parts stacks (plus place 1) (next_component component p) ps
 
 unfoldable pub counted_pins : Parts → List Padstack → List Pin
 counted_pins parts stacks = pins_from parts stacks 0 0 parts.placing.places
@@ -63,16 +69,21 @@ unfoldable pub counted_number : List ℕ → PinRef → ℕ
 counted_number firsts r = plus (unwrap_or (slice_get firsts r.place) 0) r.pin
 
 abbrev pub counted_nets : Parts → List Padstack → List Net
-counted_nets p stacks = map (net_of stacks (counted_number (first_pins p.library p.placing.places)) (structure_vias p) p.network.classes) p.network.nets
+counted_nets p stacks =
+    map (net_of stacks (counted_number (first_pins p.library p.placing.places)) (structure_vias p) p.network.classes)
+    p.network.nets
 
 -- ---- keepouts and pads of placed components
 -- of these pins of an image, the first has these numbers
 abbrev pub pads_at : Parts → List Padstack → ℕ → Place → ℕ → ℕ → List ImagePin → List Item
 pads_at parts stacks place p pin number [] = []
-pads_at parts stacks place p pin number (i ∷ is) = pad_item parts stacks number (pin_ref place pin) p i ∷ pads_at parts stacks place p (plus pin 1) (plus number 1) is
+pads_at parts stacks place p pin number (i ∷ is) =
+    pad_item parts stacks number (pin_ref place pin) p i ∷ pads_at parts stacks place p (plus pin 1) (plus number 1) is
 
 abbrev pub placed_items : Parts → List Padstack → ℕ → ℕ → Place → List Item
-placed_items parts stacks place number p = map (placed_ban parts p) (image_bans parts.library p) ++ pads_at parts stacks place p 0 number (image_pins parts.library p)
+placed_items parts stacks place number p =
+    map (placed_ban parts p) (image_bans parts.library p)
+    ++ pads_at parts stacks place p 0 number (image_pins parts.library p)
 
 unfoldable pub place_items : Parts → List Padstack → ℕ → ℕ → Place → List Item
 place_items parts stacks place number p = if is_placed p then placed_items parts stacks place number p else []
@@ -83,7 +94,8 @@ next_number parts number p = if is_placed p then plus number (length (image_pins
 -- of these components, the first is number `place` of all, and `number` pins are placed before it
 abbrev pub items_from : Parts → List Padstack → ℕ → ℕ → List Place → List Item
 items_from parts stacks place number [] = []
-items_from parts stacks place number (p ∷ ps) = place_items parts stacks place number p ++ items_from parts stacks (plus place 1) (next_number parts number p) ps
+items_from parts stacks place number (p ∷ ps) =
+    place_items parts stacks place number p ++ items_from parts stacks (plus place 1) (next_number parts number p) ps
 
 -- ---- the whole
 unfoldable pub counted_items : Parts → List Padstack → List Item
@@ -93,7 +105,8 @@ counted_items parts stacks = numbered (map (edge_item (layer_count parts)) parts
     ++ fixed_wiring stacks parts.wiring.wires)))
 
 abbrev pub counted_with : Parts → List Padstack → List Item → List FreeWire → Design
-counted_with p stacks fixed free = design_with p stacks (counted_components p.library p.placing.places) (counted_pins p stacks) (counted_nets p stacks) fixed free
+counted_with p stacks fixed free = design_with p stacks (counted_components p.library p.placing.places)
+    (counted_pins p stacks) (counted_nets p stacks) fixed free
 
 abbrev pub counted_from : Parts → List Padstack → Design
 counted_from p stacks = counted_with p stacks (counted_items p stacks) (free_wiring p.wiring.wires)

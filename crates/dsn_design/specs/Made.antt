@@ -33,14 +33,16 @@ structure_vias p = stack_numbers p.library.stacks p.structure.vias
 
 -- how many lists and class names were passed over
 abbrev pub section_notes : Parts → ℕ
-section_notes p = p.head.notes + (p.structure.notes + (p.library.notes + (p.placing.notes + (p.network.notes + p.wiring.notes))))
+section_notes p = p.head.notes + (p.structure.notes
+    + (p.library.notes + (p.placing.notes + (p.network.notes + p.wiring.notes))))
 
 -- and padstacks of via lists that may not be vias
 abbrev pub notes_of : Parts → List Padstack → ℕ
 notes_of p stacks = capped (section_notes p + via_notes stacks (structure_vias p) p.network.classes)
 
 -- the design that the sections make, where it has these padstacks, components, pins, nets, fixed items and free wiring
-unfoldable pub design_with : Parts → List Padstack → List Component → List Pin → List Net → List Item → List FreeWire → Design
+unfoldable pub design_with : Parts → List Padstack → List Component → List Pin → List Net → List Item → List FreeWire
+    → Design
 design_with p stacks components pins nets fixed free = record {
   name = p.head.name;
   unit = p.head.unit;
@@ -63,10 +65,12 @@ design_with p stacks components pins nets fixed free = record {
 
 -- the nets, whose pins are numbered as those of the board
 abbrev pub nets_of : Parts → List Padstack → List Net
-nets_of p stacks = map (net_of stacks (pin_number (pin_refs p.library p.placing.places)) (structure_vias p) p.network.classes) p.network.nets
+nets_of p stacks = map (net_of stacks (pin_number (pin_refs p.library p.placing.places))
+    (structure_vias p) p.network.classes) p.network.nets
 
 abbrev pub design_from : Parts → List Padstack → Design
-design_from p stacks = design_with p stacks (components_of p.library p.placing.places) (all_pins p stacks) (nets_of p stacks) (fixed_items p stacks) (free_wiring p.wiring.wires)
+design_from p stacks = design_with p stacks (components_of p.library p.placing.places) (all_pins p stacks)
+    (nets_of p stacks) (fixed_items p stacks) (free_wiring p.wiring.wires)
 
 -- the padstacks are the library's, each usable or not by all rational points
 pub record ArePadstacksOf (p : Parts) (stacks : List Padstack) : Type 0 where

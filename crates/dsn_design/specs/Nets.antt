@@ -1,5 +1,6 @@
 -- Nets: their pins by number, their classes, and the usable padstacks of their vias.
-use Rattle.std.specs.Prelude.{◌+◌, ℕ, Bool, false, not, List, [], Option, None, Some, count_by, filter, map, slice_get, sum_by, unwrap_or}
+use Rattle.std.specs.Prelude.{◌+◌, ℕ, Bool, false, not, List, [], Option, None, Some, count_by, filter, map, slice_get}
+use Rattle.std.specs.Prelude.{sum_by, unwrap_or}
 use Rattle.std.specs.Option.{option_map_or}
 use Rattle.pcb_model.specs.declared.design.Net.{Net}
 use Rattle.pcb_model.specs.declared.design.Padstack.{Padstack}

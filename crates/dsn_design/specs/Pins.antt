@@ -1,5 +1,6 @@
 -- Placed components and their pins: each has a number, which is its place in a list.
-use Rattle.std.specs.Prelude.{◌==◌, ℕ, Bool, false, List, [], ◌∷◌, Option, filter, is_some, length, map, slice_get, unwrap_or}
+use Rattle.std.specs.Prelude.{◌==◌, ℕ, Bool, false, List, [], ◌∷◌, Option, filter, is_some, length, map, slice_get}
+use Rattle.std.specs.Prelude.{unwrap_or}
 use Rattle.std.specs.List.{enumerate_from, flat_map, list_all, position_from}
 use Rattle.std.specs.Option.{option_map, option_map_or}
 use Rattle.geo_kernel.specs.declared.point.Point.{Point}
@@ -38,7 +39,13 @@ abbrev pub image_bans : Library → Place → List BanShape
 image_bans lib p = option_map_or (λ (i : Image). i.bans) (slice_get lib.images p.image) []
 
 abbrev pub component_of : Library → Place → Component
-component_of lib p = record { name = p.name; image = image_name lib p; at = unwrap_or p.at origin; back = p.back; microdegrees = p.angle.microdegrees }
+component_of lib p = record {
+  name = p.name;
+  image = image_name lib p;
+  at = unwrap_or p.at origin;
+  back = p.back;
+  microdegrees = p.angle.microdegrees;
+}
 
 -- a component that has coordinates: its number among those, its number in the placement, and its place
 pub record PlacedComponent : Type 0 where

@@ -37,11 +37,13 @@ use Rattle.dsn_design.proofs.Numbered.{refs_from}
 use Rattle.dsn_design.proofs.Owned.{IsPinThere, first_here, is_itself, own_pins, same_pin, there_at}
 
 -- ---- lists
+-- what is made of each of a list that is there or not
 map_if : {X Y : Type 0} (b : Bool) (f : X → Y) (xs : List X) (ys : List Y) → (b ≡ true → map f xs ≡ ys)
     → map f (cond b xs []) ≡ cond b ys []
 map_if true f xs ys h = h refl
 map_if false f xs ys h = refl
 
+-- a list that is there or not
 same_if : {X : Type 0} (b : Bool) (xs ys : List X) → (b ≡ true → xs ≡ ys) → cond b xs [] ≡ cond b ys []
 same_if true xs ys h = h refl
 same_if false xs ys h = refl
@@ -57,28 +59,32 @@ map_agree f g (x ∷ xs) h = ap (λ y. y ∷ map f xs) (All-head (λ z. f z ≡ 
 abbrev placed_from : ℕ → ℕ → List Place → List PlacedComponent
 placed_from n k ps = map placed_as (enumerate_from k (filter has_place (enumerate_from n ps)))
 
+-- what is made of the first, which is placed or not, and then of the others
 rows_if : {Y : Type 0} (row : PlacedComponent → List Y) (b : Bool) (n k : ℕ) (p : Place) (rest : List (ℕ × Place))
-    → flat_map row (map placed_as (enumerate_from k (cond b ((n, p) ∷ rest) rest))) ≡ cond b
-    (row (placed_as (k, (n, p)))) [] ++ flat_map row (map placed_as (enumerate_from (cond b (k + 1) k) rest))
+    → flat_map row (map placed_as (enumerate_from k (cond b ((n, p) ∷ rest) rest)))
+    ≡ cond b (row (placed_as (k, (n, p)))) [] ++ flat_map row (map placed_as (enumerate_from (cond b (k + 1) k) rest))
 rows_if row true n k p rest = refl
 rows_if row false n k p rest = refl
 
 -- what is made of each, component by component
 rows : {Y : Type 0} (row : PlacedComponent → List Y) (n k : ℕ) (p : Place) (ps : List Place)
-    → flat_map row (placed_from n k (p ∷ ps)) ≡ cond (is_placed p) (row (placed_as (k, (n, p)))) [] ++ flat_map row
-    (placed_from (n + 1) (cond (is_placed p) (k + 1) k) ps)
+    → flat_map row (placed_from n k (p ∷ ps))
+    ≡ cond (is_placed p) (row (placed_as (k, (n, p)))) []
+    ++ flat_map row (placed_from (n + 1) (cond (is_placed p) (k + 1) k) ps)
 rows row n k p ps = rows_if row (is_placed p) n k p (filter has_place (enumerate_from (n + 1) ps))
 
 abbrev made : Library → PlacedComponent → Component
 made lib c = component_of lib c.place
 
+-- the first, which is placed or not, and then the others
 components_if : (lib : Library) (b : Bool) (n k : ℕ) (p : Place) (rest : List (ℕ × Place)) (kept : List Place)
     → ((m : ℕ) → map (made lib) (map placed_as (enumerate_from m rest)) ≡ map (component_of lib) kept)
-    → map (made lib) (map placed_as (enumerate_from k (cond b ((n, p) ∷ rest) rest))) ≡ map (component_of lib)
-    (cond b (p ∷ kept) kept)
+    → map (made lib) (map placed_as (enumerate_from k (cond b ((n, p) ∷ rest) rest)))
+    ≡ map (component_of lib) (cond b (p ∷ kept) kept)
 components_if lib true n k p rest kept h = ap (λ cs. component_of lib p ∷ cs) (h (k + 1))
 components_if lib false n k p rest kept h = h k
 
+-- the placed ones of a list
 components_same : (lib : Library) (n k : ℕ) (ps : List Place)
     → map (made lib) (placed_from n k ps) ≡ map (component_of lib) (filter is_placed ps)
 components_same lib n k [] = refl
@@ -94,11 +100,13 @@ components_are lib places = sym (components_same lib 0 0 places)
 abbrev ref_of : PlacedPin → PinRef
 ref_of q = q.ref
 
+-- those of a component
 refs_same : (c : PlacedComponent) (pin : ℕ) (is : List ImagePin)
     → map ref_of (map (placed_pin c) (enumerate_from pin is)) ≡ refs_at c.number pin is
 refs_same c pin [] = refl
 refs_same c pin (i ∷ is) = ap (λ rs. pin_ref c.number pin ∷ rs) (refs_same c (pin + 1) is)
 
+-- those of some components
 refs_from_same : (lib : Library) (n k : ℕ) (ps : List Place)
     → map ref_of (flat_map (component_pins lib) (placed_from n k ps)) ≡ refs_from lib n ps
 refs_from_same lib n k [] = refl
@@ -113,6 +121,7 @@ refs_from_same lib n k (p ∷ ps) =
         (λ b. refs_same c 0 (image_pins lib p)))
     ∙ ap (λ rs. place_refs lib n p ++ rs) (refs_from_same lib (n + 1) next ps)
 
+-- those of a board
 refs_all : (lib : Library) (places : List Place) → pin_refs lib places ≡ refs_from lib 0 places
 unfolding pin_refs board_pins placed_components
 refs_all lib places = refs_from_same lib 0 0 places
@@ -139,6 +148,7 @@ number_same lib places r few h =
     number_is lib places w.0 r few w.1 ∙ sym (place_is lib places w.0 r few w.1)
 
 -- ---- pins
+-- those of an image
 pins_at_same : (parts : Parts) (stacks : List Padstack) (c : PlacedComponent) (pin : ℕ) (is : List ImagePin)
     → pin + length is ≤ 2 ^ 32 - 1
     → pins_at parts stacks c.number c.index c.place pin is ≡ map (pin_of parts stacks)
@@ -155,15 +165,18 @@ count_on : (b : Bool) (k n m : ℕ) → k + suc n ≤ m → cond b (k + 1) k + n
 count_on true k n m h = omega arith
 count_on false k n m h = omega arith
 
+-- and it doesn't end early
 count_up : (b : Bool) (k n : ℕ) → k + suc n ≤ 2 ^ 32 - 1 → cond b (plus k 1) k ≡ cond b (k + 1) k
 count_up true k n h = omega arith
 count_up false k n h = refl
 
+-- a placed component has no more pins than references
 here_few : (lib : Library) (place : ℕ) (p : Place) (n : ℕ) → length (place_refs lib place p) ≤ n → is_placed p ≡ true
     → length (image_pins lib p) ≤ n
 here_few lib place p n h b = omega (arith, h, refs_count lib place p,
     cond-true (is_placed p) (length (image_pins lib p)) 0 b)
 
+-- those of a component that is placed or not
 place_pins_same : (parts : Parts) (stacks : List Padstack) (place component : ℕ) (p : Place)
     → length (place_refs parts.library place p) ≤ 2 ^ 32 - 1
     → place_pins parts stacks place component p ≡ map (pin_of parts stacks)
@@ -176,6 +189,7 @@ place_pins_same parts stacks place component p few =
         (pins_at parts stacks place component p 0 is)
     (λ b. sym (pins_at_same parts stacks c 0 is (omega (arith, here_few parts.library place p (2 ^ 32 - 1) few b)))))
 
+-- those of some components
 pins_same : (parts : Parts) (stacks : List Padstack) (place component : ℕ) (ps : List Place)
     → place + length ps ≤ 2 ^ 32 - 1 → component + length ps ≤ 2 ^ 32 - 1
     → length (refs_from parts.library place ps) ≤ 2 ^ 32 - 1
@@ -200,6 +214,7 @@ pins_same parts stacks place component (p ∷ ps) few less pins =
     ∙ sym (map-append (pin_of parts stacks) (cond (is_placed p) (component_pins lib c) []) more)
     ∙ ap (map (pin_of parts stacks)) (sym (rows (component_pins lib) place component p ps))
 
+-- those of a design
 pins_are : (parts : Parts) (stacks : List Padstack) → length parts.placing.places ≤ 2 ^ 32 - 1
     → length (refs_from parts.library 0 parts.placing.places) ≤ 2 ^ 32 - 1
     → counted_pins parts stacks ≡ all_pins parts stacks
@@ -207,11 +222,13 @@ unfolding counted_pins all_pins board_pins placed_components
 pins_are parts stacks few pins = pins_same parts stacks 0 0 parts.placing.places (omega arith) (omega arith) pins
 
 -- ---- nets
+-- a net whose pins have the same numbers
 net_same : (stacks : List Padstack) (f g : PinRef → ℕ) (vias : List ℕ) (classes : List ReadClass) (n : ReadNet)
     → map f n.pins ≡ map g n.pins → net_of stacks f vias classes n ≡ net_of stacks g vias classes n
 unfolding net_of
 net_same stacks f g vias classes n e = ap (λ (pins : List ℕ). record (net_of stacks f vias classes n) { pins = pins }) e
 
+-- those of a design
 nets_are : (p : Parts) (stacks : List Padstack) → ArePartsSound p
     → length (refs_from p.library 0 p.placing.places) ≤ 2 ^ 32 - 1 → counted_nets p stacks ≡ nets_of p stacks
 nets_are p stacks s few =
@@ -237,6 +254,7 @@ abbrev AreAt : Library → List Place → ℕ → List PinRef → Type 0
 AreAt lib places number refs = (j : ℕ) (r : PinRef) → slice_get refs j ≡ Some r
     → pin_number (pin_refs lib places) r ≡ number + j
 
+-- the pads of an image
 pads_same : (parts : Parts) (stacks : List Padstack) (c : PlacedComponent) (pin number : ℕ) (is : List ImagePin)
     → pin + length is ≤ 2 ^ 32 - 1 → number + length is ≤ 2 ^ 32 - 1
     → AreAt parts.library parts.placing.places number (refs_at c.number pin is)
@@ -256,7 +274,7 @@ pads_same parts stacks c pin number (i ∷ is) few less at =
     ∙ ap (λ xs. here ∷ xs) (pads_same parts stacks c (pin + 1) (number + 1) is (omega arith) (omega arith)
         (λ j s e. omega (arith, at (suc j) s e)))
 
--- those of a component that is placed or not
+-- keepouts and pads of a component that is placed or not
 place_items_same : (parts : Parts) (stacks : List Padstack) (place component number : ℕ) (p : Place)
     → number + length (place_refs parts.library place p) ≤ 2 ^ 32 - 1
     → AreAt parts.library parts.placing.places number (place_refs parts.library place p)
@@ -275,11 +293,13 @@ place_items_same parts stacks place component number p few at =
         (λ j r e. at j r (ap (λ (rs : List PinRef). slice_get rs j) (cond-true (is_placed p) (refs_at place 0 is) [] b)
             ∙ e))))
 
+-- a count of pins doesn't end early
 count_all : (b : Bool) (number k : ℕ) → number + cond b k 0 ≤ 2 ^ 32 - 1
     → cond b (plus number k) number ≡ number + cond b k 0
 count_all true number k h = omega arith
 count_all false number k h = omega arith
 
+-- those of some components
 items_same : (parts : Parts) (stacks : List Padstack) (place component number : ℕ) (ps : List Place)
     → place + length ps ≤ 2 ^ 32 - 1 → number + length (refs_from parts.library place ps) ≤ 2 ^ 32 - 1
     → AreAt parts.library parts.placing.places number (refs_from parts.library place ps)
@@ -305,6 +325,7 @@ items_same parts stacks place component number (p ∷ ps) few less at =
         (λ j r e. at j r (get_front here more j (slice_get_within here j r e) ∙ e)))
     ∙ sym (rows (component_items parts stacks) place component p ps)
 
+-- those of a design
 items_are : (parts : Parts) (stacks : List Padstack) → length parts.placing.places ≤ 2 ^ 32 - 1
     → length (refs_from parts.library 0 parts.placing.places) ≤ 2 ^ 32 - 1
     → counted_items parts stacks ≡ fixed_items parts stacks
@@ -312,13 +333,13 @@ unfolding counted_items fixed_items placed_components
 items_are parts stacks few pins =
     let lib = parts.library in
     let places = parts.placing.places in
-    ap (λ (xs : List Item). numbered
-        (map (edge_item (layer_count parts)) parts.structure.bounds ++ (map
-        (ban_item (layer_count parts)) parts.structure.bans ++ (xs ++ fixed_wiring stacks parts.wiring.wires))))
+    ap (λ (xs : List Item). numbered (map (edge_item (layer_count parts)) parts.structure.bounds
+        ++ (map (ban_item (layer_count parts)) parts.structure.bans ++ (xs ++ fixed_wiring stacks parts.wiring.wires))))
     (items_same parts stacks 0 0 0 places (omega arith) (omega arith)
         (λ j r e. omega (arith, place_is lib places j r pins e)))
 
 -- ---- the whole
+-- the counted design of sound parts is that of the definitions
 pub counted_are : (p : Parts) (stacks : List Padstack) → ArePartsSound p → counted_from p stacks ≡ design_from p stacks
 counted_are p stacks s =
     let lib = p.library in
@@ -335,5 +356,6 @@ counted_are p stacks s =
     ∙ ap (λ (xs : List Item). design_with p stacks (components_of lib places) (all_pins p stacks)
         (nets_of p stacks) xs free) (items_are p stacks few pins)
 
+-- so what is made by counting is the design of the parts
 pub counted_design : (p : Parts) (d : Design) → ArePartsSound p → IsCountedOf p d → IsDesignOf p d
 counted_design p d s h = record { padstacks = h.padstacks; design = h.design ∙ counted_are p d.padstacks s }

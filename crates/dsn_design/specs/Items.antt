@@ -90,8 +90,8 @@ pad_of parts stacks q = pad_item parts stacks
 
 -- a placed component's keepouts and then its pads
 abbrev pub component_items : Parts → List Padstack → PlacedComponent → List Item
-component_items parts stacks c = map (placed_ban parts c.place) (image_bans parts.library c.place) ++ map
-    (pad_of parts stacks) (component_pins parts.library c)
+component_items parts stacks c = map (placed_ban parts c.place) (image_bans parts.library c.place)
+    ++ map (pad_of parts stacks) (component_pins parts.library c)
 
 -- ---- wiring
 -- the pieces of a wire, and those of a via of one of these padstacks

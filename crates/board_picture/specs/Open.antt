@@ -5,10 +5,10 @@ use Rattle.geo_kernel.specs.declared.point.Point.{Point}
 use Rattle.pcb_model.specs.declared.item.Item.{Item}
 use Rattle.pcb_model.specs.declared.design.Pin.{Pin}
 use Rattle.pcb_model.specs.declared.design.Design.{Design}
+use Rattle.pcb_model.specs.Sound.{origin}
 use Rattle.pcb_islands.specs.declared.net.Island.{Island}
 use Rattle.pcb_islands.specs.Islands.{AreIslands}
 use Rattle.board_picture.specs.declared.open.OpenLine.{OpenLine}
-use Rattle.board_picture.specs.Sheet.{origin}
 
 abbrev pub centre_of : Design → ℕ → Point
 centre_of d pin = option_map_or (λ (p : Pin). p.centre) (slice_get d.pins pin) origin

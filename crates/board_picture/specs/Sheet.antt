@@ -6,6 +6,7 @@ use Rattle.std.specs.Int.{int_min, int_max}
 use Rattle.geo_kernel.specs.declared.point.Point.{Point}
 use Rattle.geo_kernel.specs.declared.point.Rect4.{Rect4}
 use Rattle.pcb_model.specs.declared.design.Design.{Design}
+use Rattle.pcb_model.specs.Sound.{origin}
 use Rattle.board_picture.specs.declared.sheet.Sheet.{Sheet}
 
 -- the least box of a box and a point
@@ -17,9 +18,6 @@ grown_by_loop b points = fold grown b points
 
 abbrev pub grown_by_bound : Rect4 → List (List Point) → Rect4
 grown_by_bound b loops = fold grown_by_loop b loops
-
-abbrev pub origin : Point
-origin = record { x = pos 0; y = pos 0 }
 
 -- the first point of the first boundary
 abbrev pub first_point : List (List (List Point)) → Point

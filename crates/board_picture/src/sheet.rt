@@ -2,8 +2,9 @@
 
 ghost use Rattle.std.specs.Prelude.{◌≡◌, ◌≤◌, ◌^◌, slice_index_or, []};
 ghost use Rattle.std.specs.Int.{int_min, int_max};
+ghost use Rattle.pcb_model.specs.Sound.{origin};
 ghost use Rattle.board_picture.specs.Sheet.{grown_by_loop, grown_by_bound, box_at, first_point, box_of};
-ghost use Rattle.board_picture.specs.Sheet.{sheet_in, sheet_of, sheet_width, sheet_height, rows_of, origin};
+ghost use Rattle.board_picture.specs.Sheet.{sheet_in, sheet_of, sheet_width, sheet_height, rows_of};
 ghost use Rattle.board_picture.specs.Sheet.{narrow_side, legend_left, shift_x, shift_y};
 
 use geo_kernel::{List, Point, Rect4};

@@ -1,14 +1,18 @@
 -- Each step keeps the rule.
-use Rattle.std.proofs.Common.{◌≡◌, ◌≢◌, ℕ, ◌+◌, ◌<◌, ◌≤◌, eqb, List, [], ◌∷◌, length, set, refl, sym, ap, ◌∙◌, subst, ⊎_elim, arith, length-set, All}
+use Rattle.std.proofs.Common.{◌≡◌, ◌≢◌, ℕ, ◌+◌, ◌<◌, ◌≤◌, eqb, List, [], ◌∷◌, length, set, refl, sym, ap, ◌∙◌, subst}
+use Rattle.std.proofs.Common.{⊎_elim, arith, length-set, All}
 use Rattle.std.specs.Prelude.{slice_index}
 use mathlib.Core.Option.{some, none}
 use lib.ListN.{get_elem?}
 use prog.Atomic.{either}
-use Rattle.atomic_table.specs.Table.{State, Me, Act, keeps, step, stepped, Allows, Splits, Joins, Valid, carried_after, Final, Seen}
+use Rattle.atomic_table.specs.Table.{State, Me, Act, keeps, step, stepped, Allows, Splits, Joins, Valid}
+use Rattle.atomic_table.specs.Table.{carried_after, Final, Seen}
 use Rattle.atomic_table.proofs.Lists.{at_set, at_snoc, set_again, exchanged}
 use Rattle.claim_counter.specs.declared.Hand.{Hand}
-use Rattle.claim_counter.specs.Claims.{total, times, once_below, saw, drew, less_one, newcomer, both_hands, spent, Claims, Looks, Draws}
-use Rattle.claim_counter.proofs.Totals.{total-set, total-snoc, total-at, total-only, total-none, times-append, once_below-suc, times-below}
+use Rattle.claim_counter.specs.Claims.{total, times, once_below, saw, drew, less_one, newcomer, both_hands, spent}
+use Rattle.claim_counter.specs.Claims.{Claims, Looks, Draws}
+use Rattle.claim_counter.proofs.Totals.{total-set, total-snoc, total-at, total-only, total-none, times-append}
+use Rattle.claim_counter.proofs.Totals.{once_below-suc, times-below}
 
 -- the only word, after a write
 word_is : (ws : List ℕ) (n : ℕ) → length ws ≡ 1 → slice_index (set ws 0 n) 0 ≡ n

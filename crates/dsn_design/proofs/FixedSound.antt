@@ -153,12 +153,12 @@ pad_net : (d : Design) (nets : List ReadNet) (o : Option ℕ) → length d.nets 
 pad_net d nets None e h = tt
 pad_net d nets (Some n) e h = omega arith
 
-pad_sound : (d : Design) (parts : Parts) (stacks : List Padstack) → length d.layers ≡ layer_count parts → length d.nets ≡ length parts.network.nets → IsLibrarySound parts.library → (place : ℕ) (p : Place) (pin number : ℕ) (i : ImagePin) → number < length d.pins → IsFixedOf d (pad_item parts stacks place p pin number i)
+pad_sound : (d : Design) (parts : Parts) (stacks : List Padstack) → length d.layers ≡ layer_count parts → length d.nets ≡ length parts.network.nets → IsLibrarySound parts.library → (place : ℕ) (p : Place) (pin number : ℕ) (i : ImagePin) → number < length d.pins → IsFixedOf d (pad_item parts stacks number (pin_ref place pin) p i)
 unfolding pad_item
 pad_sound d parts stacks e f lib place p pin number i h =
     let nets = parts.network.nets in
     let net = net_of_pin nets (pin_ref place pin) in
-    item_of_pieces d (layer_count parts) (pad_item parts stacks place p pin number i) e refl tt h (pad_net d nets net f (net_below nets (pin_ref place pin))) (pad_on parts lib p i)
+    item_of_pieces d (layer_count parts) (pad_item parts stacks number (pin_ref place pin) p i) e refl tt h (pad_net d nets net f (net_below nets (pin_ref place pin))) (pad_on parts lib p i)
 
 -- ---- wiring
 of_made : {X Y : Type 0} (P : Y → Type 0) (f : X → Y) (xs : List X) → All P (map f xs) → All (λ x. P (f x)) xs

@@ -10,6 +10,7 @@ pub mod Few
 pub mod Stands
 pub mod Numbered
 pub mod Owned
+pub mod Placed
 pub mod Padstacks
 pub mod FixedItems
 pub mod FixedSound

@@ -15,15 +15,16 @@ use Rattle.dsn_shapes.specs.declared.parts.PinRef.{PinRef}
 use Rattle.dsn_placement.specs.Places.{counted_by, pins_of as pins_placed}
 use Rattle.dsn_placement.specs.Sound.{placed_pins}
 use Rattle.dsn_design.specs.declared.parts.Parts.{Parts}
-use Rattle.dsn_design.specs.Pins.{all_pins, first_pins, firsts_from, image_pins, is_placed, net_of_pin, next_component, pin_count, pin_number, pin_of, pin_ref, pins_at, pins_from, place_pins, plus}
+use Rattle.dsn_design.specs.Counts.{counted_number, counted_pins, first_pins, firsts_from, next_component, pin_count, pins_at, pins_from, place_pins, plus}
+use Rattle.dsn_design.specs.Pins.{image_pins, is_placed, net_of_pin, pin_of, pin_ref}
 
 -- ---- lists end to end
-get_front : {X : Type 0} (xs ys : List X) (i : ℕ) → i < length xs → slice_get (xs ++ ys) i ≡ slice_get xs i
+pub get_front : {X : Type 0} (xs ys : List X) (i : ℕ) → i < length xs → slice_get (xs ++ ys) i ≡ slice_get xs i
 get_front [] ys i h = absurd (omega arith)
 get_front (x ∷ xs) ys zero h = refl
 get_front (x ∷ xs) ys (suc i) h = get_front xs ys i (omega arith)
 
-get_behind : {X : Type 0} (xs ys : List X) (n i : ℕ) → n ≡ length xs + i → slice_get (xs ++ ys) n ≡ slice_get ys i
+pub get_behind : {X : Type 0} (xs ys : List X) (n i : ℕ) → n ≡ length xs + i → slice_get (xs ++ ys) n ≡ slice_get ys i
 get_behind [] ys n i e = let f : n ≡ i = omega arith in ap (slice_get ys) f
 get_behind (x ∷ xs) ys zero i e = absurd (omega arith)
 get_behind (x ∷ xs) ys (suc n) i e = get_behind xs ys n i (omega arith)
@@ -104,8 +105,8 @@ number_at lib place n (p ∷ ps) i r few e =
     (cases_lt i (length here))
 
 -- the number that a design gives to its i-th pin is i
-pub number_is : (lib : Library) (places : List Place) (i : ℕ) (r : PinRef) → length (refs_from lib 0 places) ≤ 2 ^ 32 - 1 → slice_get (refs_from lib 0 places) i ≡ Some r → pin_number (first_pins lib places) r ≡ i
-unfolding first_pins
+pub number_is : (lib : Library) (places : List Place) (i : ℕ) (r : PinRef) → length (refs_from lib 0 places) ≤ 2 ^ 32 - 1 → slice_get (refs_from lib 0 places) i ≡ Some r → counted_number (first_pins lib places) r ≡ i
+unfolding first_pins counted_number
 number_is lib places i r few e =
     let w = number_at lib 0 0 places i r (omega arith) e in
     let k : r.place ≡ w.k = omega (arith, w.place_is) in
@@ -162,8 +163,8 @@ nets_from parts stacks place component (p ∷ ps) few less =
     ∙ ap (λ ns. map net (place_refs lib place p) ++ ns) (nets_from parts stacks (place + 1) (next_component component p) ps (omega arith) (omega arith))
     ∙ sym (map-append net (place_refs lib place p) (refs_from lib (place + 1) ps))
 
-pub nets_are : (parts : Parts) (stacks : List Padstack) → length parts.placing.places ≤ 2 ^ 32 - 1 → length (refs_from parts.library 0 parts.placing.places) ≤ 2 ^ 32 - 1 → map (λ (p : Pin). p.net) (all_pins parts stacks) ≡ map (net_of_pin parts.network.nets) (refs_from parts.library 0 parts.placing.places)
-unfolding all_pins
+pub nets_are : (parts : Parts) (stacks : List Padstack) → length parts.placing.places ≤ 2 ^ 32 - 1 → length (refs_from parts.library 0 parts.placing.places) ≤ 2 ^ 32 - 1 → map (λ (p : Pin). p.net) (counted_pins parts stacks) ≡ map (net_of_pin parts.network.nets) (refs_from parts.library 0 parts.placing.places)
+unfolding counted_pins
 nets_are parts stacks few less = nets_from parts stacks 0 0 parts.placing.places (omega arith) less
 
 -- ---- how many they are

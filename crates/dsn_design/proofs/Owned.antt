@@ -23,7 +23,8 @@ use Rattle.dsn_network.specs.Owners.{pins_of}
 use Rattle.dsn_network.specs.Sound.{IsImagePin, IsNetworkSound, IsPlacedPin, IsReadNetSound}
 use Rattle.dsn_shapes.specs.Names.{place_index}
 use Rattle.dsn_design.specs.declared.parts.Parts.{Parts}
-use Rattle.dsn_design.specs.Pins.{all_pins, first_pins, image_pins, is_placed, net_of_pin, pin_number, pin_ref}
+use Rattle.dsn_design.specs.Counts.{counted_number, counted_pins, first_pins}
+use Rattle.dsn_design.specs.Pins.{image_pins, is_placed, net_of_pin, pin_ref}
 use Rattle.dsn_design.proofs.Numbered.{nets_are, number_is, ref_is_there, refs_from}
 
 -- ---- the first place at which a test passes
@@ -42,7 +43,7 @@ found_at : {X : Type 0} (test : X → Bool) (xs : List X) (i n : ℕ) → positi
 found_at test [] i n e = absurd (cc)
 found_at test (x ∷ xs) i n e = found_if (test x) test x xs i n refl (found_at test xs (i + 1) n) e
 
-first_here : {X : Type 0} (test : X → Bool) (xs : List X) (i k : ℕ) (x : X) → slice_get xs k ≡ Some x → test x ≡ true → ((j : ℕ) (y : X) → j < k → slice_get xs j ≡ Some y → test y ≡ false) → position_from test i xs ≡ Some (i + k)
+pub first_here : {X : Type 0} (test : X → Bool) (xs : List X) (i k : ℕ) (x : X) → slice_get xs k ≡ Some x → test x ≡ true → ((j : ℕ) (y : X) → j < k → slice_get xs j ≡ Some y → test y ≡ false) → position_from test i xs ≡ Some (i + k)
 first_here test [] i k x e p before = absurd (cc)
 first_here test (y ∷ ys) i zero x e p before =
     let s : y ≡ x = same_Some y x e in
@@ -55,12 +56,12 @@ first_here test (y ∷ ys) i (suc k) x e p before =
     ∙ ap (λ (m : ℕ). Some m) n
 
 -- ---- pins among pins
-same_pin : (p q : PinRef) → is_pin p q ≡ true → p ≡ q
+pub same_pin : (p q : PinRef) → is_pin p q ≡ true → p ≡ q
 same_pin p q e =
     let b = and_parts (p.place == q.place) (p.pin == q.pin) e in
     ap (λ k. pin_ref k p.pin) (eqb-true p.place q.place b.0) ∙ ap (λ k. pin_ref q.place k) (eqb-true p.pin q.pin b.1)
 
-is_itself : (p : PinRef) → is_pin p p ≡ true
+pub is_itself : (p : PinRef) → is_pin p p ≡ true
 is_itself p = and_from (p.place == p.place) (p.pin == p.pin) (eq-eqb p.place p.place refl) (eq-eqb p.pin p.pin refl)
 
 has_from : (p : PinRef) (ps : List PinRef) → Contains ps p → has_pin p ps ≡ true
@@ -131,21 +132,21 @@ owner_then nets n net r few e h =
     subst (λ (k : ReadNet). Contains k.pins r) net_is (subst (λ qs. Contains qs r) (sym g.to_is) (has_then r f.x f.passes))
 
 -- ---- pins by number
-there_at : (lib : Library) (places : List Place) (r : PinRef) (o : Option Place) → slice_get places r.place ≡ o → IsSomeAnd o (λ (p : Place). (is_placed p ≡ true) × (r.pin < length (image_pins lib p))) → (i : ℕ) × (slice_get (refs_from lib 0 places) i ≡ Some r)
+pub there_at : (lib : Library) (places : List Place) (r : PinRef) (o : Option Place) → slice_get places r.place ≡ o → IsSomeAnd o (λ (p : Place). (is_placed p ≡ true) × (r.pin < length (image_pins lib p))) → (i : ℕ) × (slice_get (refs_from lib 0 places) i ≡ Some r)
 there_at lib places r None e h = absurd h
 there_at lib places r (Some p) e h = ref_is_there lib 0 places r.place p r e h.0 (omega arith) h.1
 
-ref_number : (lib : Library) (places : List Place) (r : PinRef) → length (refs_from lib 0 places) ≤ 2 ^ 32 - 1 → IsPinThere lib places r → slice_get (refs_from lib 0 places) (pin_number (first_pins lib places) r) ≡ Some r
+ref_number : (lib : Library) (places : List Place) (r : PinRef) → length (refs_from lib 0 places) ≤ 2 ^ 32 - 1 → IsPinThere lib places r → slice_get (refs_from lib 0 places) (counted_number (first_pins lib places) r) ≡ Some r
 ref_number lib places r few h =
     let w = there_at lib places r (slice_get places r.place) refl h in
     ap (slice_get (refs_from lib 0 places)) (number_is lib places w.0 r few w.1) ∙ w.1
 
-same_number : (lib : Library) (places : List Place) (r s : PinRef) → length (refs_from lib 0 places) ≤ 2 ^ 32 - 1 → IsPinThere lib places r → IsPinThere lib places s → pin_number (first_pins lib places) r ≡ pin_number (first_pins lib places) s → r ≡ s
+same_number : (lib : Library) (places : List Place) (r s : PinRef) → length (refs_from lib 0 places) ≤ 2 ^ 32 - 1 → IsPinThere lib places r → IsPinThere lib places s → counted_number (first_pins lib places) r ≡ counted_number (first_pins lib places) s → r ≡ s
 same_number lib places r s few h k e = same_Some r s (sym (ref_number lib places r few h) ∙ ap (slice_get (refs_from lib 0 places)) e ∙ ref_number lib places s few k)
 
-pub numbers_differ : (lib : Library) (places : List Place) (pins : List PinRef) → length (refs_from lib 0 places) ≤ 2 ^ 32 - 1 → All (IsPinThere lib places) pins → AllPairs (λ (a b : PinRef). a ≢ b) pins → AllPairs (λ (i j : ℕ). i ≢ j) (map (pin_number (first_pins lib places)) pins)
+pub numbers_differ : (lib : Library) (places : List Place) (pins : List PinRef) → length (refs_from lib 0 places) ≤ 2 ^ 32 - 1 → All (IsPinThere lib places) pins → AllPairs (λ (a b : PinRef). a ≢ b) pins → AllPairs (λ (i j : ℕ). i ≢ j) (map (counted_number (first_pins lib places)) pins)
 numbers_differ lib places pins few there once =
-    pairs_to_map (λ (i j : ℕ). i ≢ j) (pin_number (first_pins lib places)) pins
+    pairs_to_map (λ (i j : ℕ). i ≢ j) (counted_number (first_pins lib places)) pins
     (λ i j d l m e. once i j d l m (same_number lib places (get_or pins i d) (get_or pins j d) few (there i d (omega arith)) (there j d m) e))
 
 some_net : (o : Option Pin) (m : Option ℕ) → option_map (λ (p : Pin). p.net) o ≡ Some m → IsSomeAnd o (λ (p : Pin). p.net ≡ m)
@@ -170,21 +171,21 @@ made_of f xs d i c =
     record { x = get_or xs c.0 d; there = (c.0, l, get_or_default xs c.0 (get_or xs c.0 d) d l); made = sym (get_or-map f xs c.0 d i l) ∙ c.2 }
 
 -- the pins of net n by number: just those that have the net
-pub net_pins_exact : (parts : Parts) (stacks : List Padstack) → length parts.placing.places ≤ 2 ^ 32 - 1 → length (refs_from parts.library 0 parts.placing.places) ≤ 2 ^ 32 - 1 → OwnPins parts.library parts.placing.places parts.network.nets → (n : ℕ) (net : ReadNet) → slice_get parts.network.nets n ≡ Some net → (i : ℕ) → Contains (map (pin_number (first_pins parts.library parts.placing.places)) net.pins) i ↔ IsSomeAnd (slice_get (all_pins parts stacks) i) (λ (p : Pin). p.net ≡ Some n)
+pub net_pins_exact : (parts : Parts) (stacks : List Padstack) → length parts.placing.places ≤ 2 ^ 32 - 1 → length (refs_from parts.library 0 parts.placing.places) ≤ 2 ^ 32 - 1 → OwnPins parts.library parts.placing.places parts.network.nets → (n : ℕ) (net : ReadNet) → slice_get parts.network.nets n ≡ Some net → (i : ℕ) → Contains (map (counted_number (first_pins parts.library parts.placing.places)) net.pins) i ↔ IsSomeAnd (slice_get (counted_pins parts stacks) i) (λ (p : Pin). p.net ≡ Some n)
 net_pins_exact parts stacks few_places few own n net e i =
     let lib = parts.library in
     let places = parts.placing.places in
     let nets = parts.network.nets in
     let refs = refs_from lib 0 places in
-    let number = pin_number (first_pins lib places) in
-    let same : option_map (λ (p : Pin). p.net) (slice_get (all_pins parts stacks) i) ≡ option_map (net_of_pin nets) (slice_get refs i) =
-    sym (slice_get-map (λ (p : Pin). p.net) (all_pins parts stacks) i) ∙ ap (λ (ns : List (Option ℕ)). slice_get ns i) (nets_are parts stacks few_places few) ∙ slice_get-map (net_of_pin nets) refs i in
+    let number = counted_number (first_pins lib places) in
+    let same : option_map (λ (p : Pin). p.net) (slice_get (counted_pins parts stacks) i) ≡ option_map (net_of_pin nets) (slice_get refs i) =
+    sym (slice_get-map (λ (p : Pin). p.net) (counted_pins parts stacks) i) ∙ ap (λ (ns : List (Option ℕ)). slice_get ns i) (nets_are parts stacks few_places few) ∙ slice_get-map (net_of_pin nets) refs i in
     let valid : All (IsPinThere lib places) net.pins = all_at (λ (k : ReadNet). All (IsPinThere lib places) k.pins) nets n net own.there e in (
       (λ c. let m = made_of number net.pins (pin_ref 0 0) i c in
           let there : IsPinThere lib places m.x = All-contains (IsPinThere lib places) net.pins m.x valid m.there in
           let at : slice_get refs i ≡ Some m.x = ap (slice_get refs) (sym m.made) ∙ ref_number lib places m.x few there in
-          some_net (slice_get (all_pins parts stacks) i) (Some n) (same ∙ ap (option_map (net_of_pin nets)) at ∙ ap (λ (k : Option ℕ). Some k) (owner_is nets n net m.x own.few own.apart e m.there))),
-      (λ h. let m = mapped (net_of_pin nets) (slice_get refs i) (Some n) (sym same ∙ net_some (slice_get (all_pins parts stacks) i) (Some n) h) in
+          some_net (slice_get (counted_pins parts stacks) i) (Some n) (same ∙ ap (option_map (net_of_pin nets)) at ∙ ap (λ (k : Option ℕ). Some k) (owner_is nets n net m.x own.few own.apart e m.there))),
+      (λ h. let m = mapped (net_of_pin nets) (slice_get refs i) (Some n) (sym same ∙ net_some (slice_get (counted_pins parts stacks) i) (Some n) h) in
           let named : Contains net.pins m.from = owner_then nets n net m.from own.few e m.to_is in
           subst (Contains (map number net.pins)) (number_is lib places i m.from few m.from_is) (contains_made number net.pins m.from named)),
     )

@@ -2,7 +2,7 @@
 use Rattle.std.proofs.Common.{◌≡◌, ◌≤◌, ◌+◌, ◌-◌, ◌++◌, ◌^◌, ◌∙◌, ap, sym, subst, ℕ, zero, suc, cond, Bool, true, false, List, [], ◌∷◌, Option, Some, length, map, refl, arith}
 use Rattle.std.specs.Prelude.{All, Contains, filter, slice_get}
 use Rattle.std.specs.Option.{option_map}
-use Rattle.std.proofs.lemmas.List.{append-nil, map-append}
+use Rattle.std.proofs.lemmas.List.{append-nil, length-append, map-append}
 use Rattle.std.proofs.lemmas.List.Elements.{All-filter, All-head, All-tail}
 use Rattle.std.proofs.lemmas.Option.{get_or_from_slice_get, same_Some, slice_get-get_or, slice_get-map, slice_get_within}
 use Rattle.pcb_model.specs.declared.item.Item.{Item}
@@ -23,12 +23,40 @@ use Rattle.dsn_shapes.specs.declared.parts.Structure.{Structure}
 use Rattle.dsn_placement.specs.Sound.{IsPlacingSound}
 use Rattle.dsn_wiring.specs.Sound.{IsCopperSound, IsWireSound, IsWiringSound}
 use Rattle.dsn_design.specs.declared.parts.Parts.{Parts}
-use Rattle.dsn_design.specs.Items.{ban_item, edge_item, fixed_wiring, is_fixed, items_from, next_number, numbered_from, pad_item, pads_at, place_items, placed_ban, wiring_item, with_id}
-use Rattle.dsn_design.specs.Made.{design_from, design_with}
-use Rattle.dsn_design.specs.Pins.{all_pins, image_bans, image_pins, is_placed, layer_count, net_of_pin, next_component, pin_count, pin_of, pin_ref, pins_at, pins_from, place_pins, plus}
-use Rattle.dsn_design.proofs.FixedItems.{count_here, item_at, item_there, pins_in, pins_in_all, unnumbered}
-use Rattle.dsn_design.proofs.FixedSound.{fixed_are}
+use Rattle.dsn_design.specs.Counts.{counted_from, counted_items, counted_pins, items_from, next_component, next_number, pads_at, pin_count, pins_at, pins_from, place_items, place_pins, plus}
+use Rattle.dsn_design.specs.Items.{ban_item, edge_item, fixed_wiring, is_fixed, numbered, numbered_from, pad_item, placed_ban, wiring_item, with_id}
+use Rattle.dsn_design.specs.Made.{design_with}
+use Rattle.dsn_design.specs.Pins.{image_bans, image_pins, is_placed, layer_count, net_of_pin, pin_of, pin_ref}
+use Rattle.dsn_design.proofs.FixedItems.{item_at, item_there}
+use Rattle.dsn_design.proofs.Numbered.{place_refs, refs_are, refs_count, refs_from}
 use Rattle.dsn_design.proofs.Stands.{pins_count}
+
+-- ---- the items that are counted
+abbrev counted_list : Parts → List Padstack → List Item
+counted_list parts stacks = map (edge_item (layer_count parts)) parts.structure.bounds
+    ++ (map (ban_item (layer_count parts)) parts.structure.bans
+    ++ (items_from parts stacks 0 0 parts.placing.places
+    ++ fixed_wiring stacks parts.wiring.wires))
+
+counted_list_is : (parts : Parts) (stacks : List Padstack) → (counted_from parts stacks).fixed ≡ numbered_from 0 (counted_list parts stacks)
+unfolding design_with counted_items numbered
+counted_list_is parts stacks = refl
+
+-- ---- how many pins there are
+abbrev pins_in : Library → List Place → ℕ
+pins_in lib [] = 0
+pins_in lib (p ∷ ps) = pin_count lib p + pins_in lib ps
+
+pins_in_refs : (lib : Library) (place : ℕ) (ps : List Place) → length (refs_from lib place ps) ≡ pins_in lib ps
+pins_in_refs lib place [] = refl
+pins_in_refs lib place (p ∷ ps) = omega (arith, refs_count lib place p, pins_in_refs lib (place + 1) ps, length-append (place_refs lib place p) (refs_from lib (place + 1) ps))
+
+pins_in_all : (parts : Parts) (stacks : List Padstack) → pins_in parts.library parts.placing.places ≡ length (counted_pins parts stacks)
+pins_in_all parts stacks = sym (pins_in_refs parts.library 0 parts.placing.places) ∙ refs_are parts.library parts.placing.places ∙ sym (pins_count parts stacks)
+
+count_here : (b : Bool) (number k rest total : ℕ) → number + (cond b k 0 + rest) ≤ total → b ≡ true → number + k ≤ total
+count_here true number k rest total few t = omega arith
+count_here false number k rest total few t = absurd (cc)
 
 -- ---- the nets of pads
 abbrev net_before : Metal → Option ℕ → List (Option ℕ) → List (Option ℕ)
@@ -204,8 +232,8 @@ items_count parts stacks place number m (p ∷ ps) e few =
 -- ---- all fixed items
 -- their pads are those of the pins, in order
 record ArePads (parts : Parts) (stacks : List Padstack) : Type 0 where
-  nets : pad_nets (unnumbered parts stacks) ≡ map net_at (all_pins parts stacks)
-  counts : Counts 0 (unnumbered parts stacks) (length (all_pins parts stacks))
+  nets : pad_nets (counted_list parts stacks) ≡ map net_at (counted_pins parts stacks)
+  counts : Counts 0 (counted_list parts stacks) (length (counted_pins parts stacks))
 
 nets_around : (xs ys zs ws : List Item) → pad_nets xs ≡ [] → pad_nets ys ≡ [] → pad_nets ws ≡ [] → pad_nets (xs ++ (ys ++ (zs ++ ws))) ≡ pad_nets zs
 nets_around xs ys zs ws e f g =
@@ -213,11 +241,11 @@ nets_around xs ys zs ws e f g =
     ∙ nets_append ys (zs ++ ws) ∙ ap (λ ns. ns ++ pad_nets (zs ++ ws)) f
     ∙ nets_append zs ws ∙ ap (λ ns. pad_nets zs ++ ns) g ∙ append-nil (pad_nets zs)
 
-are_pads : (parts : Parts) (stacks : List Padstack) → length (all_pins parts stacks) ≤ 2 ^ 32 - 1 → IsWiringSound parts.structure parts.library parts.network parts.wiring → ArePads parts stacks
-unfolding fixed_wiring all_pins
+are_pads : (parts : Parts) (stacks : List Padstack) → length (counted_pins parts stacks) ≤ 2 ^ 32 - 1 → IsWiringSound parts.structure parts.library parts.network parts.wiring → ArePads parts stacks
+unfolding fixed_wiring counted_pins
 are_pads parts stacks few wires =
     let n = layer_count parts in
-    let total = length (all_pins parts stacks) in
+    let total = length (counted_pins parts stacks) in
     let kept = filter is_fixed parts.wiring.wires in
     let edges : List Item = map (edge_item n) parts.structure.bounds in
     let bans : List Item = map (ban_item n) parts.structure.bans in
@@ -316,14 +344,14 @@ one_pad d items total i p fixed counts e =
           sym (ap (λ (x : Item). x.id) v.is) ∙ ap (λ k. 0 + k) same;
     }
 
-pins_are : (parts : Parts) (stacks : List Padstack) → (design_from parts stacks).pins ≡ all_pins parts stacks
+pins_are : (parts : Parts) (stacks : List Padstack) → (counted_from parts stacks).pins ≡ counted_pins parts stacks
 unfolding design_with
 pins_are parts stacks = refl
 
 -- just one fixed item is the pad of pin i, and it has the pin's net
-pub pads_sound : (parts : Parts) (stacks : List Padstack) → IsPlacingSound parts.structure parts.library parts.placing → IsWiringSound parts.structure parts.library parts.network parts.wiring → (i : ℕ) (p : Pin) → slice_get (design_from parts stacks).pins i ≡ Some p → HasOnePad (design_from parts stacks) i p
+pub pads_sound : (parts : Parts) (stacks : List Padstack) → IsPlacingSound parts.structure parts.library parts.placing → IsWiringSound parts.structure parts.library parts.network parts.wiring → (i : ℕ) (p : Pin) → slice_get (counted_from parts stacks).pins i ≡ Some p → HasOnePad (counted_from parts stacks) i p
 pads_sound parts stacks placing wires i p e =
     let pads = are_pads parts stacks (omega (arith, pins_count parts stacks, placing.few_pins)) wires in
-    let at : slice_get (all_pins parts stacks) i ≡ Some p = ap (λ ps. slice_get ps i) (sym (pins_are parts stacks)) ∙ e in
-    let net : slice_get (pad_nets (unnumbered parts stacks)) i ≡ Some p.net = ap (λ ns. slice_get ns i) pads.nets ∙ slice_get-map net_at (all_pins parts stacks) i ∙ ap (option_map net_at) at in
-    one_pad (design_from parts stacks) (unnumbered parts stacks) (length (all_pins parts stacks)) i p (fixed_are parts stacks) pads.counts net
+    let at : slice_get (counted_pins parts stacks) i ≡ Some p = ap (λ ps. slice_get ps i) (sym (pins_are parts stacks)) ∙ e in
+    let net : slice_get (pad_nets (counted_list parts stacks)) i ≡ Some p.net = ap (λ ns. slice_get ns i) pads.nets ∙ slice_get-map net_at (counted_pins parts stacks) i ∙ ap (option_map net_at) at in
+    one_pad (counted_from parts stacks) (counted_list parts stacks) (length (counted_pins parts stacks)) i p (counted_list_is parts stacks) pads.counts net

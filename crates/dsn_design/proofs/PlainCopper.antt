@@ -31,7 +31,7 @@ use Rattle.dsn_design.specs.declared.parts.Parts.{Parts}
 use Rattle.dsn_design.specs.Copper.{piece_on, pieces_of, stack_pieces}
 use Rattle.dsn_design.specs.Items.{ban_item, edge_item, numbered_from, pad_item, pad_pieces, placed_ban, wiring_item, wiring_pieces, with_id}
 use Rattle.dsn_design.specs.Made.{ArePadstacksOf, IsDesignOf, design_from, design_with}
-use Rattle.dsn_design.specs.Pins.{image_bans, layer_count}
+use Rattle.dsn_design.specs.Pins.{image_bans, layer_count, pin_ref}
 use Rattle.dsn_design.specs.Usable.{usables}
 use Rattle.dsn_design.proofs.Padstacks.{each_padstack}
 use Rattle.dsn_design.proofs.FixedItems.{all_made, fixed_all, unnumbered}
@@ -86,7 +86,7 @@ pieces_plain parts lib p i =
     let plain = stack_shapes_all IsPlainShape stacks i (All-weaker IsStackSound (λ (s : Stack). All IsPlainShape s.shapes) (λ s h. h.shapes_plain) stacks lib.stacks) in
     shapes_plain n (unwrap_or (pin_copper n stand stacks i) []) (plain_given (pin_copper n stand stacks i) (λ ss f. pin_plain n stand stacks i ss plain f))
 
-pad_plain : (parts : Parts) (stacks : List Padstack) → IsLibrarySound parts.library → (place : ℕ) (p : Place) (pin number : ℕ) (i : ImagePin) → IsPlainItem (pad_item parts stacks place p pin number i)
+pad_plain : (parts : Parts) (stacks : List Padstack) → IsLibrarySound parts.library → (place : ℕ) (p : Place) (pin number : ℕ) (i : ImagePin) → IsPlainItem (pad_item parts stacks number (pin_ref place pin) p i)
 unfolding pad_item
 pad_plain parts stacks lib place p pin number i = record { plain = λ net e. pieces_plain parts lib p i }
 

@@ -18,7 +18,7 @@ use Rattle.pcb_model.specs.declared.design.Padstack.{Padstack}
 use Rattle.pcb_model.specs.declared.design.Pin.{Pin}
 use Rattle.pcb_model.specs.declared.design.RuleSet.{RuleSet}
 use Rattle.pcb_model.specs.Bounds.{AreRulesWithin, HasRulesWithin, IsBoundFit, IsDesignFit, IsFit}
-use Rattle.pcb_model.specs.Sound.{ArePinsOf, HasDistinctNames, HasFewParts, HasPrintableNames, IsNetSound, IsPinSound, IsPrintable, IsSound, IsUsable}
+use Rattle.pcb_model.specs.Sound.{ArePinsOf, HasDistinctNames, HasFewParts, HasPrintableNames, IsFixedSound, IsFreeSound, IsNetSound, IsPinSound, IsPrintable, IsSound, IsUsable}
 use Rattle.pcb_model.proofs.Within.{All-at}
 use Rattle.dsn_shapes.specs.declared.parts.Image.{Image}
 use Rattle.dsn_shapes.specs.declared.parts.Layer.{Layer}
@@ -34,10 +34,11 @@ use Rattle.dsn_network.specs.Sound.{IsReadClassSound, IsReadNetSound}
 use Rattle.dsn_shapes.specs.Names.{stack_names}
 use Rattle.dsn_design.specs.declared.parts.Parts.{Parts}
 use Rattle.dsn_design.specs.Fit.{IsStackFit}
-use Rattle.dsn_design.specs.Items.{fixed_items, free_wiring, loops_of}
-use Rattle.dsn_design.specs.Made.{ArePadstacksOf, IsDesignOf, board_layer, bounds_of, design_from, design_with, layers_of, structure_vias}
+use Rattle.dsn_design.specs.Counts.{IsCountedOf, counted_components, counted_from, counted_items, counted_number, counted_pins, counted_with, first_pins}
+use Rattle.dsn_design.specs.Items.{free_wiring, loops_of}
+use Rattle.dsn_design.specs.Made.{ArePadstacksOf, board_layer, bounds_of, design_from, design_with, layers_of, structure_vias}
 use Rattle.dsn_design.specs.Nets.{class_rules, class_vias, is_usable_at, net_of, stack_number, stack_numbers, usable_of, via_list}
-use Rattle.dsn_design.specs.Pins.{all_pins, components_of, first_pins, layer_count}
+use Rattle.dsn_design.specs.Pins.{layer_count}
 use Rattle.dsn_design.specs.Sound.{AreFewParts, ArePartsSound}
 use Rattle.dsn_design.specs.Usable.{padstacks_of, usables}
 use Rattle.dsn_design.proofs.FixedSound.{fixed_sound}
@@ -46,6 +47,7 @@ use Rattle.dsn_design.proofs.Numbered.{refs_are, refs_from}
 use Rattle.dsn_design.proofs.Owned.{IsPinThere, all_at, mapped, net_pins_exact, numbers_differ, own_pins}
 use Rattle.dsn_design.proofs.Padded.{padstacks_fit}
 use Rattle.dsn_design.proofs.Pads.{pads_sound}
+use Rattle.dsn_design.proofs.Placed.{counted_are}
 use Rattle.dsn_design.proofs.Padstacks.{padstacks_differ, padstacks_few, padstacks_in_range, padstacks_printable, vias_usable}
 use Rattle.dsn_design.proofs.Stands.{IsPinOf, components_differ, components_few, components_printable, components_sound, filter_few, pins_are_of, pins_count}
 
@@ -117,9 +119,9 @@ usable_few stacks vias n h = omega (arith, filter_few (is_usable_at stacks) vias
 
 -- ---- nets
 abbrev net_made : Parts → List Padstack → ReadNet → Net
-net_made p stacks = net_of stacks (first_pins p.library p.placing.places) (structure_vias p) p.network.classes
+net_made p stacks = net_of stacks (counted_number (first_pins p.library p.placing.places)) (structure_vias p) p.network.classes
 
-net_sound : (p : Parts) (stacks : List Padstack) (fixed : List Item) (free : List FreeWire) → ArePartsSound p → ArePadstacksOf p stacks → (n : ReadNet) → IsReadNetSound p.library p.placing (length p.network.classes) n → IsNetSound (design_with p stacks fixed free) (net_made p stacks n)
+net_sound : (p : Parts) (stacks : List Padstack) (fixed : List Item) (free : List FreeWire) → ArePartsSound p → ArePadstacksOf p stacks → (n : ReadNet) → IsReadNetSound p.library p.placing (length p.network.classes) n → IsNetSound (counted_with p stacks fixed free) (net_made p stacks n)
 unfolding design_with net_of
 net_sound p stacks fixed free s h n k =
     let vias = via_list (structure_vias p) p.network.classes n in
@@ -130,8 +132,8 @@ net_sound p stacks fixed free s h n k =
       width_within = width_small n.rules.width k.rules.width_within;
     }
 
-nets_sound : (p : Parts) (stacks : List Padstack) (fixed : List Item) (free : List FreeWire) → ArePartsSound p → ArePadstacksOf p stacks → All (IsNetSound (design_with p stacks fixed free)) (map (net_made p stacks) p.network.nets)
-nets_sound p stacks fixed free s h = made_all (IsReadNetSound p.library p.placing (length p.network.classes)) (IsNetSound (design_with p stacks fixed free)) (net_made p stacks) (net_sound p stacks fixed free s h) p.network.nets s.network.nets
+nets_sound : (p : Parts) (stacks : List Padstack) (fixed : List Item) (free : List FreeWire) → ArePartsSound p → ArePadstacksOf p stacks → All (IsNetSound (counted_with p stacks fixed free)) (map (net_made p stacks) p.network.nets)
+nets_sound p stacks fixed free s h = made_all (IsReadNetSound p.library p.placing (length p.network.classes)) (IsNetSound (counted_with p stacks fixed free)) (net_made p stacks) (net_sound p stacks fixed free s h) p.network.nets s.network.nets
 
 nets_within : (p : Parts) (stacks : List Padstack) → ArePartsSound p → All (λ (n : Net). AreRulesWithin (2 ^ 28) n.rules) (map (net_made p stacks) p.network.nets)
 unfolding net_of
@@ -145,7 +147,7 @@ net_names_printable : (p : Parts) (stacks : List Padstack) → ArePartsSound p �
 unfolding net_of
 net_names_printable p stacks s = made_all (IsReadNetSound p.library p.placing (length p.network.classes)) (λ (n : Net). IsPrintable n.name) (net_made p stacks) (λ n k. k.name) p.network.nets s.network.nets
 
-made_pins : (p : Parts) (stacks : List Padstack) (fixed : List Item) (free : List FreeWire) → ArePartsSound p → (n : ℕ) (k : ReadNet) → slice_get p.network.nets n ≡ Some k → ArePinsOf (design_with p stacks fixed free) n (net_made p stacks k).pins
+made_pins : (p : Parts) (stacks : List Padstack) (fixed : List Item) (free : List FreeWire) → ArePartsSound p → (n : ℕ) (k : ReadNet) → slice_get p.network.nets n ≡ Some k → ArePinsOf (counted_with p stacks fixed free) n (net_made p stacks k).pins
 unfolding design_with net_of
 made_pins p stacks fixed free s n k e =
     let lib = p.library in
@@ -160,27 +162,27 @@ made_pins p stacks fixed free s n k e =
       exact = net_pins_exact p stacks few_places few own n k e;
     }
 
-net_pins_are : (p : Parts) (stacks : List Padstack) (fixed : List Item) (free : List FreeWire) → ArePartsSound p → (n : ℕ) (net : Net) → slice_get (map (net_made p stacks) p.network.nets) n ≡ Some net → ArePinsOf (design_with p stacks fixed free) n net.pins
+net_pins_are : (p : Parts) (stacks : List Padstack) (fixed : List Item) (free : List FreeWire) → ArePartsSound p → (n : ℕ) (net : Net) → slice_get (map (net_made p stacks) p.network.nets) n ≡ Some net → ArePinsOf (counted_with p stacks fixed free) n net.pins
 net_pins_are p stacks fixed free s n net e =
     let m = mapped (net_made p stacks) (slice_get p.network.nets n) net (sym (slice_get-map (net_made p stacks) p.network.nets n) ∙ e) in
-    subst (λ (k : Net). ArePinsOf (design_with p stacks fixed free) n k.pins) m.to_is (made_pins p stacks fixed free s n m.from m.from_is)
+    subst (λ (k : Net). ArePinsOf (counted_with p stacks fixed free) n k.pins) m.to_is (made_pins p stacks fixed free s n m.from m.from_is)
 
 -- ---- pins
-pins_sound : (p : Parts) (stacks : List Padstack) (fixed : List Item) (free : List FreeWire) → All (IsPinSound (design_with p stacks fixed free)) (all_pins p stacks)
+pins_sound : (p : Parts) (stacks : List Padstack) (fixed : List Item) (free : List FreeWire) → All (IsPinSound (counted_with p stacks fixed free)) (counted_pins p stacks)
 unfolding design_with
 pins_sound p stacks fixed free =
-    let components = length (components_of p.library p.placing.places) in
+    let components = length (counted_components p.library p.placing.places) in
     let nets = p.network.nets in
-    All-weaker (IsPinOf components (length nets)) (IsPinSound (design_with p stacks fixed free))
+    All-weaker (IsPinOf components (length nets)) (IsPinSound (counted_with p stacks fixed free))
     (λ (q : Pin) h. record {
       within = h.within;
       component_in_range = h.component_in_range;
       net_in_range = subst (λ m. IfSome q.net (λ n. n < m)) (sym (length-map nets (net_made p stacks))) h.net_in_range;
     })
-    (all_pins p stacks) (pins_are_of p stacks)
+    (counted_pins p stacks) (pins_are_of p stacks)
 
 -- ---- the whole design
-few_parts : (p : Parts) (stacks : List Padstack) (fixed : List Item) (free : List FreeWire) → ArePartsSound p → ArePadstacksOf p stacks → HasFewParts (design_with p stacks fixed free)
+few_parts : (p : Parts) (stacks : List Padstack) (fixed : List Item) (free : List FreeWire) → ArePartsSound p → ArePadstacksOf p stacks → HasFewParts (counted_with p stacks fixed free)
 unfolding design_with
 few_parts p stacks fixed free s h = record {
   some_layers = omega (arith, length-map p.structure.layers board_layer, s.structure.layers.some);
@@ -193,10 +195,10 @@ few_parts p stacks fixed free s h = record {
   few_classes = omega (arith, length-map p.network.classes class_rules, s.few.classes);
 }
 
-design_fit : (p : Parts) (stacks : List Padstack) (fixed : List Item) (free : List FreeWire) → ArePartsSound p → ArePadstacksOf p stacks → IsDesignFit (design_with p stacks fixed free)
+design_fit : (p : Parts) (stacks : List Padstack) (fixed : List Item) (free : List FreeWire) → ArePartsSound p → ArePadstacksOf p stacks → IsDesignFit (counted_with p stacks fixed free)
 unfolding design_with
 design_fit p stacks fixed free s h =
-    let rules : HasRulesWithin (2 ^ 28) (design_with p stacks fixed free) = record {
+    let rules : HasRulesWithin (2 ^ 28) (counted_with p stacks fixed free) = record {
       structure = s.structure.rules_fit.clearances_within;
       classes_within = classes_within (length p.library.stacks) p.network.classes s.network.classes;
       nets_within = nets_within p stacks s;
@@ -207,7 +209,7 @@ design_fit p stacks fixed free s h =
       padstacks_fit = stacks_fit p stacks s h;
     }
 
-names_differ : (p : Parts) (stacks : List Padstack) (fixed : List Item) (free : List FreeWire) → ArePartsSound p → ArePadstacksOf p stacks → HasDistinctNames (design_with p stacks fixed free)
+names_differ : (p : Parts) (stacks : List Padstack) (fixed : List Item) (free : List FreeWire) → ArePartsSound p → ArePadstacksOf p stacks → HasDistinctNames (counted_with p stacks fixed free)
 unfolding design_with
 names_differ p stacks fixed free s h = record {
   layers = pairs_to_map (λ (a b : BoardLayer). a.name ≢ b.name) board_layer p.structure.layers s.structure.layers.names_differ;
@@ -216,7 +218,7 @@ names_differ p stacks fixed free s h = record {
   nets = net_names_differ p stacks s;
 }
 
-names_printable : (p : Parts) (stacks : List Padstack) (fixed : List Item) (free : List FreeWire) → ArePartsSound p → ArePadstacksOf p stacks → HasPrintableNames (design_with p stacks fixed free)
+names_printable : (p : Parts) (stacks : List Padstack) (fixed : List Item) (free : List FreeWire) → ArePartsSound p → ArePadstacksOf p stacks → HasPrintableNames (counted_with p stacks fixed free)
 unfolding design_with
 names_printable p stacks fixed free s h =
     let stack_names_printable : All (λ (k : Stack). IsPrintable k.name) p.library.stacks = All-weaker IsStackSound (λ (k : Stack). IsPrintable k.name) (λ k n. n.name) p.library.stacks s.library.stacks in
@@ -231,11 +233,15 @@ names_printable p stacks fixed free s h =
       nets = net_names_printable p stacks s;
     }
 
-sound_from : (p : Parts) (stacks : List Padstack) → ArePartsSound p → ArePadstacksOf p stacks → IsSound (design_from p stacks)
+abbrev AreFixedSound : Design → Type 0
+AreFixedSound d = (i : ℕ) (a : Item) → slice_get d.fixed i ≡ Some a → IsFixedSound d i a
+
+sound_from : (p : Parts) (stacks : List Padstack) → ArePartsSound p → ArePadstacksOf p stacks → IsSound (counted_from p stacks)
 unfolding design_with
 sound_from p stacks s h =
-    let fixed = fixed_items p stacks in
+    let fixed = counted_items p stacks in
     let free = free_wiring p.wiring.wires in
+    let same : counted_from p stacks ≡ design_from p stacks = counted_are p stacks s in
     record {
       parts = few_parts p stacks fixed free s h;
       fits = design_fit p stacks fixed free s h;
@@ -249,11 +255,11 @@ sound_from p stacks s h =
       nets = nets_sound p stacks fixed free s h;
       net_pins = net_pins_are p stacks fixed free s;
       pads = pads_sound p stacks s.placing s.wiring;
-      fixed = fixed_sound p stacks h s.structure s.library s.wiring;
-      free = free_sound p stacks h s.library s.wiring;
+      fixed = subst AreFixedSound (sym same) (fixed_sound p stacks h s.structure s.library s.wiring);
+      free = subst (λ (d : Design). All (IsFreeSound d) d.free) (sym same) (free_sound p stacks h s.library s.wiring);
       distinct_names = names_differ p stacks fixed free s h;
       printable_names = names_printable p stacks fixed free s h;
     }
 
-pub design_sound : (p : Parts) (d : Design) → ArePartsSound p → IsDesignOf p d → IsSound d
+pub design_sound : (p : Parts) (d : Design) → ArePartsSound p → IsCountedOf p d → IsSound d
 design_sound p d s h = subst IsSound (sym h.design) (sound_from p d.padstacks s h.padstacks)

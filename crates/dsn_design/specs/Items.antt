@@ -1,5 +1,6 @@
 -- The fixed items, whose ids count up: edges, keepouts, placed keepouts and pins, and fixed wiring.
-use Rattle.std.specs.Prelude.{◌+◌, ◌++◌, ℕ, Bool, true, not, List, [], ◌∷◌, Option, None, filter, length, map, slice_get, unwrap_or, if◌then◌else◌}
+use Rattle.std.specs.Prelude.{◌+◌, ◌++◌, ℕ, Bool, true, not, List, [], ◌∷◌, Option, None, filter, map, slice_get}
+use Rattle.std.specs.Prelude.{unwrap_or, if◌then◌else◌}
 use Rattle.std.specs.List.{flat_map}
 use Rattle.std.specs.Option.{option_map_or}
 use Rattle.geo_kernel.specs.declared.point.Point.{Point}
@@ -17,12 +18,14 @@ use Rattle.pcb_model.specs.Pieces.{moved_piece, pieces_in, wire_piece, kind_of}
 use Rattle.dsn_shapes.specs.declared.parts.LayerShape.{LayerShape}
 use Rattle.dsn_shapes.specs.declared.parts.BanShape.{BanShape}
 use Rattle.dsn_shapes.specs.declared.parts.ImagePin.{ImagePin}
+use Rattle.dsn_shapes.specs.declared.parts.PinRef.{PinRef}
 use Rattle.dsn_shapes.specs.declared.parts.Place.{Place}
 use Rattle.dsn_shapes.specs.declared.parts.ReadWire.{ReadWire}
 use Rattle.dsn_placement.specs.Copper.{ban_copper, pin_copper, stand_of}
 use Rattle.dsn_design.specs.declared.parts.Parts.{Parts}
 use Rattle.dsn_design.specs.Copper.{below, pieces_of}
-use Rattle.dsn_design.specs.Pins.{image_bans, image_pins, is_placed, is_smd, layer_count, net_of_pin, pin_ref, plus}
+use Rattle.dsn_design.specs.Pins.{PlacedComponent, PlacedPin, component_pins, image_bans, is_smd, layer_count}
+use Rattle.dsn_design.specs.Pins.{net_of_pin, pin_number, pin_refs, placed_components}
 
 -- a fixed item, whose id is given with all of them
 abbrev pub fixed_item : Option ℕ → Kind → Metal → List Piece → Item
@@ -62,40 +65,33 @@ ban_item n b = fixed_item None kind.Area (Ban b.wires b.vias) (pieces_of n b.sha
 
 -- a keepout of an image where its component stands
 unfoldable pub placed_ban : Parts → Place → BanShape → Item
-placed_ban parts p b = fixed_item None kind.Area (Ban b.wires b.vias) (option_map_or (pieces_of (layer_count parts)) (ban_copper (layer_count parts) (stand_of parts.structure.flip_last p) b) [])
+placed_ban parts p b = fixed_item None kind.Area (Ban b.wires b.vias)
+    (option_map_or (pieces_of (layer_count parts))
+    (ban_copper (layer_count parts) (stand_of parts.structure.flip_last p) b) [])
 
 -- ---- pins
 -- the copper of a pin
 unfoldable pub pad_pieces : Parts → Place → ImagePin → List Piece
-pad_pieces parts p pin = flat_map (pieces_of (layer_count parts)) (unwrap_or (pin_copper (layer_count parts) (stand_of parts.structure.flip_last p) parts.library.stacks pin) [])
+pad_pieces parts p pin = flat_map (pieces_of (layer_count parts))
+    (unwrap_or (pin_copper (layer_count parts) (stand_of parts.structure.flip_last p) parts.library.stacks pin) [])
 
 abbrev pub pad_kind : Bool → Kind
 pad_kind smd = if smd then kind.Smd else kind.Pin
 
--- the pad of a pin, which is pin `number` of the design, and number `pin` of the image of component number `place`
-unfoldable pub pad_item : Parts → List Padstack → ℕ → Place → ℕ → ℕ → ImagePin → Item
-pad_item parts stacks place p pin number i =
-    fixed_item (net_of_pin parts.network.nets (pin_ref place pin)) (pad_kind (is_smd stacks i)) (Pad number) (pad_pieces parts p i)
+-- the pad of a pin of an image where its component stands: pin `number` of the design, which nets name by r
+unfoldable pub pad_item : Parts → List Padstack → ℕ → PinRef → Place → ImagePin → Item
+pad_item parts stacks number r p i = fixed_item (net_of_pin parts.network.nets r) (pad_kind (is_smd stacks i))
+    (Pad number) (pad_pieces parts p i)
 
--- of these pins of an image, the first has these numbers
-abbrev pub pads_at : Parts → List Padstack → ℕ → Place → ℕ → ℕ → List ImagePin → List Item
-pads_at parts stacks place p pin number [] = []
-pads_at parts stacks place p pin number (i ∷ is) = pad_item parts stacks place p pin number i ∷ pads_at parts stacks place p (plus pin 1) (plus number 1) is
+-- that of a pin of the board
+abbrev pub pad_of : Parts → List Padstack → PlacedPin → Item
+pad_of parts stacks q = pad_item parts stacks
+    (pin_number (pin_refs parts.library parts.placing.places) q.ref) q.ref q.component.place q.image_pin
 
--- a placed component's keepouts and then its pins
-abbrev pub placed_items : Parts → List Padstack → ℕ → ℕ → Place → List Item
-placed_items parts stacks place number p = map (placed_ban parts p) (image_bans parts.library p) ++ pads_at parts stacks place p 0 number (image_pins parts.library p)
-
-unfoldable pub place_items : Parts → List Padstack → ℕ → ℕ → Place → List Item
-place_items parts stacks place number p = if is_placed p then placed_items parts stacks place number p else []
-
-abbrev pub next_number : Parts → ℕ → Place → ℕ
-next_number parts number p = if is_placed p then plus number (length (image_pins parts.library p)) else number
-
--- of these components, the first is number `place` of all, and `number` pins are placed before it
-abbrev pub items_from : Parts → List Padstack → ℕ → ℕ → List Place → List Item
-items_from parts stacks place number [] = []
-items_from parts stacks place number (p ∷ ps) = place_items parts stacks place number p ++ items_from parts stacks (plus place 1) (next_number parts number p) ps
+-- a placed component's keepouts and then its pads
+abbrev pub component_items : Parts → List Padstack → PlacedComponent → List Item
+component_items parts stacks c = map (placed_ban parts c.place) (image_bans parts.library c.place)
+    ++ map (pad_of parts stacks) (component_pins parts.library c)
 
 -- ---- wiring
 -- the pieces of a wire, and those of a via of one of these padstacks
@@ -128,5 +124,5 @@ free_wiring wires = map free_wire (filter is_free wires)
 unfoldable pub fixed_items : Parts → List Padstack → List Item
 fixed_items parts stacks = numbered (map (edge_item (layer_count parts)) parts.structure.bounds
     ++ (map (ban_item (layer_count parts)) parts.structure.bans
-    ++ (items_from parts stacks 0 0 parts.placing.places
+    ++ (flat_map (component_items parts stacks) (placed_components parts.placing.places)
     ++ fixed_wiring stacks parts.wiring.wires)))

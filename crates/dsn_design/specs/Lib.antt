@@ -6,5 +6,6 @@ pub mod Pins
 pub mod Nets
 pub mod Items
 pub mod Made
+pub mod Counts
 pub mod Reading
 pub mod Refused

@@ -1,14 +1,15 @@
 -- Nets: their pins by number, their classes, and the usable padstacks of their vias.
-use Rattle.std.specs.Prelude.{◌+◌, ℕ, Bool, false, not, List, [], Option, None, Some, count_by, filter, map, slice_get, sum_by, unwrap_or}
+use Rattle.std.specs.Prelude.{◌+◌, ℕ, Bool, false, not, List, [], Option, None, Some, count_by, filter, map, slice_get}
+use Rattle.std.specs.Prelude.{sum_by, unwrap_or}
 use Rattle.std.specs.Option.{option_map_or}
 use Rattle.pcb_model.specs.declared.design.Net.{Net}
 use Rattle.pcb_model.specs.declared.design.Padstack.{Padstack}
 use Rattle.pcb_model.specs.declared.design.RuleSet.{RuleSet}
+use Rattle.dsn_shapes.specs.declared.parts.PinRef.{PinRef}
 use Rattle.dsn_shapes.specs.declared.parts.ReadNet.{ReadNet}
 use Rattle.dsn_shapes.specs.declared.parts.ReadClass.{ReadClass}
 use Rattle.dsn_shapes.specs.declared.parts.Stack.{Stack}
 use Rattle.dsn_shapes.specs.Names.{first_place, place_index, stack_names}
-use Rattle.dsn_design.specs.Pins.{pin_number}
 
 -- the padstacks of names that the library has
 abbrev pub stack_number : List (List ℕ) → List ℕ → ℕ
@@ -37,11 +38,11 @@ class_vias classes (Some c) = option_map_or (λ (k : ReadClass). k.vias) (slice_
 abbrev pub via_list : List ℕ → List ReadClass → ReadNet → List ℕ
 via_list structure_vias classes n = unwrap_or (class_vias classes n.class) structure_vias
 
--- ---- nets, where the components' first pins have these numbers
-unfoldable pub net_of : List Padstack → List ℕ → List ℕ → List ReadClass → ReadNet → Net
-net_of stacks firsts structure_vias classes n = record {
+-- ---- nets, whose pins have these numbers
+unfoldable pub net_of : List Padstack → (PinRef → ℕ) → List ℕ → List ReadClass → ReadNet → Net
+net_of stacks number structure_vias classes n = record {
   name = n.name;
-  pins = map (pin_number firsts) n.pins;
+  pins = map number n.pins;
   class = n.class;
   rules = n.rules;
   vias = usable_of stacks (via_list structure_vias classes n);

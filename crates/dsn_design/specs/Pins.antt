@@ -1,6 +1,7 @@
--- Placed components and their pins, which count up in the order of the placement and of the images.
-use Rattle.std.specs.Prelude.{◌==◌, ◌+◌, ◌-◌, ◌^◌, ◌++◌, min, ℕ, Bool, false, List, [], ◌∷◌, Option, filter, is_some, length, map, slice_get, unwrap_or, if◌then◌else◌}
-use Rattle.std.specs.List.{list_all}
+-- Placed components and their pins: each has a number, which is its place in a list.
+use Rattle.std.specs.Prelude.{◌==◌, ℕ, Bool, false, List, [], ◌∷◌, Option, filter, is_some, length, map, slice_get}
+use Rattle.std.specs.Prelude.{unwrap_or}
+use Rattle.std.specs.List.{enumerate_from, flat_map, list_all, position_from}
 use Rattle.std.specs.Option.{option_map, option_map_or}
 use Rattle.geo_kernel.specs.declared.point.Point.{Point}
 use Rattle.pcb_model.specs.declared.item.Piece.{Piece}
@@ -16,17 +17,13 @@ use Rattle.dsn_shapes.specs.declared.parts.Place.{Place}
 use Rattle.dsn_shapes.specs.declared.parts.PinRef.{PinRef}
 use Rattle.dsn_shapes.specs.declared.parts.ReadNet.{ReadNet}
 use Rattle.dsn_placement.specs.Copper.{pin_centre, stand_of}
-use Rattle.dsn_network.specs.Nets.{first_net}
+use Rattle.dsn_network.specs.Nets.{first_net, is_pin}
 use Rattle.dsn_network.specs.Owners.{pins_of}
 use Rattle.dsn_shapes.specs.Names.{place_index}
 use Rattle.dsn_design.specs.declared.parts.Parts.{Parts}
 
 abbrev pub layer_count : Parts → ℕ
 layer_count parts = length parts.structure.layers
-
--- a sum of indices, which ends at 2^32 - 1
-abbrev pub plus : ℕ → ℕ → ℕ
-plus a b = min (a + b) (2 ^ 32 - 1)
 
 -- ---- components
 abbrev pub is_placed : Place → Bool
@@ -42,16 +39,63 @@ abbrev pub image_bans : Library → Place → List BanShape
 image_bans lib p = option_map_or (λ (i : Image). i.bans) (slice_get lib.images p.image) []
 
 abbrev pub component_of : Library → Place → Component
-component_of lib p = record { name = p.name; image = image_name lib p; at = unwrap_or p.at origin; back = p.back; microdegrees = p.angle.microdegrees }
+component_of lib p = record {
+  name = p.name;
+  image = image_name lib p;
+  at = unwrap_or p.at origin;
+  back = p.back;
+  microdegrees = p.angle.microdegrees;
+}
 
--- the placed ones, in the order of the placement
+-- a component that has coordinates: its number among those, its number in the placement, and its place
+pub record PlacedComponent : Type 0 where
+  pub index : ℕ
+  pub number : ℕ
+  pub place : Place
+
+abbrev pub placed_as : ℕ × (ℕ × Place) → PlacedComponent
+placed_as e = record { index = e.0; number = e.1.0; place = e.1.1 }
+
+abbrev pub has_place : ℕ × Place → Bool
+has_place e = is_placed e.1
+
+-- those of a placement, in its order
+unfoldable pub placed_components : List Place → List PlacedComponent
+placed_components places = map placed_as (enumerate_from 0 (filter has_place (enumerate_from 0 places)))
+
 unfoldable pub components_of : Library → List Place → List Component
-components_of lib places = map (component_of lib) (filter is_placed places)
+components_of lib places = map (λ (c : PlacedComponent). component_of lib c.place) (placed_components places)
 
--- ---- one pin
+-- ---- pins
+-- component and pin, both by number: by these nets name a pin
 abbrev pub pin_ref : ℕ → ℕ → PinRef
 pin_ref place pin = record { place = place; pin = pin }
 
+-- a pin of a placed component, and its pin of the image
+pub record PlacedPin : Type 0 where
+  pub component : PlacedComponent
+  pub ref : PinRef
+  pub image_pin : ImagePin
+
+abbrev pub placed_pin : PlacedComponent → ℕ × ImagePin → PlacedPin
+placed_pin c e = record { component = c; ref = pin_ref c.number e.0; image_pin = e.1 }
+
+-- the pins of a component, in the order of its image
+abbrev pub component_pins : Library → PlacedComponent → List PlacedPin
+component_pins lib c = map (placed_pin c) (enumerate_from 0 (image_pins lib c.place))
+
+-- the pins of a board, component by component
+unfoldable pub board_pins : Library → List Place → List PlacedPin
+board_pins lib places = flat_map (component_pins lib) (placed_components places)
+
+unfoldable pub pin_refs : Library → List Place → List PinRef
+pin_refs lib places = map (λ (q : PlacedPin). q.ref) (board_pins lib places)
+
+-- the number of a pin is its place among these, which are those of the board
+abbrev pub pin_number : List PinRef → PinRef → ℕ
+pin_number refs r = unwrap_or (position_from (is_pin r) 0 refs) 0
+
+-- ---- a pin of a design
 -- the net that names the pin
 unfoldable pub net_of_pin : List ReadNet → PinRef → Option ℕ
 net_of_pin nets r = option_map place_index (first_net r (pins_of nets))
@@ -67,48 +111,14 @@ is_on_one (p ∷ ps) = list_all (λ (q : Piece). q.layer == p.layer) ps
 unfoldable pub is_smd : List Padstack → ImagePin → Bool
 is_smd stacks pin = option_map_or (λ (s : Padstack). is_on_one s.pieces) (slice_get stacks pin.stack) false
 
--- pin number `pin` of the image of component number `place`, which is number `component` of the placed ones
-unfoldable pub pin_of : Parts → List Padstack → ℕ → ℕ → Place → ℕ → ImagePin → Pin
-pin_of parts stacks place component p pin image_pin = record {
-  component = component;
-  name = image_pin.name;
-  net = net_of_pin parts.network.nets (pin_ref place pin);
-  centre = centre_of parts.structure.flip_last p image_pin;
-  smd = is_smd stacks image_pin;
+unfoldable pub pin_of : Parts → List Padstack → PlacedPin → Pin
+pin_of parts stacks q = record {
+  component = q.component.index;
+  name = q.image_pin.name;
+  net = net_of_pin parts.network.nets q.ref;
+  centre = centre_of parts.structure.flip_last q.component.place q.image_pin;
+  smd = is_smd stacks q.image_pin;
 }
 
--- ---- all pins
--- of these pins of an image, the first has this number
-abbrev pub pins_at : Parts → List Padstack → ℕ → ℕ → Place → ℕ → List ImagePin → List Pin
-pins_at parts stacks place component p pin [] = []
-pins_at parts stacks place component p pin (i ∷ is) = pin_of parts stacks place component p pin i ∷ pins_at parts stacks place component p (plus pin 1) is
-
-unfoldable pub place_pins : Parts → List Padstack → ℕ → ℕ → Place → List Pin
-place_pins parts stacks place component p = if is_placed p then pins_at parts stacks place component p 0 (image_pins parts.library p) else []
-
-abbrev pub next_component : ℕ → Place → ℕ
-next_component component p = if is_placed p then plus component 1 else component
-
--- of these components, the first is number `place` of all, and `component` placed ones stand before it
-abbrev pub pins_from : Parts → List Padstack → ℕ → ℕ → List Place → List Pin
-pins_from parts stacks place component [] = []
-pins_from parts stacks place component (p ∷ ps) = place_pins parts stacks place component p ++ pins_from parts stacks (plus place 1) (next_component component p) ps
-
 unfoldable pub all_pins : Parts → List Padstack → List Pin
-all_pins parts stacks = pins_from parts stacks 0 0 parts.placing.places
-
--- ---- pins by number
-abbrev pub pin_count : Library → Place → ℕ
-pin_count lib p = if is_placed p then length (image_pins lib p) else 0
-
--- the number of the first pin of each of these components, where n pins stand before them
-abbrev pub firsts_from : Library → ℕ → List Place → List ℕ
-firsts_from lib n [] = []
-firsts_from lib n (p ∷ ps) = n ∷ firsts_from lib (plus n (pin_count lib p)) ps
-
-unfoldable pub first_pins : Library → List Place → List ℕ
-first_pins lib places = firsts_from lib 0 places
-
--- the number of a pin, where the components' first pins have these numbers
-abbrev pub pin_number : List ℕ → PinRef → ℕ
-pin_number firsts r = plus (unwrap_or (slice_get firsts r.place) 0) r.pin
+all_pins parts stacks = map (pin_of parts stacks) (board_pins parts.library parts.placing.places)

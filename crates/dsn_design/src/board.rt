@@ -5,12 +5,12 @@ ghost use Rattle.std.specs.Prelude.{◌≡◌, [], map, All, IfOk};
 ghost use Rattle.dsn_shapes.specs.Lists.{capped};
 ghost use Rattle.pcb_model.specs.Bounds.{IsFit};
 ghost use Rattle.pcb_model.specs.declared.design.Padstack.{Padstack as TheStack};
+ghost use Rattle.dsn_design.specs.Counts.{IsCountedOf, counted_components, counted_items, counted_nets, counted_number, counted_pins, counted_with, first_pins};
 ghost use Rattle.dsn_design.specs.Nets.{class_rules, net_of};
-ghost use Rattle.dsn_design.specs.Pins.{all_pins, components_of, first_pins};
 ghost use Rattle.dsn_design.specs.Usable.{AreUsable, padstacks_of, usables};
 ghost use Rattle.dsn_design.specs.Fit.{ArePartsFit};
-ghost use Rattle.dsn_design.specs.Items.{fixed_items, free_wiring, loops_of};
-ghost use Rattle.dsn_design.specs.Made.{ArePadstacksOf, IsDesignOf, board_layer, bounds_of, design_with, layers_of, notes_of, section_notes, structure_vias};
+ghost use Rattle.dsn_design.specs.Items.{free_wiring, loops_of};
+ghost use Rattle.dsn_design.specs.Made.{ArePadstacksOf, board_layer, bounds_of, design_with, layers_of, notes_of, section_notes, structure_vias};
 
 use crate::edges::loops_of;
 use crate::items::{numbered, push_bans, push_edges, push_places};
@@ -93,7 +93,7 @@ fn make_netlist(
     parts: &Parts,
     stacks: &List<Padstack>,
 ) -> Result<Netlist, AllocError>
-    ensures nets { IfOk result (λ v. v.nets ≡ map (net_of stacks.now (first_pins parts.now.library parts.now.placing.places) (structure_vias parts.now) parts.now.network.classes) parts.now.network.nets) }
+    ensures nets { IfOk result (λ v. v.nets ≡ counted_nets parts.now stacks.now) }
     ensures classes { IfOk result (λ v. v.classes ≡ map class_rules parts.now.network.classes) }
     ensures notes { IfOk result (λ v. v.notes ≡ notes_of parts.now stacks.now) }
 {
@@ -128,8 +128,8 @@ struct Placed {
 
 fn place_all(alloc: Global, parts: &Parts, stacks: &List<Padstack>) -> Result<Placed, AllocError>
     requires { ArePartsFit parts.now }
-    ensures components { IfOk result (λ v. v.components ≡ components_of parts.now.library parts.now.placing.places) }
-    ensures pins { IfOk result (λ v. v.pins ≡ all_pins parts.now stacks.now) }
+    ensures components { IfOk result (λ v. v.components ≡ counted_components parts.now.library parts.now.placing.places) }
+    ensures pins { IfOk result (λ v. v.pins ≡ counted_pins parts.now stacks.now) }
 {
     let components = components_of(alloc, &parts.library, parts.placing.places.as_slice())?;
     let board = board_of(alloc, parts, stacks)?;
@@ -202,7 +202,7 @@ fn frame_of(
     free: List<FreeWire>,
 ) -> Result<Design, AllocError>
     requires { ArePartsFit parts.now }
-    ensures { IfOk result (λ d. d ≡ design_with parts.now stacks [] free) }
+    ensures { IfOk result (λ d. d ≡ counted_with parts.now stacks [] free) }
 {
     let placed = place_all(alloc, parts, &stacks)?;
     let netlist = make_netlist(alloc, parts, &stacks)?;
@@ -230,11 +230,11 @@ fn frame_of(
 }
 
 // The fixed items, in the order of their ids, on the frame of a design.
-#[tactic(auto, unfolding(crate::specs::Items::fixed_items))]
+#[tactic(auto, unfolding(crate::specs::Counts::counted_items))]
 fn fixed_items(alloc: Global, parts: &Parts, frame: &Design) -> Result<List<Item>, AllocError>
     requires parts_fit { ArePartsFit parts.now }
     requires stacks_fit { All (λ (s : TheStack). All IsFit s.pieces) frame.now.padstacks }
-    ensures { IfOk result (λ items. items ≡ fixed_items parts.now frame.now.padstacks) }
+    ensures { IfOk result (λ items. items ≡ counted_items parts.now frame.now.padstacks) }
 {
     let n = layer_count(parts);
     let mut items = List::new(alloc);
@@ -250,7 +250,7 @@ fn fixed_items(alloc: Global, parts: &Parts, frame: &Design) -> Result<List<Item
 fn with_fixed(alloc: Global, parts: &Parts, mut design: Design) -> Result<Design, AllocError>
     requires parts_fit { ArePartsFit parts.now }
     requires stacks_fit { All (λ (s : TheStack). All IsFit s.pieces) design.padstacks }
-    ensures { IfOk result (λ d. d ≡ record design { fixed = fixed_items parts.now design.padstacks }) }
+    ensures { IfOk result (λ d. d ≡ record design { fixed = counted_items parts.now design.padstacks }) }
 {
     let fixed = fixed_items(alloc, parts, &design)?;
     design.fixed = fixed;
@@ -260,7 +260,7 @@ fn with_fixed(alloc: Global, parts: &Parts, mut design: Design) -> Result<Design
 /// The design that the sections of a text make together.
 pub(crate) fn make_design(alloc: Global, parts: &Parts) -> Result<Design, AllocError>
     requires { ArePartsFit parts.now }
-    ensures { IfOk result (IsDesignOf parts.now) }
+    ensures { IfOk result (IsCountedOf parts.now) }
 {
     let free = free_wiring(alloc, parts.wiring.wires.as_slice())?;
     let stacks = padstacks_of(alloc, layer_count(parts), &parts.library.stacks)?;

@@ -6,7 +6,8 @@ ghost use Rattle.geo_kernel.specs.Spine.{IsSpineWithin};
 ghost use Rattle.dsn_shapes.specs.declared.parts.BanShape.{BanShape as TheBan};
 ghost use Rattle.dsn_shapes.specs.Within.{IsPinWithin};
 ghost use Rattle.dsn_design.specs.Fit.{ArePartsFit, IsPlaceWithin};
-ghost use Rattle.dsn_design.specs.Items.{ban_item, edge_item, items_from, next_number, numbered, numbered_from, pad_item, pad_kind, pad_pieces, pads_at, place_items, placed_ban, placed_items};
+ghost use Rattle.dsn_design.specs.Counts.{items_from, next_number, pads_at, place_items, placed_items};
+ghost use Rattle.dsn_design.specs.Items.{ban_item, edge_item, numbered, numbered_from, pad_item, pad_kind, pad_pieces, placed_ban};
 ghost use Rattle.dsn_design.specs.Pins.{layer_count};
 
 use crate::copper::{add_pieces, shape_pieces};
@@ -147,7 +148,7 @@ fn pad_item(
     requires parts_fit { ArePartsFit board.now.parts.now }
     requires place_within { IsPlaceWithin place.now }
     requires pin_within { IsPinWithin image_pin.now }
-    ensures { IfOk result (λ a. a ≡ pad_item board.now.parts.now board.now.stacks.now number.place place.now number.pin pin image_pin.now) }
+    ensures { IfOk result (λ a. a ≡ pad_item board.now.parts.now board.now.stacks.now pin number place.now image_pin.now) }
 {
     let pieces = pad_pieces(alloc, board.parts, place, image_pin)?;
     let net = net_of_pin(&board.owners, number);
@@ -208,7 +209,7 @@ fn push_placed(
     )
 }
 
-#[tactic(auto, unfolding(crate::specs::Items::place_items))]
+#[tactic(auto, unfolding(crate::specs::Counts::place_items))]
 fn push_place(
     alloc: Global,
     items: &mut List<Item>,

@@ -5,7 +5,7 @@ ghost use Rattle.std.specs.Prelude.{◌≡◌, ◌++◌, filter, map, sum_by, co
 ghost use Rattle.dsn_shapes.specs.Lists.{capped};
 ghost use Rattle.dsn_shapes.specs.Names.{stack_names};
 ghost use Rattle.dsn_design.specs.Nets.{class_rules, class_vias, is_usable_at, net_of, stack_number, stack_numbers, unusable_in, unusable_of_class, usable_of, via_list, via_notes};
-ghost use Rattle.dsn_design.specs.Pins.{pin_number};
+ghost use Rattle.dsn_design.specs.Counts.{counted_number};
 
 use crate::pins::pin_number;
 use dsn_shapes::{NameIndex, PinRef, ReadClass, ReadNet, Stack, names_of, place_index};
@@ -101,7 +101,7 @@ pub(crate) fn copy_rules(alloc: Global, rules: &RuleSet) -> Result<RuleSet, Allo
 }
 
 fn pin_numbers(alloc: Global, firsts: &List<u32>, pins: &[PinRef]) -> Result<List<u32>, AllocError>
-    ensures { IfOk result (λ ns. ns ≡ map (pin_number firsts.now) pins.now) }
+    ensures { IfOk result (λ ns. ns ≡ map (counted_number firsts.now) pins.now) }
 {
     let mut numbers = List::new(alloc);
     for pin in pins {
@@ -121,7 +121,7 @@ pub(crate) struct Lists<'a> {
 
 #[tactic(auto, unfolding(crate::specs::Nets::net_of))]
 fn net_of(alloc: Global, lists: &Lists, net: &ReadNet) -> Result<Net, AllocError>
-    ensures { IfOk result (λ n. n ≡ net_of lists.now.stacks.now lists.now.firsts.now lists.now.vias.now lists.now.classes.now net.now) }
+    ensures { IfOk result (λ n. n ≡ net_of lists.now.stacks.now (counted_number lists.now.firsts.now) lists.now.vias.now lists.now.classes.now net.now) }
 {
     let name = List::from_slice(alloc, net.name.as_slice())?;
     let pins = pin_numbers(alloc, lists.firsts, net.pins.as_slice())?;
@@ -143,7 +143,7 @@ pub(crate) fn nets_of(
     lists: &Lists,
     nets: &[ReadNet],
 ) -> Result<List<Net>, AllocError>
-    ensures { IfOk result (λ ns. ns ≡ map (net_of lists.now.stacks.now lists.now.firsts.now lists.now.vias.now lists.now.classes.now) nets.now) }
+    ensures { IfOk result (λ ns. ns ≡ map (net_of lists.now.stacks.now (counted_number lists.now.firsts.now) lists.now.vias.now lists.now.classes.now) nets.now) }
 {
     let mut all = List::new(alloc);
     for net in nets {

@@ -10,7 +10,8 @@ ghost use Rattle.dsn_shapes.specs.Within.{IsLibraryWithin, IsPinWithin};
 ghost use Rattle.pcb_model.specs.Sound.{origin};
 ghost use Rattle.dsn_placement.specs.Copper.{IsStandWithin, stand_of};
 ghost use Rattle.dsn_design.specs.Fit.{ArePartsFit, IsPlaceWithin};
-ghost use Rattle.dsn_design.specs.Pins.{all_pins, centre_of, component_of, components_of, first_pins, firsts_from, image_bans, image_name, image_pins, is_on_one, is_placed, is_smd, net_of_pin, next_component, pin_count, pin_number, pin_of, pin_ref, pins_at, pins_from, place_pins, plus};
+ghost use Rattle.dsn_design.specs.Counts.{counted_components, counted_number, counted_pins, first_pins, firsts_from, next_component, pin_count, pins_at, pins_from, place_pins, plus};
+ghost use Rattle.dsn_design.specs.Pins.{centre_of, component_of, image_bans, image_name, image_pins, is_on_one, is_placed, is_smd, net_of_pin, pin_of, pin_ref, placed_as, placed_pin};
 
 use crate::parts::Parts;
 use dsn_network::Owners;
@@ -78,13 +79,13 @@ fn component_of(alloc: Global, lib: &Library, place: &Place) -> Result<Component
 }
 
 /// The placed components, in the order of the placement.
-#[tactic(auto, unfolding(crate::specs::Pins::components_of))]
+#[tactic(auto, unfolding(crate::specs::Counts::counted_components))]
 pub(crate) fn components_of(
     alloc: Global,
     lib: &Library,
     places: &[Place],
 ) -> Result<List<Component>, AllocError>
-    ensures { IfOk result (λ cs. cs ≡ components_of lib.now places.now) }
+    ensures { IfOk result (λ cs. cs ≡ counted_components lib.now places.now) }
 {
     let mut components = List::new(alloc);
     for place in places {
@@ -175,7 +176,7 @@ fn pin_of(
 ) -> Result<Pin, AllocError>
     requires place_within { IsPlaceWithin place.now }
     requires pin_within { IsPinWithin pin.now }
-    ensures { IfOk result (λ p. p ≡ pin_of board.now.parts.now board.now.stacks.now number.place component place.now number.pin pin.now) }
+    ensures { IfOk result (λ p. p ≡ pin_of board.now.parts.now board.now.stacks.now (placed_pin (placed_as (component, (number.place, place.now))) (number.pin, pin.now))) }
 {
     Ok(Pin {
         component,
@@ -211,7 +212,7 @@ fn push_pins(
     Ok(())
 }
 
-#[tactic(auto, unfolding(crate::specs::Pins::place_pins))]
+#[tactic(auto, unfolding(crate::specs::Counts::place_pins))]
 fn push_place(
     alloc: Global,
     pins: &mut List<Pin>,
@@ -258,10 +259,10 @@ fn pins_of(alloc: Global, board: &Board, places: &[Place]) -> Result<List<Pin>, 
 }
 
 /// The pins of all placed components.
-#[tactic(auto, unfolding(crate::specs::Pins::all_pins))]
+#[tactic(auto, unfolding(crate::specs::Counts::counted_pins))]
 pub(crate) fn all_pins(alloc: Global, board: &Board) -> Result<List<Pin>, AllocError>
     requires { ArePartsFit board.now.parts.now }
-    ensures { IfOk result (λ ps. ps ≡ all_pins board.now.parts.now board.now.stacks.now) }
+    ensures { IfOk result (λ ps. ps ≡ counted_pins board.now.parts.now board.now.stacks.now) }
 {
     pins_of(alloc, board, board.parts.placing.places.as_slice())
 }
@@ -279,7 +280,7 @@ fn pin_count(lib: &Library, place: &Place) -> u32
 }
 
 /// The number of the first pin of each component.
-#[tactic(auto, unfolding(crate::specs::Pins::first_pins))]
+#[tactic(auto, unfolding(crate::specs::Counts::first_pins))]
 pub(crate) fn first_pins(
     alloc: Global,
     lib: &Library,
@@ -297,8 +298,9 @@ pub(crate) fn first_pins(
 }
 
 /// The number of a pin, where the components' first pins have these numbers.
+#[tactic(auto, unfolding(crate::specs::Counts::counted_number))]
 pub(crate) fn pin_number(firsts: &List<u32>, pin: PinRef) -> u32
-    ensures { result ≡ pin_number firsts.now pin }
+    ensures { result ≡ counted_number firsts.now pin }
 {
     let first = firsts.get(pin.place as usize).copied().unwrap_or(0);
     first.saturating_add(pin.pin)

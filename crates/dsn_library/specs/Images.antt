@@ -5,9 +5,10 @@ use Rattle.dsn_tree.specs.declared.tree.Tree.{Tree}
 use Rattle.dsn_shapes.specs.declared.refusal.Refusal.{Refusal}
 use Rattle.dsn_shapes.specs.declared.parts.Layer.{Layer}
 use Rattle.dsn_shapes.specs.declared.parts.Image.{Image}
+use Rattle.dsn_shapes.specs.Known.{keepout_heads}
 use Rattle.dsn_shapes.specs.Lists.{lists, name_of, quoted_name}
 use Rattle.dsn_shapes.specs.Names.{same_names}
-use Rattle.dsn_shapes.specs.Shapes.{keepout_heads, ban_of, ban_refusals}
+use Rattle.dsn_shapes.specs.Shapes.{ban_of, ban_refusals}
 use Rattle.dsn_library.specs.Pins.{pin_of, pin_refusals}
 
 -- the pins, and the keepouts, that stand directly in these lists

@@ -1,6 +1,7 @@
 -- The library: the padstacks and the images of all its sections together.
 use Rattle.std.specs.Prelude.{◌+◌, ℕ, List, [], ◌∷◌, ◌++◌, codes, map, sum_by}
 use Rattle.dsn_tree.specs.declared.tree.Tree.{Tree}
+use Rattle.dsn_shapes.specs.declared.known.ListKind.TheVariants as list
 use Rattle.dsn_shapes.specs.declared.refusal.Refusal.{Refusal}
 use Rattle.dsn_shapes.specs.declared.parts.Layer.{Layer}
 use Rattle.dsn_shapes.specs.declared.parts.Library.{Library}
@@ -19,32 +20,20 @@ padstacks pcb = lists (codes "padstack" ∷ []) (libraries pcb)
 abbrev pub images : Tree → List Tree
 images pcb = lists (codes "image" ∷ []) (libraries pcb)
 
--- ---- lists that are left out or passed over; an outline and `attach` are known and have no effect
-abbrev pub library_heads : List (List ℕ)
-library_heads = codes "image" ∷ codes "padstack" ∷ []
-
-abbrev pub image_heads : List (List ℕ)
-image_heads = codes "pin" ∷ codes "keepout" ∷ codes "via_keepout" ∷ codes "wire_keepout" ∷ codes "outline" ∷ []
-
-abbrev pub pin_heads : List (List ℕ)
-pin_heads = codes "rotate" ∷ []
-
-abbrev pub padstack_heads : List (List ℕ)
-padstack_heads = codes "shape" ∷ codes "attach" ∷ []
-
+-- ---- lists that are left out or passed over, beside those of the table `read_in` and `idle_in`
 -- directly in the sections and the images
 unfoldable pub sections_left_out : List Tree → List Tree → List Refusal
 sections_left_out libs imgs = left_out_in libs ++ left_out_in imgs
 
 unfoldable pub sections_passed : List Tree → List Tree → ℕ
-sections_passed libs imgs = notes_in library_heads libs + notes_in image_heads imgs
+sections_passed libs imgs = notes_in list.Library libs + notes_in list.Image imgs
 
 -- directly in the pins and the padstacks
 unfoldable pub parts_left_out : List Tree → List Tree → List Refusal
 parts_left_out pins stacks = left_out_in pins ++ left_out_in stacks
 
 unfoldable pub parts_passed : List Tree → List Tree → ℕ
-parts_passed pins stacks = notes_in pin_heads pins + notes_in padstack_heads stacks
+parts_passed pins stacks = notes_in list.Pin pins + notes_in list.Padstack stacks
 
 -- beside the forms of shapes and keepouts
 unfoldable pub forms_passed : List Tree → List Tree → ℕ

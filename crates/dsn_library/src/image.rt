@@ -10,8 +10,8 @@ ghost use Rattle.dsn_library.specs.Pins.{pin_of};
 
 use crate::pin::Pins;
 use dsn_shapes::{
-    BanShape, Image, ImagePin, Keepouts, Layer, NameIndex, Part, Refusal, Trees, name_of,
-    read_each, refuse_quoted_name,
+    BanShape, Image, ImagePin, Keepouts, Layer, NameIndex, Part, Refusal, Trees, keepout_heads,
+    name_of, read_each, refuse_quoted_name,
 };
 use dsn_tree::Tree;
 use dsn_units::Scale;
@@ -98,10 +98,7 @@ fn read_bans(
 pub(crate) fn keepouts_in<'a>(alloc: Global, images: &Trees<'a>) -> Result<Trees<'a>, AllocError>
     ensures { IfOk result (λ ts. ts ≡ keepouts_in images.now) }
 {
-    images.lists(
-        alloc,
-        &[b"keepout".as_slice(), b"via_keepout", b"wire_keepout"],
-    )
+    images.lists(alloc, keepout_heads())
 }
 
 /// All images of a library, whose padstacks `stacks` is the index of.

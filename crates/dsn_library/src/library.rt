@@ -13,7 +13,8 @@ ghost use Rattle.dsn_library.specs.Whole.{forms_passed, images, libraries, libra
 use crate::image::{keepouts_in, read_images};
 use crate::padstack::read_stacks;
 use dsn_shapes::{
-    Layer, Library, NameIndex, ReadFault, Refusal, Trees, ban_notes, pass_over, shape_notes,
+    Layer, Library, ListKind, NameIndex, ReadFault, Refusal, Trees, ban_notes, pass_over,
+    shape_notes,
 };
 use dsn_tree::Tree;
 use dsn_units::Scale;
@@ -49,18 +50,8 @@ fn pass_over_sections(first: &mut Option<Refusal>, libraries: &Trees, images: &T
     ensures noted { first.new ≡ noted first.old (sections_left_out libraries.now images.now) }
     ensures value { result ≡ capped (sections_passed libraries.now images.now) }
 {
-    let in_libraries = pass_over(first, libraries, &[b"image".as_slice(), b"padstack"]);
-    let in_images = pass_over(
-        first,
-        images,
-        &[
-            b"pin".as_slice(),
-            b"keepout",
-            b"via_keepout",
-            b"wire_keepout",
-            b"outline",
-        ],
-    );
+    let in_libraries = pass_over(first, libraries, ListKind::Library);
+    let in_images = pass_over(first, images, ListKind::Image);
     in_libraries.saturating_add(in_images)
 }
 
@@ -70,8 +61,8 @@ fn pass_over_parts(first: &mut Option<Refusal>, pins: &Trees, padstacks: &Trees)
     ensures noted { first.new ≡ noted first.old (parts_left_out pins.now padstacks.now) }
     ensures value { result ≡ capped (parts_passed pins.now padstacks.now) }
 {
-    let in_pins = pass_over(first, pins, &[b"rotate".as_slice()]);
-    let in_padstacks = pass_over(first, padstacks, &[b"shape".as_slice(), b"attach"]);
+    let in_pins = pass_over(first, pins, ListKind::Pin);
+    let in_padstacks = pass_over(first, padstacks, ListKind::Padstack);
     in_pins.saturating_add(in_padstacks)
 }
 

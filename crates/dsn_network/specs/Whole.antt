@@ -2,6 +2,7 @@
 use Rattle.std.specs.Prelude.{◌+◌, ℕ, List, [], ◌∷◌, ◌++◌, codes, map, sum_by}
 use Rattle.std.specs.List.{flat_map}
 use Rattle.dsn_tree.specs.declared.tree.Tree.{Tree}
+use Rattle.dsn_shapes.specs.declared.known.ListKind.TheVariants as list
 use Rattle.dsn_shapes.specs.declared.refusal.Refusal.{Refusal}
 use Rattle.dsn_shapes.specs.declared.parts.Library.{Library}
 use Rattle.dsn_shapes.specs.declared.parts.Network.{Network}
@@ -22,30 +23,20 @@ net_lists pcb = lists (codes "net" ∷ []) (networks pcb)
 abbrev pub class_lists : Tree → List Tree
 class_lists pcb = lists (codes "class" ∷ []) (networks pcb)
 
--- ---- lists that are left out or passed over
-abbrev pub network_heads : List (List ℕ)
-network_heads = codes "net" ∷ codes "class" ∷ []
-
-abbrev pub net_heads : List (List ℕ)
-net_heads = codes "pins" ∷ codes "rule" ∷ []
-
--- `use_via` stands in a circuit, and `circuit` and `rule` in a class; elsewhere in the two they are passed over in silence
-abbrev pub class_heads : List (List ℕ)
-class_heads = codes "circuit" ∷ codes "rule" ∷ codes "use_via" ∷ []
-
+-- ---- lists that are left out or passed over, beside those of the table `read_in` and `idle_in`
 -- directly in the sections and the nets
 unfoldable pub nets_left_out : List Tree → List Tree → List Refusal
 nets_left_out sections nets = left_out_in sections ++ left_out_in nets
 
 unfoldable pub nets_passed : List Tree → List Tree → ℕ
-nets_passed sections nets = notes_in network_heads sections + notes_in net_heads nets
+nets_passed sections nets = notes_in list.Network sections + notes_in list.Net nets
 
 -- directly in the classes and their circuits
 unfoldable pub classes_left_out : List Tree → List Refusal
 classes_left_out classes = left_out_in classes ++ left_out_in (circuits_in classes)
 
 unfoldable pub classes_passed : List Tree → ℕ
-classes_passed classes = notes_in class_heads classes + notes_in class_heads (circuits_in classes)
+classes_passed classes = notes_in list.Class classes + notes_in list.Class (circuits_in classes)
 
 -- in the rules of these lists
 abbrev pub rules_passed : List Tree → ℕ

@@ -16,7 +16,7 @@ use crate::classes::{ClassIndex, stray_names};
 use crate::net::{Nets, read_nets};
 use crate::pins::PinIndex;
 use dsn_shapes::{
-    Library, NameIndex, Network, Placing, ReadFault, Refusal, Trees, names_of, pass_over,
+    Library, ListKind, NameIndex, Network, Placing, ReadFault, Refusal, Trees, names_of, pass_over,
 };
 use dsn_tree::Tree;
 use dsn_units::Scale;
@@ -51,8 +51,8 @@ fn pass_over_nets(first: &mut Option<Refusal>, sections: &Trees, nets: &Trees) -
     ensures noted { first.new ≡ noted first.old (nets_left_out sections.now nets.now) }
     ensures value { result ≡ capped (nets_passed sections.now nets.now) }
 {
-    let in_sections = pass_over(first, sections, &[b"net".as_slice(), b"class"]);
-    let in_nets = pass_over(first, nets, &[b"pins".as_slice(), b"rule"]);
+    let in_sections = pass_over(first, sections, ListKind::Network);
+    let in_nets = pass_over(first, nets, ListKind::Net);
     in_sections.saturating_add(in_nets)
 }
 
@@ -67,9 +67,8 @@ fn pass_over_classes(
     ensures value { IfOk result (λ n. n ≡ capped (classes_passed classes.now)) }
 {
     let circuits = classes.headed(alloc, b"circuit")?;
-    let heads = [b"circuit".as_slice(), b"rule", b"use_via"];
-    let in_classes = pass_over(first, classes, &heads);
-    let in_circuits = pass_over(first, &circuits, &heads);
+    let in_classes = pass_over(first, classes, ListKind::Class);
+    let in_circuits = pass_over(first, &circuits, ListKind::Class);
     Ok(in_classes.saturating_add(in_circuits))
 }
 

@@ -2,6 +2,7 @@
 use Rattle.std.specs.Prelude.{◌+◌, nat_lt, ℕ, List, [], ◌∷◌, ◌++◌, codes, length, map, if◌then◌else◌}
 use Rattle.std.specs.List.{flat_map}
 use Rattle.dsn_tree.specs.declared.tree.Tree.{Tree}
+use Rattle.dsn_shapes.specs.declared.known.ListKind.TheVariants as list
 use Rattle.dsn_shapes.specs.declared.refusal.Refusal.{Refusal}
 use Rattle.dsn_shapes.specs.declared.refusal.What.{What}
 use Rattle.dsn_shapes.specs.declared.refusal.What.TheVariants.{Nothing, Layers, Nets, Pins, Items, Vertices}
@@ -20,20 +21,13 @@ placements pcb = lists (codes "placement" ∷ []) (pcb ∷ [])
 abbrev pub components : Tree → List Tree
 components pcb = lists (codes "component" ∷ []) (placements pcb)
 
--- ---- lists that are left out or passed over
--- a `place_control` is read with the structure
-abbrev pub placement_heads : List (List ℕ)
-placement_heads = codes "component" ∷ codes "place_control" ∷ []
-
--- `place` stands in a component, and `PN` in a place; elsewhere in the two they are passed over in silence
-abbrev pub component_heads : List (List ℕ)
-component_heads = codes "place" ∷ codes "PN" ∷ []
-
+-- ---- lists that are left out or passed over, beside those of the table `read_in` and `idle_in`
 unfoldable pub lists_left_out : List Tree → List Tree → List Tree → List Refusal
 lists_left_out sections comps places = left_out_in sections ++ (left_out_in comps ++ left_out_in places)
 
 unfoldable pub lists_passed : List Tree → List Tree → List Tree → ℕ
-lists_passed sections comps places = notes_in placement_heads sections + (notes_in component_heads comps + notes_in component_heads places)
+lists_passed sections comps places = notes_in list.Placement sections
+    + (notes_in list.Component comps + notes_in list.Component places)
 
 -- ---- limits
 -- what a component adds to what is counted

@@ -13,8 +13,8 @@ ghost use Rattle.dsn_placement.specs.Sound.{HasFewImages, IsPlacingSound};
 
 use crate::place::{Around, Laid, read_components};
 use dsn_shapes::{
-    Library, NameIndex, Place, Placing, ReadFault, Refusal, Structure, Trees, What, names_of, note,
-    pass_over,
+    Library, ListKind, NameIndex, Place, Placing, ReadFault, Refusal, Structure, Trees, What,
+    names_of, note, pass_over,
 };
 use dsn_tree::Tree;
 use dsn_units::Scale;
@@ -50,11 +50,9 @@ fn pass_over_lists(first: &mut Option<Refusal>, parts: &Sections) -> u64
     ensures noted { first.new ≡ noted first.old (lists_left_out parts.now.placements parts.now.components parts.now.places) }
     ensures value { result ≡ capped (lists_passed parts.now.placements parts.now.components parts.now.places) }
 {
-    let placement_heads: [&[u8]; 2] = [b"component", b"place_control"];
-    let component_heads: [&[u8]; 2] = [b"place", b"PN"];
-    let beside = pass_over(first, &parts.placements, &placement_heads);
-    let in_components = pass_over(first, &parts.components, &component_heads);
-    let in_places = pass_over(first, &parts.places, &component_heads);
+    let beside = pass_over(first, &parts.placements, ListKind::Placement);
+    let in_components = pass_over(first, &parts.components, ListKind::Component);
+    let in_places = pass_over(first, &parts.places, ListKind::Component);
     beside.saturating_add(in_components.saturating_add(in_places))
 }
 

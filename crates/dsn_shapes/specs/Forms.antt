@@ -18,7 +18,12 @@ use Rattle.dsn_shapes.specs.Layers.{layers_of, layer_refusal}
 
 -- ---- the numbers of a form
 abbrev pub form_of : Tree → Option Form
-form_of t = if is_headed (codes "circle") t then Some Circle else (if is_headed (codes "rect") t then Some Rect else (if is_headed (codes "polygon") t then Some Polygon else (if is_headed (codes "path") t then Some Path else None)))
+form_of t =
+    if is_headed (codes "circle") t then Some Circle else
+    (if is_headed (codes "rect") t then Some Rect else
+    (if is_headed (codes "polygon") t then Some Polygon else
+    (if is_headed (codes "path") t then Some Path else
+    None)))
 
 -- how many words it may have: its head, its layer and its numbers
 abbrev pub has_count : Form → ℕ → Bool

@@ -22,7 +22,11 @@ stands_for Signal word l = not l.power
 stands_for Power word l = l.power
 
 abbrev pub group_of : List ℕ → Group
-group_of word = if str_eq_ignore_ascii_case word (codes "pcb") then All else (if str_eq_ignore_ascii_case word (codes "signal") then Signal else (if str_eq_ignore_ascii_case word (codes "power") then Power else Named))
+group_of word =
+    if str_eq_ignore_ascii_case word (codes "pcb") then All else
+    (if str_eq_ignore_ascii_case word (codes "signal") then Signal else
+    (if str_eq_ignore_ascii_case word (codes "power") then Power else
+    Named))
 
 -- a word names the layers of its name, or else those of its group
 unfoldable pub named_by : List Layer → List ℕ → Group

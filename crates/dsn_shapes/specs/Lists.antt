@@ -65,7 +65,13 @@ quoted_name t i = if has_quote (name_of t i) then refused 21 (place_of t i) ∷ 
 
 -- a list that the profile leaves out
 abbrev pub is_left_out : Tree → Bool
-is_left_out t = is_headed (codes "qarc") t || (is_headed (codes "polyline_path") t || (is_headed (codes "layer_rule") t || (is_headed (codes "region") t || (is_headed (codes "class_class") t || (is_headed (codes "absolute") t && says t 1 (codes "on"))))))
+is_left_out t =
+    is_headed (codes "qarc") t ||
+    (is_headed (codes "polyline_path") t ||
+    (is_headed (codes "layer_rule") t ||
+    (is_headed (codes "region") t ||
+    (is_headed (codes "class_class") t ||
+    (is_headed (codes "absolute") t && says t 1 (codes "on"))))))
 
 abbrev pub left_out : Tree → List Refusal
 left_out t = if is_left_out t then refused 21 (place_of t 0) ∷ [] else []

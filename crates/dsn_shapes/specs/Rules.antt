@@ -19,7 +19,13 @@ use Rattle.dsn_shapes.specs.Numbers.{word_extent, extent_at, extent_refusal}
 
 -- ---- which pairs a clearance is for
 abbrev pub kind_of : List ℕ → Option Kind
-kind_of text = if str_eq_ignore_ascii_case text (codes "wire") then Some Wire else (if str_eq_ignore_ascii_case text (codes "via") then Some Via else (if str_eq_ignore_ascii_case text (codes "pin") then Some Pin else (if str_eq_ignore_ascii_case text (codes "smd") then Some Smd else (if str_eq_ignore_ascii_case text (codes "area") then Some Area else None))))
+kind_of text =
+    if str_eq_ignore_ascii_case text (codes "wire") then Some Wire else
+    (if str_eq_ignore_ascii_case text (codes "via") then Some Via else
+    (if str_eq_ignore_ascii_case text (codes "pin") then Some Pin else
+    (if str_eq_ignore_ascii_case text (codes "smd") then Some Smd else
+    (if str_eq_ignore_ascii_case text (codes "area") then Some Area else
+    None))))
 
 abbrev pub both : Option Kind → Option Kind → Pairing
 both (Some a) (Some b) = Known a (Some b)

@@ -11,6 +11,7 @@ use Rattle.dsn_units.specs.declared.length.Scale.{Scale}
 use Rattle.geo_kernel.specs.declared.unit.Unit.{Unit}
 use Rattle.geo_kernel.specs.declared.unit.Unit.TheVariants.{Inch, Mil, Cm, Mm, Um}
 use Rattle.geo_kernel.specs.Units.{unit_nm}
+use Rattle.dsn_shapes.specs.declared.known.ListKind.TheVariants as list
 use Rattle.dsn_shapes.specs.declared.refusal.Refusal.{Refusal}
 use Rattle.dsn_shapes.specs.declared.parts.Head.{Head}
 use Rattle.dsn_shapes.specs.Refusals.{refused}
@@ -41,7 +42,13 @@ not_pcb pcb = if is_headed (codes "pcb") pcb && is_some (word pcb 1) then [] els
 
 -- ---- units
 abbrev pub unit_of : List ℕ → Option Unit
-unit_of text = if str_eq_ignore_ascii_case text (codes "inch") then Some Inch else (if str_eq_ignore_ascii_case text (codes "mil") then Some Mil else (if str_eq_ignore_ascii_case text (codes "cm") then Some Cm else (if str_eq_ignore_ascii_case text (codes "mm") then Some Mm else (if str_eq_ignore_ascii_case text (codes "um") then Some Um else None))))
+unit_of text =
+    if str_eq_ignore_ascii_case text (codes "inch") then Some Inch else
+    (if str_eq_ignore_ascii_case text (codes "mil") then Some Mil else
+    (if str_eq_ignore_ascii_case text (codes "cm") then Some Cm else
+    (if str_eq_ignore_ascii_case text (codes "mm") then Some Mm else
+    (if str_eq_ignore_ascii_case text (codes "um") then Some Um else
+    None))))
 
 -- word 1 of a list is its unit
 abbrev pub unit_in : Tree → Unit
@@ -91,20 +98,15 @@ unfoldable pub host_refusal : List Tree → List Refusal
 host_refusal ts = option_map_or (λ t. quoted_name t 1) (first_of ts) []
 
 -- ---- the whole
-abbrev pub pcb_heads : List (List ℕ)
-pcb_heads = codes "parser" ∷ codes "resolution" ∷ codes "unit" ∷ codes "structure" ∷ codes "placement" ∷ codes "library" ∷ codes "network" ∷ codes "wiring" ∷ []
-
-abbrev pub parser_heads : List (List ℕ)
-parser_heads = codes "string_quote" ∷ codes "host_cad" ∷ codes "host_version" ∷ codes "space_in_quoted_tokens" ∷ []
-
 unfoldable pub scale_refusals : Tree → List Tree → List Tree → List Refusal
 scale_refusals pcb ts us = resolution_refusals pcb (first_of ts) ++ option_map_or unit_refusal (first_of us) []
 
+-- lists that are left out or passed over, beside those of the table `read_in` and `idle_in`
 abbrev pub header_left_out : Tree → List Refusal
 header_left_out pcb = left_out_in (pcb ∷ []) ++ left_out_in (parsers pcb)
 
 abbrev pub header_notes : Tree → ℕ
-header_notes pcb = capped (notes_in pcb_heads (pcb ∷ []) + notes_in parser_heads (parsers pcb))
+header_notes pcb = capped (notes_in list.Pcb (pcb ∷ []) + notes_in list.Parser (parsers pcb))
 
 -- all refusals of the head
 abbrev pub head_refusals : Tree → List Refusal

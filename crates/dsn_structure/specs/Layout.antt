@@ -4,15 +4,17 @@ use Rattle.std.specs.List.{flat_map, list_any}
 use Rattle.std.specs.Option.{option_map_or}
 use Rattle.dsn_tree.specs.declared.tree.Tree.{Tree}
 use Rattle.dsn_tree.specs.Heads.{child, items_of}
+use Rattle.dsn_shapes.specs.declared.known.ListKind.TheVariants as list
 use Rattle.dsn_shapes.specs.declared.refusal.Refusal.{Refusal}
 use Rattle.dsn_shapes.specs.declared.refusal.What.{What}
 use Rattle.dsn_shapes.specs.declared.refusal.What.TheVariants.{Layers, Items}
 use Rattle.dsn_shapes.specs.declared.parts.Layer.{Layer}
 use Rattle.dsn_shapes.specs.declared.parts.Structure.{Structure}
 use Rattle.dsn_shapes.specs.Refusals.{refused}
+use Rattle.dsn_shapes.specs.Known.{keepout_heads}
 use Rattle.dsn_shapes.specs.Lists.{at_of, text_of, is_word, lists, name_of, says, quoted_name, capped, notes_in, left_out_in}
 use Rattle.dsn_shapes.specs.Names.{names_at, first_place, same_names}
-use Rattle.dsn_shapes.specs.Shapes.{keepout_heads, ban_of, ban_refusals, ban_notes, bound_of, bound_refusals}
+use Rattle.dsn_shapes.specs.Shapes.{ban_of, ban_refusals, ban_notes, bound_of, bound_refusals}
 use Rattle.dsn_shapes.specs.Rules.{rule_set, rule_refusals, rule_notes}
 
 -- ---- lists
@@ -107,21 +109,13 @@ via_at_smd ctrls = any_says (codes "on") (lists (codes "via_at_smd" ∷ []) ctrl
 unfoldable pub flip_last : Tree → Bool
 flip_last pcb = any_says (codes "rotate_first") (lists (codes "flip_style" ∷ []) (lists (codes "place_control" ∷ []) (lists (codes "structure" ∷ codes "placement" ∷ []) (pcb ∷ []))))
 
--- ---- lists that are left out or passed over; a plane is passed over
-abbrev pub structure_heads : List (List ℕ)
-structure_heads = codes "layer" ∷ codes "boundary" ∷ codes "keepout" ∷ codes "via_keepout" ∷ codes "wire_keepout" ∷ codes "via" ∷ codes "rule" ∷ codes "control" ∷ codes "place_control" ∷ []
-
-abbrev pub layer_heads : List (List ℕ)
-layer_heads = codes "type" ∷ codes "property" ∷ []
-
-abbrev pub control_heads : List (List ℕ)
-control_heads = codes "via_at_smd" ∷ []
-
+-- ---- lists that are left out or passed over, beside those of the table `read_in` and `idle_in`; a plane is passed over
 unfoldable pub lists_left_out : List Tree → List Tree → List Tree → List Refusal
 lists_left_out structs ls ctrls = left_out_in structs ++ (left_out_in ls ++ left_out_in ctrls)
 
 unfoldable pub lists_passed : List Tree → List Tree → List Tree → ℕ
-lists_passed structs ls ctrls = notes_in structure_heads structs + (notes_in layer_heads ls + notes_in control_heads ctrls)
+lists_passed structs ls ctrls = notes_in list.Structure structs
+    + (notes_in list.Layer ls + notes_in list.Control ctrls)
 
 -- ---- the whole
 -- the layers, what stands beside the parts, and the parts that are missing

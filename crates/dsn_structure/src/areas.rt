@@ -9,7 +9,8 @@ ghost use Rattle.dsn_structure.specs.Layout.{area_refusals, keepouts};
 
 use crate::layers::refuse_past;
 use dsn_shapes::{
-    BanShape, Bounds, Keepouts, Layer, LayerShape, Refusal, Trees, What, ban_notes, read_each,
+    BanShape, Bounds, Keepouts, Layer, LayerShape, Refusal, Trees, What, ban_notes, keepout_heads,
+    read_each,
 };
 use dsn_tree::Tree;
 use dsn_units::Scale;
@@ -20,8 +21,7 @@ use std::alloc::{AllocError, Global};
 pub(crate) fn keepouts<'a>(alloc: Global, structs: &Trees<'a>) -> Result<Trees<'a>, AllocError>
     ensures { IfOk result (λ ts. ts ≡ keepouts structs.now) }
 {
-    let heads: [&[u8]; 3] = [b"keepout", b"via_keepout", b"wire_keepout"];
-    structs.lists(alloc, &heads)
+    structs.lists(alloc, keepout_heads())
 }
 
 /// The boundaries and the keepouts, and how many lists the keepouts have beside their forms.

@@ -3,14 +3,14 @@
 
 ghost use Rattle.std.specs.Prelude.{◌≡◌, ◌∷◌, [], IfOk, OnOk};
 ghost use Rattle.dsn_shapes.specs.Refusals.{Reads, noted};
-ghost use Rattle.dsn_shapes.specs.Lists.{capped, left_out_in, name_of, notes_in};
-ghost use Rattle.dsn_structure.specs.Header.{count_of, count_refusal, first_of, head_of, head_refusals, header_left_out, header_notes, host_in, host_of, host_refusal, hosts, not_pcb, parser_heads, parsers, pcb_heads, resolution_count, resolution_refusals, resolution_unit, resolutions, scale_of, scale_refusals, some_count, unit_in, unit_of, unit_refusal, units};
+ghost use Rattle.dsn_shapes.specs.Lists.{name_of};
+ghost use Rattle.dsn_structure.specs.Header.{count_of, count_refusal, first_of, head_of, head_refusals, header_left_out, header_notes, host_in, host_of, host_refusal, hosts, not_pcb, parsers, resolution_count, resolution_refusals, resolution_unit, resolutions, scale_of, scale_refusals, some_count, unit_in, unit_of, unit_refusal, units};
 ghost use Rattle.dsn_structure.specs.Sound.{IsHeadSound};
 ghost use Rattle.std.specs.Option.{option_map_or};
 ghost use Rattle.std.specs.Prelude.{codes, unwrap_or};
 
 use dsn_shapes::{
-    Head, ReadFault, Refusal, Trees, at_of, name_of, note, nth_word, pass_over, place_of,
+    Head, ListKind, ReadFault, Refusal, Trees, at_of, name_of, note, nth_word, pass_over, place_of,
     refuse_quoted_name, refused, text_of,
 };
 use dsn_tree::{Tree, is_headed, word};
@@ -222,36 +222,6 @@ fn read_host(
     first_host(alloc, first, &hosts)
 }
 
-fn pass_over_pcb(first: &mut Option<Refusal>, whole: &Trees) -> u64
-    ensures noted { first.new ≡ noted first.old (left_out_in whole.now) }
-    ensures value { result ≡ capped (notes_in pcb_heads whole.now) }
-{
-    let heads: [&[u8]; 8] = [
-        b"parser",
-        b"resolution",
-        b"unit",
-        b"structure",
-        b"placement",
-        b"library",
-        b"network",
-        b"wiring",
-    ];
-    pass_over(first, whole, &heads)
-}
-
-fn pass_over_parsers(first: &mut Option<Refusal>, parsers: &Trees) -> u64
-    ensures noted { first.new ≡ noted first.old (left_out_in parsers.now) }
-    ensures value { result ≡ capped (notes_in parser_heads parsers.now) }
-{
-    let heads: [&[u8]; 4] = [
-        b"string_quote",
-        b"host_cad",
-        b"host_version",
-        b"space_in_quoted_tokens",
-    ];
-    pass_over(first, parsers, &heads)
-}
-
 fn pass_over_header(
     alloc: Global,
     first: &mut Option<Refusal>,
@@ -262,8 +232,8 @@ fn pass_over_header(
 {
     let whole = Trees::one(alloc, pcb)?;
     let parsers = Trees::in_list(alloc, pcb, b"parser")?;
-    let beside = pass_over_pcb(first, &whole);
-    let inside = pass_over_parsers(first, &parsers);
+    let beside = pass_over(first, &whole, ListKind::Pcb);
+    let inside = pass_over(first, &parsers, ListKind::Parser);
     Ok(beside.saturating_add(inside))
 }
 

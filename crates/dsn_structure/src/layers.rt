@@ -7,8 +7,8 @@ ghost use Rattle.dsn_shapes.specs.Refusals.{noted};
 ghost use Rattle.dsn_structure.specs.Layout.{frame_layers, frame_notes, frame_refusals, is_power, layer_refusals, layers_in, lists_left_out, lists_passed, missing, no_boundary, past_limit};
 
 use dsn_shapes::{
-    Layer, NameIndex, Part, Refusal, Trees, What, at_of, name_of, note, pass_over, read_each,
-    refuse_quoted_name, refused, says,
+    Layer, ListKind, NameIndex, Part, Refusal, Trees, What, at_of, name_of, note, pass_over,
+    read_each, refuse_quoted_name, refused, says,
 };
 use dsn_tree::{Tree, child};
 use geo_kernel::List;
@@ -120,22 +120,9 @@ fn pass_over_lists(
     ensures noted { first.new ≡ noted first.old (lists_left_out structs.now layers.now ctrls.now) }
     ensures value { result ≡ capped (lists_passed structs.now layers.now ctrls.now) }
 {
-    let structure_heads: [&[u8]; 9] = [
-        b"layer",
-        b"boundary",
-        b"keepout",
-        b"via_keepout",
-        b"wire_keepout",
-        b"via",
-        b"rule",
-        b"control",
-        b"place_control",
-    ];
-    let layer_heads: [&[u8]; 2] = [b"type", b"property"];
-    let control_heads: [&[u8]; 1] = [b"via_at_smd"];
-    let beside = pass_over(first, structs, &structure_heads);
-    let in_layers = pass_over(first, layers, &layer_heads);
-    let in_controls = pass_over(first, ctrls, &control_heads);
+    let beside = pass_over(first, structs, ListKind::Structure);
+    let in_layers = pass_over(first, layers, ListKind::Layer);
+    let in_controls = pass_over(first, ctrls, ListKind::Control);
     beside.saturating_add(in_layers.saturating_add(in_controls))
 }
 

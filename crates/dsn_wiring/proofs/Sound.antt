@@ -32,10 +32,11 @@ use Rattle.dsn_shapes.specs.declared.parts.Placing.{Placing}
 use Rattle.dsn_shapes.specs.declared.parts.Stack.{Stack}
 use Rattle.dsn_shapes.specs.declared.parts.Structure.{Structure}
 use Rattle.dsn_shapes.specs.Refusals.{least, refused}
+use Rattle.dsn_shapes.specs.Known.{form_heads}
 use Rattle.dsn_shapes.specs.Lists.{at_of, has_head, is_left_out, left_out, left_out_in, lists, name_of, nth_word, place_of, text_of}
 use Rattle.dsn_shapes.specs.Names.{first_place, place_index, stack_names}
 use Rattle.dsn_shapes.specs.Numbers.{coord_refusal, limit_refusal, number_by, refusal_by, word_coord, word_coord_refusal}
-use Rattle.dsn_shapes.specs.Shapes.{form_heads, shape_of, shape_refusals}
+use Rattle.dsn_shapes.specs.Shapes.{shape_of, shape_refusals}
 use Rattle.dsn_shapes.proofs.Fits.{back_nil, each_nil, first_below, front_nil, none_left, shape_fit, test_fails, test_holds}
 use Rattle.dsn_shapes.specs.Fits.{IsShapeFit}
 use Rattle.dsn_shapes.proofs.Few.{few_left, shape_layered, shape_layers}

@@ -11,9 +11,10 @@ use Rattle.dsn_shapes.specs.declared.parts.Structure.{Structure}
 use Rattle.dsn_shapes.specs.declared.parts.Library.{Library}
 use Rattle.dsn_shapes.specs.declared.parts.Placing.{Placing}
 use Rattle.dsn_shapes.specs.declared.parts.Network.{Network}
+use Rattle.dsn_shapes.specs.Known.{form_heads}
 use Rattle.dsn_shapes.specs.Lists.{at_of, lists, place_of}
 use Rattle.dsn_shapes.specs.Names.{stack_names}
-use Rattle.dsn_shapes.specs.Shapes.{form_heads, shape_of}
+use Rattle.dsn_shapes.specs.Shapes.{shape_of}
 use Rattle.dsn_shapes.proofs.Tabled.{AreTabled, all_left_out_tabled, both, coord_tabled, each, either, none, of_some, one, passed, shape_tabled, where_fails, where_holds}
 use Rattle.dsn_wiring.specs.Counts.{items_before, too_many}
 use Rattle.dsn_wiring.specs.Nets.{net_names, net_refusals, place_in, unknown_net}

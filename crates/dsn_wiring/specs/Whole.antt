@@ -4,6 +4,7 @@ use Rattle.std.specs.List.{flat_map}
 use Rattle.dsn_tree.specs.declared.tree.Tree.{Tree}
 use Rattle.dsn_tree.specs.Heads.{is_headed}
 use Rattle.pcb_model.specs.declared.item.Metal.{Metal}
+use Rattle.dsn_shapes.specs.declared.known.ListKind.TheVariants as list
 use Rattle.dsn_shapes.specs.declared.refusal.Refusal.{Refusal}
 use Rattle.dsn_shapes.specs.declared.parts.Layer.{Layer}
 use Rattle.dsn_shapes.specs.declared.parts.Stack.{Stack}
@@ -39,15 +40,12 @@ wire_of nm layers names nets t = record { at = at_of t; net = net_of nets t; fix
 unfoldable pub refusals_of : ℕ → List Layer → List Stack → List (List ℕ) → List (List ℕ) → Tree → List Refusal
 refusals_of nm layers stacks names nets t = net_refusals nets t ++ metal_refusals nm layers stacks names t
 
--- ---- lists that are left out or passed over
-abbrev pub wire_heads : List (List ℕ)
-wire_heads = codes "wire" ∷ codes "via" ∷ codes "path" ∷ codes "net" ∷ codes "type" ∷ []
-
+-- ---- lists that are left out or passed over, beside those of the table `read_in` and `idle_in`
 unfoldable pub lists_left_out : List Tree → List Tree → List Refusal
 lists_left_out sections ts = left_out_in sections ++ left_out_in ts
 
 unfoldable pub lists_passed : List Tree → List Tree → ℕ
-lists_passed sections ts = notes_in wire_heads sections + notes_in wire_heads ts
+lists_passed sections ts = notes_in list.Wiring sections + notes_in list.Wiring ts
 
 -- ---- the whole
 -- all refusals of the wiring

@@ -12,8 +12,9 @@ use Rattle.dsn_shapes.specs.declared.refusal.Refusal.{Refusal}
 use Rattle.dsn_shapes.specs.declared.parts.Layer.{Layer}
 use Rattle.dsn_shapes.specs.declared.parts.LayerShape.{LayerShape}
 use Rattle.dsn_shapes.specs.Refusals.{refused}
+use Rattle.dsn_shapes.specs.Known.{form_heads}
 use Rattle.dsn_shapes.specs.Lists.{at_of, lists, place_of}
-use Rattle.dsn_shapes.specs.Shapes.{form_heads, shape_of, shape_refusals}
+use Rattle.dsn_shapes.specs.Shapes.{shape_of, shape_refusals}
 use Rattle.dsn_wiring.specs.Layers.{layers_below}
 
 -- ---- lists of copper in a wire

@@ -8,7 +8,9 @@ ghost use Rattle.dsn_shapes.specs.Refusals.{noted};
 ghost use Rattle.dsn_wiring.specs.Wires.{chain_of, further_forms, no_form, no_wire, path_metal, path_refusals, paths_in, refused_form, wire_metal, wire_refusals};
 
 use crate::layers::layers_below;
-use dsn_shapes::{Layer, LayerShape, Refusal, Trees, at_of, note, note_shape, place_of, refused};
+use dsn_shapes::{
+    Layer, LayerShape, Refusal, Trees, at_of, form_heads, note, note_shape, place_of, refused,
+};
 use dsn_tree::Tree;
 use dsn_units::Scale;
 use geo_kernel::{List, Point, Spine};
@@ -94,15 +96,7 @@ fn refuse_further(
 fn refuse_empty(alloc: Global, first: &mut Option<Refusal>, wire: &Tree) -> Result<(), AllocError>
     ensures { OnOk result (first.new ≡ noted first.old (no_form wire.now)) }
 {
-    let heads: [&[u8]; 6] = [
-        b"circle",
-        b"rect",
-        b"polygon",
-        b"path",
-        b"qarc",
-        b"polyline_path",
-    ];
-    let forms = Trees::one(alloc, wire)?.lists(alloc, &heads)?;
+    let forms = Trees::one(alloc, wire)?.lists(alloc, form_heads())?;
     if forms.len() == 0 {
         note(first, refused(22, at_of(wire)));
     }

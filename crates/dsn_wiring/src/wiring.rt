@@ -15,8 +15,8 @@ use crate::net::{is_fixed, net_names, net_of};
 use crate::via::{note_via, stack_names};
 use crate::wire::note_wire;
 use dsn_shapes::{
-    Layer, Library, NameIndex, Network, Part, Placing, ReadFault, ReadWire, Refusal, Stack,
-    Structure, Trees, Wiring, at_of, pass_over, read_each,
+    Layer, Library, ListKind, NameIndex, Network, Part, Placing, ReadFault, ReadWire, Refusal,
+    Stack, Structure, Trees, Wiring, at_of, pass_over, read_each,
 };
 use dsn_tree::{Tree, is_headed};
 use dsn_units::Scale;
@@ -118,9 +118,8 @@ fn pass_over_lists(first: &mut Option<Refusal>, sections: &Trees, wires: &Trees)
     ensures noted { first.new ≡ noted first.old (lists_left_out sections.now wires.now) }
     ensures value { result ≡ capped (lists_passed sections.now wires.now) }
 {
-    let heads: [&[u8]; 5] = [b"wire", b"via", b"path", b"net", b"type"];
-    let in_sections = pass_over(first, sections, &heads);
-    let in_wires = pass_over(first, wires, &heads);
+    let in_sections = pass_over(first, sections, ListKind::Wiring);
+    let in_wires = pass_over(first, wires, ListKind::Wiring);
     in_sections.saturating_add(in_wires)
 }
 

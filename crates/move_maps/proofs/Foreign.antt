@@ -163,7 +163,7 @@ module _ (d : Design) (m : Mesh) (items : List Item) (g net v i n : ℕ) (ws : L
   shut_at (Some p) e (inl t) is_open = omega (arith, t, few)
   shut_at (Some p) e (inr (below, (k, x, misses, outside, sum))) is_open =
       let zero_k = all_missed (IsClearOf d g p) items k (all_of items (λ b there.
-          agreed_clear d m items g net v i ws h own hv hi out p e b there (is_open.agrees b there))) misses in
+      agreed_clear d m items g net v i ws h own hv hi out p e b there (is_open.agrees b there))) misses in
       let zero_x = inside_none d p x is_open.inside outside in
       omega (arith, zero_k, zero_x, sum, some)
     where

@@ -11,7 +11,8 @@ use Rattle.pcb_board.specs.declared.answer.Entry.{Entry}
 use Rattle.pcb_board.specs.declared.answer.Entry.TheVariants.{Join, Back}
 use Rattle.pcb_board.specs.Boards.{Past, opening, next, past_from, past, replay}
 
-pub past_on : (d : Design) (p : Past) (xs ys : List Entry) → past_from d p (xs ++ ys) ≡ past_from d (past_from d p xs) ys
+pub past_on : (d : Design) (p : Past) (xs ys : List Entry)
+    → past_from d p (xs ++ ys) ≡ past_from d (past_from d p xs) ys
 past_on d p [] ys = refl
 past_on d p (x ∷ xs) ys = past_on d (next d p x) xs ys
 

@@ -16,8 +16,7 @@ ghost use Rattle.pcb_board.specs.Loading.{IsKept, LoadsOne, AreLoaded};
 use geo_kernel::{List, Point, Rect4, Spine, box_of};
 use pcb_model::{
     Copper, Design, FreeWire, Item, Steps, copy_item, copy_loops, copy_metal, greatest_clearance,
-    inside_board,
-    make_item, pairs_are_symmetric, width_ok,
+    inside_board, make_item, pairs_are_symmetric, width_ok,
 };
 use pcb_tiles::Tiles;
 use std::alloc::{AllocError, Global};

@@ -76,6 +76,10 @@ impl Copper for Snap {
 
     ghost ticks = { λ s a. 2 ^ 22 * length s.items };
 
+    ghost touch_ticks = { λ s a. 2 ^ 22 * length s.items };
+
+    ghost probe_ticks = { λ s d p. 2 ^ 22 * length s.items };
+
     fn in_order(&self) {
         self.tiles.in_order();
     }

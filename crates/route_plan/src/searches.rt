@@ -182,9 +182,7 @@ fn plan_passing_by_maps(
     let Some(fixed) = fixed else {
         return plan_passing_in(alloc, search, lat, d, snap, via_cost, worker, net, penalty);
     };
-    match rips_of(
-        alloc, maps, fixed, lat, d, snap, net, via_cost, penalty,
-    )? {
+    match rips_of(alloc, maps, fixed, lat, d, snap, net, via_cost, penalty)? {
         Some(moves) => plan_passing_with(
             alloc, search, lat, d, snap, &moves, via_cost, worker, net, penalty,
         ),

@@ -17,9 +17,10 @@ use Rattle.dsn_shapes.specs.declared.parts.Placing.{Placing}
 use Rattle.dsn_shapes.specs.declared.parts.ReadWire.{ReadWire}
 use Rattle.dsn_shapes.specs.declared.parts.Structure.{Structure}
 use Rattle.dsn_shapes.specs.Refusals.{least, refused}
+use Rattle.dsn_shapes.specs.Known.{form_heads}
 use Rattle.dsn_shapes.specs.Lists.{at_of, has_head, left_out, left_out_in, lists, place_of}
 use Rattle.dsn_shapes.specs.Names.{stack_names}
-use Rattle.dsn_shapes.specs.Shapes.{form_heads, shape_of, shape_refusals}
+use Rattle.dsn_shapes.specs.Shapes.{shape_of, shape_refusals}
 use Rattle.dsn_shapes.proofs.Fits.{back_nil, each_nil, front_nil, none_left, test_fails}
 use Rattle.dsn_wiring.specs.Counts.{items_before, too_many}
 use Rattle.dsn_wiring.specs.Layers.{layers_below}

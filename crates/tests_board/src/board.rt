@@ -1,14 +1,14 @@
 //! Boards from short texts, and what stands at a place in their lists.
 //! The free wiring of a text is the copper that a test lays; its fixed items are what it meets.
 
-ghost use Rattle.std.specs.Prelude.{◌≡◌, IfOk, IfSome};
+ghost use Rattle.std.specs.Prelude.{IfSome};
 ghost use Rattle.std.specs.Option.{option_copied};
 ghost use Rattle.pcb_model.specs.Bounds.{IsItemFit, IsProbeFit};
 ghost use Rattle.pcb_model.specs.Sound.{IsSound};
 
 use dsn_design::read_design;
 use pcb_model::{Design, Item, Metal, Probe, copy_metal, make_item};
-use std::alloc::{AllocError, Global};
+use std::alloc::Global;
 
 /// The design of a short text, or None where it is refused.
 pub(crate) fn board(alloc: Global, text: &str) -> Option<Design>

@@ -4,8 +4,8 @@ use Rattle.std.specs.Prelude.{All}
 use Rattle.pcb_model.specs.Bounds.{IsFit}
 use Rattle.pcb_model.specs.declared.design.Design.{Design}
 use Rattle.pcb_model.specs.declared.design.Padstack.{Padstack}
-use Rattle.dsn_design.specs.Items.{fixed_items, free_wiring}
-use Rattle.dsn_design.specs.Made.{IsDesignOf}
+use Rattle.dsn_design.specs.Counts.{IsCountedOf, counted_items}
+use Rattle.dsn_design.specs.Items.{free_wiring}
 use Rattle.dsn_design.specs.Usable.{usables}
 use Rattle.dsn_design.proofs.Making.{frame_stacks, made}
 use Rattle.dsn_design.proofs.Padded.{padstacks_fit}
@@ -22,6 +22,6 @@ pub returns : goal.returns
 returns c =
     let p = c.args.parts.now in
     let frame = c.in_ok-frame.frame in
-    IfOk-weaker c.with_fixed.result (λ (d : Design). d ≡ record frame { fixed = fixed_items p frame.padstacks }) (IsDesignOf p)
+    IfOk-weaker c.with_fixed.result (λ (d : Design). d ≡ record frame { fixed = counted_items p frame.padstacks }) (IsCountedOf p)
     (λ (d : Design) is. made p c.layer_count.result c.in_ok-stacks.stacks c.in_ok-free.free frame d c.layer_count.ensures.value c.in_ok-stacks.ensures.are c.in_ok-stacks.ensures.usable (c.in_ok-free.ensures ∙ ap free_wiring c.as_slice.ensures) c.in_ok-frame.ensures is)
     c.with_fixed.ensures

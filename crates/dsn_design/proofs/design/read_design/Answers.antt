@@ -1,3 +1,4 @@
+use Rattle.dsn_design.proofs.Placed.{counted_design}
 use Rattle.dsn_design.proofs.PlainCopper.{design_plain}
 use Rattle.dsn_design.proofs.Sound.{design_sound}
 use Rattle.dsn_design.proofs.Counted.{text_weight}
@@ -21,5 +22,16 @@ make_design-requires c = sound_fit c.in-Ok-read_parts.parts c.in-Ok-read_parts.e
 pub returns-in-Ok-make_design-clause-sound : goal.returns-in-Ok-make_design-clause-sound
 returns-in-Ok-make_design-clause-sound c = design_sound c.in-Ok-read_parts.parts c.in-Ok-make_design.design c.in-Ok-read_parts.ensures.sound c.in-Ok-make_design.ensures
 
+pub returns-in-Ok-make_design-clause-reads : goal.returns-in-Ok-make_design-clause-reads
+returns-in-Ok-make_design-clause-reads c = record {
+  pcb = c.in-Ok.tree;
+  tree = c.in-Ok.ensures;
+  parts = c.in-Ok-read_parts.parts;
+  are_parts = c.in-Ok-read_parts.ensures.reads;
+  design = counted_design c.in-Ok-read_parts.parts c.in-Ok-make_design.design c.in-Ok-read_parts.ensures.sound c.in-Ok-make_design.ensures;
+}
+
 pub returns-in-Ok-make_design-clause-plain : goal.returns-in-Ok-make_design-clause-plain
-returns-in-Ok-make_design-clause-plain c = design_plain c.in-Ok-read_parts.parts c.in-Ok-make_design.design c.in-Ok-read_parts.ensures.sound.library c.in-Ok-make_design.ensures
+returns-in-Ok-make_design-clause-plain c =
+    let design = counted_design c.in-Ok-read_parts.parts c.in-Ok-make_design.design c.in-Ok-read_parts.ensures.sound c.in-Ok-make_design.ensures in
+    design_plain c.in-Ok-read_parts.parts c.in-Ok-make_design.design c.in-Ok-read_parts.ensures.sound.library design

@@ -1,5 +1,5 @@
 use Rattle.std.proofs.Common.{◌≡◌, ◌++◌, drop}
-use Rattle.dsn_design.specs.Items.{pads_at}
+use Rattle.dsn_design.specs.Counts.{pads_at}
 use Rattle.dsn_design.proofs.items.push_pads.Given as goal
 
 abbrev pub invariant-loop-pin : goal.invariant-loop-pin

@@ -1,5 +1,5 @@
 use Rattle.std.proofs.Common.{◌≡◌, ◌++◌, drop}
-use Rattle.dsn_design.specs.Items.{items_from}
+use Rattle.dsn_design.specs.Counts.{items_from}
 use Rattle.dsn_design.proofs.items.push_places.Given as goal
 
 abbrev pub invariant-loop-place : goal.invariant-loop-place

@@ -1,5 +1,5 @@
 use Rattle.std.proofs.Common.{◌≡◌, ◌++◌, drop}
-use Rattle.dsn_design.specs.Pins.{firsts_from}
+use Rattle.dsn_design.specs.Counts.{firsts_from}
 use Rattle.dsn_design.proofs.pins.first_pins.Given as goal
 
 abbrev pub invariant-loop-place : goal.invariant-loop-place

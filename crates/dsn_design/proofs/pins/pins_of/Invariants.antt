@@ -1,5 +1,5 @@
 use Rattle.std.proofs.Common.{◌≡◌, ◌++◌, drop}
-use Rattle.dsn_design.specs.Pins.{pins_from}
+use Rattle.dsn_design.specs.Counts.{pins_from}
 use Rattle.dsn_design.proofs.pins.pins_of.Given as goal
 
 abbrev pub invariant-loop-place : goal.invariant-loop-place

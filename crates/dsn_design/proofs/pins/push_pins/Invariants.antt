@@ -1,5 +1,5 @@
 use Rattle.std.proofs.Common.{◌≡◌, ◌++◌, drop}
-use Rattle.dsn_design.specs.Pins.{pins_at}
+use Rattle.dsn_design.specs.Counts.{pins_at}
 use Rattle.dsn_design.proofs.pins.push_pins.Given as goal
 
 abbrev pub invariant-loop-image_pin : goal.invariant-loop-image_pin

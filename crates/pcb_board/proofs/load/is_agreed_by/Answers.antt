@@ -18,7 +18,8 @@ returns-in-Some g c = (
 pub returns : goal.returns
 returns g c = (
   λ t. all_from (Agrees c.args.d.now c.args.item.now) c.args.tiles.now.items (λ b there.
-      let less = All-contains (λ (a : Item). a.id < c.args.item.now.id) c.args.tiles.now.items b c.requires.above there in
+      let less = All-contains (λ (a : Item). a.id < c.args.item.now.id) c.args.tiles.now.items b
+      c.requires.above there in
       c.in-None.ensures.finds b there
       (omega arith, λ same. omega (arith, less, same_Some c.args.item.now.id b.id same))),
   λ all. refl,

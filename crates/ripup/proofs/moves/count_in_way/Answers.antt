@@ -18,7 +18,7 @@ returns-in_default-clause-counted g c =
     let items = g.C.Copper.items c.args.c.now in
     let serves : Serves items d = g.met.C.Copper.serving _ _ c.requires.serves in
     no_more d items c.args.net c.args.p.now c.requires.sound serves c.in_order.ensures.ascends c.loop-n.from c.loop-n.n
-    c.loop-n.invariant (omega arith) c.in_default.ensures
+    c.loop-n.invariant (omega arith) c.in_default.ensures.finds
 
 pub returns-in_default-checked_add-clause-counted : goal.returns-in_default-checked_add-clause-counted
 returns-in_default-checked_add-clause-counted g c =
@@ -29,7 +29,7 @@ returns-in_default-checked_add-clause-counted g c =
     no_higher d items c.args.net c.args.p.now c.requires.sound serves c.in_order.ensures.ascends (c.in-Some.id + 1)
     (c.loop-n.n + 1)
     (passes d items c.args.net c.args.p.now c.requires.sound serves c.in_order.ensures.ascends c.loop-n.from
-    c.in-Some.id c.loop-n.n c.loop-n.invariant c.in-Some.ensures)
+    c.in-Some.id c.loop-n.n c.loop-n.invariant c.in-Some.ensures.finds)
     (omega arith) high c.in_order.ensures.ids
 
 pub loop-n-preserved : goal.loop-n-preserved
@@ -40,7 +40,7 @@ loop-n-preserved g c =
     let next_is : c.in-Some.id + 1 ≡ c.in-Some-checked_add.next = omega (arith, c.in-Some-checked_add.ensures) in
     subst (λ (n : ℕ). IsPassed d items c.args.net c.args.p.now n (c.loop-n.n + 1)) next_is
     (passes d items c.args.net c.args.p.now c.requires.sound serves c.in_order.ensures.ascends c.loop-n.from
-    c.in-Some.id c.loop-n.n c.loop-n.invariant c.in-Some.ensures)
+    c.in-Some.id c.loop-n.n c.loop-n.invariant c.in-Some.ensures.finds)
 
 pub returns-clause-counted : goal.returns-clause-counted
 returns-clause-counted g c =

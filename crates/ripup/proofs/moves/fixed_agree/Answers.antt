@@ -21,7 +21,7 @@ returns-in-None g c =
     let items = g.C.Copper.items c.args.c.now in
     let serves : Serves items d = g.met.C.Copper.serving _ _ c.requires.serves in (
       λ t. all_agree d items c.args.net c.args.p.now c.requires.sound serves c.in_order.ensures.ascends
-          c.in-None.ensures,
+          c.in-None.ensures.finds,
       λ all. refl,
     )
 
@@ -32,6 +32,6 @@ returns g c =
     let serves : Serves items d = g.met.C.Copper.serving _ _ c.requires.serves in
     told c.len.result c.in-Some.id _
     (λ high. first_high d items c.args.net c.args.p.now c.requires.sound serves c.in_order.ensures.ascends c.in-Some.id
-    c.in-Some.ensures (omega (arith, high, c.len.ensures)))
+    c.in-Some.ensures.finds (omega (arith, high, c.len.ensures)))
     (λ low. first_low d items c.args.net c.args.p.now c.requires.sound serves c.in_order.ensures.ascends c.in-Some.id
-    c.in-Some.ensures (omega (arith, low, c.len.ensures)))
+    c.in-Some.ensures.finds (omega (arith, low, c.len.ensures)))

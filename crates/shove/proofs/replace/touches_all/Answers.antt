@@ -7,7 +7,7 @@ pub returns-then-not-touch : goal.returns-then-not-touch
 returns-then-not-touch g c =
     let items = g.C.Copper.items c.args.c.now in
     refused _ (touches_not items c.args.old.now c.args.new.now c.loop-id.from c.in-Some.id c.in-Some-item.b.now
-    (one_of items c.in_order.ensures.ascends) c.in-Some.ensures c.in-Some-item.ensures.0 c.in-Some-item.ensures.1
+    (one_of items c.in_order.ensures.ascends) c.in-Some.ensures.finds c.in-Some-item.ensures.0 c.in-Some-item.ensures.1
     (unless c.touch.result _ c.touch.ensures c.if-not-touch.true))
 
 pub returns-in_default-checked_add : goal.returns-in_default-checked_add
@@ -15,7 +15,7 @@ returns-in_default-checked_add g c =
     let items = g.C.Copper.items c.args.c.now in
     let high : 2 ^ 64 ≤ c.in-Some.id + 1 = omega (arith, c.in_default-checked_add.ensures) in
     let more = touches_more items c.args.old.now c.args.new.now c.loop-id.from c.in-Some.id c.in-Some-item.b.now
-    c.requires.one_net (one_of items c.in_order.ensures.ascends) c.loop-id.invariant c.in-Some.ensures
+    c.requires.one_net (one_of items c.in_order.ensures.ascends) c.loop-id.invariant c.in-Some.ensures.finds
     c.in-Some-item.ensures.0 c.in-Some-item.ensures.1
     (c.touch.ensures.0 c.if-not-touch.false) in (
       λ t. touches_high items c.args.old.now c.args.new.now
@@ -29,13 +29,13 @@ loop-id-preserved g c =
     let next_is : c.in-Some.id + 1 ≡ c.in-Some-checked_add.next = omega (arith, c.in-Some-checked_add.ensures) in
     subst (λ (from : ℕ). TouchesBelow items c.args.old.now c.args.new.now from) next_is
     (touches_more items c.args.old.now c.args.new.now c.loop-id.from c.in-Some.id c.in-Some-item.b.now
-    c.requires.one_net (one_of items c.in_order.ensures.ascends) c.loop-id.invariant c.in-Some.ensures
+    c.requires.one_net (one_of items c.in_order.ensures.ascends) c.loop-id.invariant c.in-Some.ensures.finds
     c.in-Some-item.ensures.0 c.in-Some-item.ensures.1
     (c.touch.ensures.0 c.if-not-touch.false))
 
 pub returns : goal.returns
 returns g c =
     let items = g.C.Copper.items c.args.c.now in (
-      λ t. touches_end items c.args.old.now c.args.new.now c.loop-id.from c.loop-id.invariant c.in_default.ensures,
+      λ t. touches_end items c.args.old.now c.args.new.now c.loop-id.from c.loop-id.invariant c.in_default.ensures.finds,
       λ h. refl,
     )

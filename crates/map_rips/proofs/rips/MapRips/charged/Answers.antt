@@ -14,7 +14,7 @@ returns-then-all-fixed-clause-counted g c =
     same_here t.d.now t.lat.now (g.C.Copper.items t.c.now) t.net s.by_map.map.now c.args.self.now.fixed.now s.own
     c.requires.maps c.requires.can_rip.can_move.sound
     (g.met.C.Copper.serving t.c.now t.d.now c.requires.serves) c.args.node c.args.i c.requires.node c.requires.index
-    c.tally-all.result c.fixed_tally-fixed.result c.if-all-eq255.false c.if-fixed-eq255.false c.if-all-fixed.true
+    c.tally-all.result c.fixed_tally-fixed.result c.if-all.false c.if-fixed.false c.if-all-fixed.true
     c.tally-all.ensures c.fixed_tally-fixed.ensures
 
 pub returns-clause-counted : goal.returns-clause-counted
@@ -29,5 +29,5 @@ returns-clause-counted g c =
     (off_here t.d.now t.lat.now items t.net s.by_map.map.now c.args.self.now.fixed.now s.own
     c.requires.maps c.requires.can_rip.can_move.sound
     (g.met.C.Copper.serving t.c.now t.d.now c.requires.serves) c.args.node c.args.i c.requires.node c.requires.index
-    c.tally-all.result c.fixed_tally-fixed.result c.if-all-eq255.false c.if-fixed-eq255.false out c.tally-all.ensures
+    c.tally-all.result c.fixed_tally-fixed.result c.if-all.false c.if-fixed.false out c.tally-all.ensures
     c.fixed_tally-fixed.ensures)

@@ -92,10 +92,10 @@ each_short : {X Y : Type 0} (f : X → List Y) (xs : List X) → All (λ x. leng
 each_short f [] = All-nil (λ x. length (f x) ≤ 0)
 each_short f (x ∷ xs) =
     let whole : length (f x ++ flat_map f xs) ≡ length (f x) + length (flat_map f xs) =
-        length-append (f x) (flat_map f xs) in
+    length-append (f x) (flat_map f xs) in
     All-cons (λ y. length (f y) ≤ length (f x ++ flat_map f xs)) x xs (omega arith)
     (All-weaker (λ y. length (f y) ≤ length (flat_map f xs)) (λ y. length (f y) ≤ length (f x ++ flat_map f xs))
-        (λ y h. omega (arith, h)) xs (each_short f xs))
+    (λ y h. omega (arith, h)) xs (each_short f xs))
 
 component_all : (P : Item → Type 0) (parts : Parts) (stacks : List Padstack)
     → HoldsPlaced P parts stacks (length (pin_refs parts.library parts.placing.places)) → (c : PlacedComponent)
@@ -108,8 +108,8 @@ component_all P parts stacks h c few =
     All-append P (map (placed_ban parts c.place) bans) (map (pad_of parts stacks) pins)
     (All-map P (placed_ban parts c.place) bans (h.bans c.place))
     (All-map P (pad_of parts stacks) pins (λ k d l. let q = get_or pins k d in
-        h.pads q.ref.place q.component.place q.ref.pin (pin_number refs q.ref) q.image_pin
-        (number_below refs q.ref (omega arith))))
+    h.pads q.ref.place q.component.place q.ref.pin (pin_number refs q.ref) q.image_pin
+    (number_below refs q.ref (omega arith))))
 
 refs_long : (lib : Library) (places : List Place)
     → length (pin_refs lib places) ≡ length (flat_map (component_pins lib) (placed_components places))
@@ -131,9 +131,9 @@ placed_all P parts stacks h =
     let total = length (pin_refs lib parts.placing.places) in
     let holds : HoldsPlaced P parts stacks total = subst (HoldsPlaced P parts stacks) (pins_long parts stacks) h in
     all_made P (λ c. length (component_pins lib c) ≤ total) (component_items parts stacks)
-        (component_all P parts stacks holds) cs
+    (component_all P parts stacks holds) cs
     (subst (λ n. All (λ c. length (component_pins lib c) ≤ n) cs) (sym (refs_long lib parts.placing.places))
-        (each_short (component_pins lib) cs))
+    (each_short (component_pins lib) cs))
 
 -- what holds of each is shown part by part
 pub fixed_all : (P : Item → Type 0) (parts : Parts) (stacks : List Padstack)
@@ -154,4 +154,4 @@ fixed_all P parts stacks edges bans placed wires =
     (All-append P placings wired
     (placed_all P parts stacks placed)
     (All-map P (wiring_item stacks) kept
-        (All-filter is_fixed (λ w. P (wiring_item stacks w)) parts.wiring.wires wires))))
+    (All-filter is_fixed (λ w. P (wiring_item stacks w)) parts.wiring.wires wires))))

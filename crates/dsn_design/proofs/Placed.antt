@@ -117,8 +117,8 @@ refs_from_same lib n k (p ∷ ps) =
     ap (map ref_of) (rows (component_pins lib) n k p ps)
     ∙ map-append ref_of (cond (is_placed p) (component_pins lib c) []) more
     ∙ ap (λ rs. rs ++ map ref_of more)
-        (map_if (is_placed p) ref_of (component_pins lib c) (refs_at n 0 (image_pins lib p))
-        (λ b. refs_same c 0 (image_pins lib p)))
+    (map_if (is_placed p) ref_of (component_pins lib c) (refs_at n 0 (image_pins lib p))
+    (λ b. refs_same c 0 (image_pins lib p)))
     ∙ ap (λ rs. place_refs lib n p ++ rs) (refs_from_same lib (n + 1) next ps)
 
 -- those of a board
@@ -132,9 +132,9 @@ place_is : (lib : Library) (places : List Place) (i : ℕ) (r : PinRef) → leng
 place_is lib places i r few e =
     let refs = refs_from lib 0 places in
     let differs : (j : ℕ) (s : PinRef) → j < i → slice_get refs j ≡ Some s
-        → is_pin r s ≡ false = λ j s l f. false_from_ne_true (is_pin r s)
-        (λ t. let g : slice_get refs j ≡ Some r = f ∙ ap (λ (q : PinRef). Some q) (sym (same_pin r s t)) in
-            absurd (omega (arith, l, number_is lib places j r few g, number_is lib places i r few e))) in
+    → is_pin r s ≡ false = λ j s l f. false_from_ne_true (is_pin r s)
+    (λ t. let g : slice_get refs j ≡ Some r = f ∙ ap (λ (q : PinRef). Some q) (sym (same_pin r s t)) in
+    absurd (omega (arith, l, number_is lib places j r few g, number_is lib places i r few e))) in
     let n : 0 + i ≡ i = omega arith in
     ap (λ rs. pin_number rs r) (refs_all lib places)
     ∙ ap (λ o. unwrap_or o 0) (first_here (is_pin r) refs 0 i r e (is_itself r) differs)
@@ -173,8 +173,12 @@ count_up false k n h = refl
 -- a placed component has no more pins than references
 here_few : (lib : Library) (place : ℕ) (p : Place) (n : ℕ) → length (place_refs lib place p) ≤ n → is_placed p ≡ true
     → length (image_pins lib p) ≤ n
-here_few lib place p n h b = omega (arith, h, refs_count lib place p,
-    cond-true (is_placed p) (length (image_pins lib p)) 0 b)
+here_few lib place p n h b = omega (
+  arith,
+  h,
+  refs_count lib place p,
+  cond-true (is_placed p) (length (image_pins lib p)) 0 b,
+)
 
 -- those of a component that is placed or not
 place_pins_same : (parts : Parts) (stacks : List Padstack) (place component : ℕ) (p : Place)
@@ -186,7 +190,7 @@ place_pins_same parts stacks place component p few =
     let c = placed_as (component, (place, p)) in
     let is = image_pins parts.library p in
     sym (map_if (is_placed p) (pin_of parts stacks) (component_pins parts.library c)
-        (pins_at parts stacks place component p 0 is)
+    (pins_at parts stacks place component p 0 is)
     (λ b. sym (pins_at_same parts stacks c 0 is (omega (arith, here_few parts.library place p (2 ^ 32 - 1) few b)))))
 
 -- those of some components
@@ -204,12 +208,12 @@ pins_same parts stacks place component (p ∷ ps) few less pins =
     let more = flat_map (component_pins lib) (placed_from (place + 1) next ps) in
     let f : plus place 1 ≡ place + 1 = omega arith in
     let whole : length (place_refs lib place p ++ refs_from lib (place + 1) ps) ≡ length
-        (place_refs lib place p) + length (refs_from lib (place + 1) ps) =
-        length-append (place_refs lib place p) (refs_from lib (place + 1) ps) in
+    (place_refs lib place p) + length (refs_from lib (place + 1) ps) =
+    length-append (place_refs lib place p) (refs_from lib (place + 1) ps) in
     ap (λ n. here ++ pins_from parts stacks n (next_component component p) ps) f
     ∙ ap (λ n. here ++ pins_from parts stacks (place + 1) n ps) (count_up (is_placed p) component (length ps) less)
     ∙ ap (λ qs. here ++ qs) (pins_same parts stacks (place + 1) next ps (omega arith)
-        (count_on (is_placed p) component (length ps) (2 ^ 32 - 1) less) (omega arith))
+    (count_on (is_placed p) component (length ps) (2 ^ 32 - 1) less) (omega arith))
     ∙ ap (λ qs. qs ++ map (pin_of parts stacks) more) (place_pins_same parts stacks place component p (omega arith))
     ∙ sym (map-append (pin_of parts stacks) (cond (is_placed p) (component_pins lib c) []) more)
     ∙ ap (map (pin_of parts stacks)) (sym (rows (component_pins lib) place component p ps))
@@ -241,11 +245,11 @@ nets_are p stacks s few =
     let own = own_pins lib p.placing p.network s.network in
     map_agree (net_of stacks counted vias classes) (net_of stacks placed vias classes) p.network.nets
     (All-weaker (λ (n : ReadNet). All (IsPinThere lib places) n.pins)
-        (λ (n : ReadNet). net_of stacks counted vias classes n ≡ net_of stacks placed vias classes n)
+    (λ (n : ReadNet). net_of stacks counted vias classes n ≡ net_of stacks placed vias classes n)
     (λ n there. net_same stacks counted placed vias classes n
-        (map_agree counted placed n.pins
-            (All-weaker (IsPinThere lib places) (λ r. counted r ≡ placed r)
-            (λ r h. number_same lib places r few h) n.pins there)))
+    (map_agree counted placed n.pins
+    (All-weaker (IsPinThere lib places) (λ r. counted r ≡ placed r)
+    (λ r h. number_same lib places r few h) n.pins there)))
     p.network.nets own.there)
 
 -- ---- fixed items
@@ -268,11 +272,11 @@ pads_same parts stacks c pin number (i ∷ is) few less at =
     let f : plus pin 1 ≡ pin + 1 = omega arith in
     let g : plus number 1 ≡ number + 1 = omega arith in
     ap (λ k. pad_item parts stacks k r c.place i ∷ pads_at parts stacks c.number c.place (plus pin 1)
-        (plus number 1) is) n
+    (plus number 1) is) n
     ∙ ap (λ k. here ∷ pads_at parts stacks c.number c.place k (plus number 1) is) f
     ∙ ap (λ k. here ∷ pads_at parts stacks c.number c.place (pin + 1) k is) g
     ∙ ap (λ xs. here ∷ xs) (pads_same parts stacks c (pin + 1) (number + 1) is (omega arith) (omega arith)
-        (λ j s e. omega (arith, at (suc j) s e)))
+    (λ j s e. omega (arith, at (suc j) s e)))
 
 -- keepouts and pads of a component that is placed or not
 place_items_same : (parts : Parts) (stacks : List Padstack) (place component number : ℕ) (p : Place)
@@ -288,10 +292,10 @@ place_items_same parts stacks place component number p few at =
     let bans : List Item = map (placed_ban parts p) (image_bans lib p) in
     same_if (is_placed p) (bans ++ pads_at parts stacks place p 0 number is) (component_items parts stacks c)
     (λ b. let n : number + length is ≤ 2 ^ 32 - 1 =
-        omega (arith, few, here_few lib place p (length (place_refs lib place p)) (omega arith) b) in
+    omega (arith, few, here_few lib place p (length (place_refs lib place p)) (omega arith) b) in
     ap (λ xs. bans ++ xs) (pads_same parts stacks c 0 number is (omega arith) n
-        (λ j r e. at j r (ap (λ (rs : List PinRef). slice_get rs j) (cond-true (is_placed p) (refs_at place 0 is) [] b)
-            ∙ e))))
+    (λ j r e. at j r (ap (λ (rs : List PinRef). slice_get rs j) (cond-true (is_placed p) (refs_at place 0 is) [] b)
+    ∙ e))))
 
 -- a count of pins doesn't end early
 count_all : (b : Bool) (number k : ℕ) → number + cond b k 0 ≤ 2 ^ 32 - 1
@@ -316,13 +320,13 @@ items_same parts stacks place component number (p ∷ ps) few less at =
     let f : plus place 1 ≡ place + 1 = omega arith in
     ap (λ n. items ++ items_from parts stacks n (next_number parts number p) ps) f
     ∙ ap (λ n. items ++ items_from parts stacks (place + 1) n ps)
-        (count_all (is_placed p) number (length (image_pins lib p)) (omega arith))
+    (count_all (is_placed p) number (length (image_pins lib p)) (omega arith))
     ∙ ap (λ xs. items ++ xs) (items_same parts stacks (place + 1) next (number + pin_count lib p) ps (omega arith)
-        (omega arith)
-        (λ j r e. omega (arith, count, at (length here + j) r (get_behind here more (length here + j) j refl ∙ e))))
+    (omega arith)
+    (λ j r e. omega (arith, count, at (length here + j) r (get_behind here more (length here + j) j refl ∙ e))))
     ∙ ap (λ xs. xs ++ flat_map (component_items parts stacks) (placed_from (place + 1) next ps))
-        (place_items_same parts stacks place component number p (omega arith)
-        (λ j r e. at j r (get_front here more j (slice_get_within here j r e) ∙ e)))
+    (place_items_same parts stacks place component number p (omega arith)
+    (λ j r e. at j r (get_front here more j (slice_get_within here j r e) ∙ e)))
     ∙ sym (rows (component_items parts stacks) place component p ps)
 
 -- those of a design
@@ -334,9 +338,9 @@ items_are parts stacks few pins =
     let lib = parts.library in
     let places = parts.placing.places in
     ap (λ (xs : List Item). numbered (map (edge_item (layer_count parts)) parts.structure.bounds
-        ++ (map (ban_item (layer_count parts)) parts.structure.bans ++ (xs ++ fixed_wiring stacks parts.wiring.wires))))
+    ++ (map (ban_item (layer_count parts)) parts.structure.bans ++ (xs ++ fixed_wiring stacks parts.wiring.wires))))
     (items_same parts stacks 0 0 0 places (omega arith) (omega arith)
-        (λ j r e. omega (arith, place_is lib places j r pins e)))
+    (λ j r e. omega (arith, place_is lib places j r pins e)))
 
 -- ---- the whole
 -- the counted design of sound parts is that of the definitions
@@ -348,13 +352,13 @@ counted_are p stacks s =
     let few : length places ≤ 2 ^ 32 - 1 = omega (arith, s.few.places) in
     let pins : length (refs_from lib 0 places) ≤ 2 ^ 32 - 1 = omega (arith, refs_are lib places, s.placing.few_pins) in
     ap (λ (cs : List Component). design_with p stacks cs (counted_pins p stacks) (counted_nets p stacks)
-        (counted_items p stacks) free) (components_are lib places)
+    (counted_items p stacks) free) (components_are lib places)
     ∙ ap (λ (qs : List Pin). design_with p stacks (components_of lib places) qs (counted_nets p stacks)
-        (counted_items p stacks) free) (pins_are p stacks few pins)
+    (counted_items p stacks) free) (pins_are p stacks few pins)
     ∙ ap (λ (ns : List Net). design_with p stacks (components_of lib places) (all_pins p stacks) ns
-        (counted_items p stacks) free) (nets_are p stacks s pins)
+    (counted_items p stacks) free) (nets_are p stacks s pins)
     ∙ ap (λ (xs : List Item). design_with p stacks (components_of lib places) (all_pins p stacks)
-        (nets_of p stacks) xs free) (items_are p stacks few pins)
+    (nets_of p stacks) xs free) (items_are p stacks few pins)
 
 -- so what is made by counting is the design of the parts
 pub counted_design : (p : Parts) (d : Design) → ArePartsSound p → IsCountedOf p d → IsDesignOf p d

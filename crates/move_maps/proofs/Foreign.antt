@@ -9,6 +9,7 @@ use Rattle.std.proofs.lemmas.Bool.{eqb-true, eq-eqb, false≢true, le-ltb}
 use Rattle.std.proofs.Common.{get_or}
 use Rattle.std.proofs.lemmas.List.Elements.{All-head, All-tail, Contains-get_or}
 use Rattle.geo_kernel.proofs.Keeping.{keep_bars_touch}
+use Rattle.geo_kernel.proofs.Paths.{Any-cases, Any-nil}
 use Rattle.pcb_model.specs.Board.{AreInside}
 use Rattle.pcb_model.specs.declared.item.Kind.{Kind}
 use Rattle.pcb_model.specs.declared.item.Kind.TheVariants as kind
@@ -40,6 +41,35 @@ use Rattle.move_maps.specs.OwnCopper.{IsForeign, IsOwnCopper, IsStepThere, IsVia
 use Rattle.move_maps.proofs.Alike.{same_clearance, same_probe, same_way_count}
 
 -- ---- steps
+-- no via, if it is there
+abbrev pub IsNoVia : Option (Move × ℕ) → Type 0
+IsNoVia None = Unit {0}
+IsNoVia (Some (Step dir, to)) = Unit {0}
+IsNoVia (Some (Via padstack layer, to)) = ⊥
+
+-- what holds in both cases
+either : {X : Type 0} (P : X → Type 0) (b : Bool) (x y : X) → P x → P y → P (cond b x y)
+either P true x y f g = f
+either P false x y f g = g
+
+-- a step is no via
+pub step_no_via : (m : Mesh) (v dir : ℕ) → IsNoVia (step_at m v dir)
+step_no_via m v dir =
+    let P : Option (Move × ℕ) → Type 0 = λ o. IsNoVia o in
+    let l = level m v in let j = row m v in let i = column m v in
+    let right : Option (Move × ℕ) =
+    cond (nat_lt (i + 1) (length m.xs)) (Some (Step 0, node_at m l j (i + 1))) None in
+    let left : Option (Move × ℕ) = cond (nat_lt 0 i) (Some (Step 1, node_at m l j (i - 1))) None in
+    let up : Option (Move × ℕ) = cond (nat_lt (j + 1) (length m.ys)) (Some (Step 2, node_at m l (j + 1) i)) None in
+    let down : Option (Move × ℕ) = cond (nat_lt 0 j) (Some (Step 3, node_at m l (j - 1) i)) None in
+    either P (dir == 0) right (cond (dir == 1) left (cond (dir == 2) up down))
+    (either P (nat_lt (i + 1) (length m.xs)) (Some (Step 0, node_at m l j (i + 1))) None tt tt)
+    (either P (dir == 1) left (cond (dir == 2) up down)
+    (either P (nat_lt 0 i) (Some (Step 1, node_at m l j (i - 1))) None tt tt)
+    (either P (dir == 2) up down
+    (either P (nat_lt (j + 1) (length m.ys)) (Some (Step 2, node_at m l (j + 1) i)) None tt tt)
+    (either P (nat_lt 0 j) (Some (Step 3, node_at m l (j - 1) i)) None tt tt)))
+
 -- the first four moves are steps
 pub way_step : (d : Design) (m : Mesh) (net v i : ℕ) → i < 4 → way d m net v i ≡ step_at m v i
 way_step d m net v i h = picks (nat_lt i 4) (step_at m v i)
@@ -73,9 +103,18 @@ same_net_is : (net : ℕ) (o : Option ℕ) → is_same_net (Some net) o ≡ true
 same_net_is net None e = cc
 same_net_is net (Some x) e = ap (λ (m : ℕ). Some m) (sym (eqb-true net x e))
 
+-- where all have P, which bars Q, none has Q
+none_has : {X : Type 0} (P Q : X → Type 0) → ((x : X) → P x → Q x → ⊥) → (xs : List X) → All P xs → Any Q xs → ⊥
+none_has P Q bars [] h q = Any-nil Q q
+none_has P Q bars (x ∷ xs) h q = elim (Any-cases Q x xs q) [
+  | inl a ↦ bars x (All-head P x xs h) a
+  | inr a ↦ none_has P Q bars xs (All-tail P x xs h) a
+]
+
 -- pieces that keep a clearance don't touch
 apart : (c : ℕ) (ps rs : List Piece) → 0 < c → PiecesKeep c ps rs → PiecesTouch ps rs → ⊥
-apart c ps rs some h t = none ps h.each t.some
+apart c ps rs some h t = none_has (KeepsFrom c rs) (TouchesSome rs)
+    (λ p k x. none_has (PieceKeeps c p) (PieceTouches p) (off p) rs k.each x.some) ps h.each t.some
   where
     wide : (x y : ℕ) → x + y < max 1 (2 * c + x + y)
     wide x y = omega (arith, some)
@@ -83,17 +122,6 @@ apart c ps rs some h t = none ps h.each t.some
     off : (p r : Piece) → PieceKeeps c p r → PieceTouches p r → ⊥
     off p r k x = keep_bars_touch p.spine r.spine (max 1 (2 * c + p.width + r.width)) (p.width + r.width)
         (k.keep x.one_layer) (wide p.width r.width) x.touch
-
-    from : (p : Piece) (qs : List Piece) → All (PieceKeeps c p) qs → Any (PieceTouches p) qs → ⊥
-    from p [] k x = absurd x
-    from p (q ∷ qs) k (inl x) = off p q (All-head (PieceKeeps c p) q qs k) x
-    from p (q ∷ qs) k (inr x) = from p qs (All-tail (PieceKeeps c p) q qs k) x
-
-    none : (qs : List Piece) → All (KeepsFrom c rs) qs → Any (TouchesSome rs) qs → ⊥
-    none [] k x = absurd x
-    none (q ∷ qs) k (inl x) =
-        let f : KeepsFrom c rs q = All-head (KeepsFrom c rs) q qs k in from q rs f.each x.some
-    none (q ∷ qs) k (inr x) = none qs (All-tail (KeepsFrom c rs) q qs k) x
 
 -- a via is compared with what vias meet
 via_met : (p : Probe) (x : Metal) → kind_of (metal_of p) ≡ kind.Via → meets_vias x ≡ true

@@ -28,3 +28,4 @@ pub mod Foreign
 pub mod Strides
 pub mod Fences
 pub mod Spotting
+pub mod Vaulting

@@ -67,10 +67,14 @@ module _ {X : Type 0} (P : X → Type 0) (p : X → Bool) where
       let sum = r.1 in
       (r.0 + 1, omega (arith, i, sum), inr ((λ on. fails (on e)), r.0, refl, r.2))
 
+  -- with one more, picked or not
+  one_more : (x : X) (xs : List X) (n f : ℕ) → ((m g : ℕ) → Misses P xs m → Misses P (filter p xs) g → Apart xs m g)
+      → Misses P (x ∷ xs) n → (b : Bool) → p x ≡ b → Misses P (cond b (x ∷ filter p xs) (filter p xs)) f
+      → Apart (x ∷ xs) n f
+  one_more x xs n f go h true e some = picked x xs n f e go h some
+  one_more x xs n f go h false e some = passed_by x xs n f e go h some
+
+  -- so it is for all
   pub missed_apart : (xs : List X) (n f : ℕ) → Misses P xs n → Misses P (filter p xs) f → Apart xs n f
   missed_apart [] n f h k = (0, omega (arith, h, k), refl)
-  missed_apart (x ∷ xs) n f h k = by (p x) refl k
-    where
-      by : (b : Bool) → p x ≡ b → Misses P (cond b (x ∷ filter p xs) (filter p xs)) f → Apart (x ∷ xs) n f
-      by true e some = picked x xs n f e (λ m g i j. missed_apart xs m g i j) h some
-      by false e some = passed_by x xs n f e (λ m g i j. missed_apart xs m g i j) h some
+  missed_apart (x ∷ xs) n f h k = one_more x xs n f (λ m g i j. missed_apart xs m g i j) h (p x) refl k

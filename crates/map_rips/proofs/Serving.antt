@@ -2,7 +2,7 @@
 use Rattle.std.proofs.Common.{◌≡◌, ℕ, ◌<◌, refl, sym, ap, ◌∙◌, subst, Bool, true, List, [], ◌∷◌, All, length, get_or}
 use Rattle.std.proofs.Common.{cond, arith}
 use Prim.Native.Nat.{suc}
-use Rattle.std.specs.Prelude.{filter, take}
+use Rattle.std.specs.Prelude.{filter}
 use Rattle.std.proofs.lemmas.Option.{slice_get-get_or}
 use Rattle.pcb_model.specs.declared.item.Item.{Item}
 use Rattle.pcb_model.specs.declared.design.Design.{Design}

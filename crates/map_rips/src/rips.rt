@@ -173,10 +173,10 @@ impl<C: Copper> Moves for MapRips<'_, C> {
     }
 
     fn price(&self, node: u32, i: u32) -> u64 {
-        match self.charged(node, i) {
-            Some(n) => self.moves.price(node, i) + self.penalty * n,
-            None => self.price_on_copper(node, i),
-        }
+        let Some(n) = self.charged(node, i) else {
+            return self.price_on_copper(node, i);
+        };
+        self.moves.price(node, i) + self.penalty * n
     }
 }
 

@@ -222,7 +222,7 @@ fn work_off<R: Wait, G: Gate>(
 // What a worker has seen before it begins: a copy of what was seen before the pass.
 fn first_sight(alloc: Global, job: Job<'_>, turn: &Turn) -> Result<Option<Sight>, AllocError>
     requires base { IfSome job.base (λ s. IsSeenOn job.lat.now (opening turn.now) s.now) }
-    ensures { IfOk result (λ o. IfSome o (IsSeenOn job.lat.now (opening turn.now))) }
+    ensures { IfOk result (λ o. IfSome o (IsSeenOn job.entry.lat.now (opening turn.now))) }
 {
     let _turn = turn;
     match job.base {

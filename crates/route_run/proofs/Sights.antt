@@ -14,9 +14,9 @@ pub lent_seen : (m : Mesh) (b : BoardOf) (lent : Option (Bor Sight)) (o : Option
 lent_seen m b None o e h = tt
 lent_seen m b (Some s) o e h = by o e h
   where
+    inner : (x : Sight) → Some s.now ≡ Some x → x ≡ s.now
+    inner x f = cc
+
     by : (p : Option Sight) → Some s.now ≡ p → IfSome p (IsSeenOn m b) → IsSeenOn m b s.now
     by None f k = cc
     by (Some x) f k = subst (IsSeenOn m b) (inner x f) k
-
-    inner : (x : Sight) → Some s.now ≡ Some x → x ≡ s.now
-    inner x f = cc

@@ -1,4 +1,4 @@
-use Rattle.std.proofs.Common.{◌+◌, ◌<◌, ℕ, [], ◌∷◌, length, length-append, refl, sym, ap, subst, arith}
+use Rattle.std.proofs.Common.{◌+◌, ◌<◌, ℕ, [], ◌∷◌, length, length-append, refl, sym, ap, subst, arith, rules}
 use Rattle.pcb_model.specs.declared.design.Design.{Design}
 use Rattle.route_lattice.specs.Fits.{FitsDesign}
 use Rattle.board_sight.proofs.Seeing.{still_seen}
@@ -29,8 +29,8 @@ look_before-requires-clause-fits g c = subst (λ (d : Design). FitsDesign d c.ar
 
 -- what was seen is lent to the pass
 pub one_pass-requires-clause-base : goal.one_pass-requires-clause-base
-one_pass-requires-clause-base g c = lent_seen c.args.lat.now c.loop-k.board c.as_ref.result c.in_ok-base.base
-    c.as_ref.ensures.value c.in_ok-base.ensures
+one_pass-requires-clause-base g c = let h = lent_seen c.args.lat.now c.loop-k.board c.as_ref.result c.in_ok-base.base
+    c.as_ref.ensures.value c.in_ok-base.ensures in search (rules, h)
 
 pub returns-then-not-may_follow-clause-passed : goal.returns-then-not-may_follow-clause-passed
 returns-then-not-may_follow-clause-passed g c =

@@ -28,13 +28,13 @@ fn fixed_of(alloc: Global, lat: &Lattice, d: &Design) -> Option<MoveMaps>
 }
 
 /// What is seen of a net past routed items, or None where it has no map, or the copper answers otherwise.
-fn passed_of(
+fn passed_of<'a>(
     alloc: Global,
-    maps: &MoveMaps,
-    fixed: &MoveMaps,
-    lat: &Lattice,
-    d: &Design,
-    c: &PlainCopper,
+    maps: &'a MoveMaps,
+    fixed: &'a MoveMaps,
+    lat: &'a Lattice,
+    d: &'a Design,
+    c: &'a PlainCopper,
     net: u32,
 ) -> Option<Seen>
     requires can_rip { CanRip d.now lat.now net 2000000 500000 }

@@ -44,7 +44,10 @@ fn passed_of<'a>(
 {
     let rips = RipMoves::of(lat, d, c, net, 2_000_000, 500_000);
     match rips_of(alloc, maps, fixed, lat, d, c, net, 2_000_000, 500_000) {
-        Ok(Some(moves)) => seen_by(&moves, &rips, &moves.fixed.counts),
+        Ok(Some(moves)) => {
+            let map = moves.fixed;
+            seen_by(&moves, &rips, &map.counts)
+        }
         _ => None,
     }
 }

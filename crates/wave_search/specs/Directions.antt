@@ -35,9 +35,9 @@ is_up Elsewhere = false
 abbrev pub is_against : ℕ → Heading → Bool
 is_against place h = cond (place % 2 == 0) (is_up h) (is_across h)
 
--- a step against it costs its price, and a corner as much as 200 um of such steps, at most 2^64 - 1 together
+-- a step against it costs its price, and a corner as much as 20 um of such steps, at most 2^64 - 1 together
 abbrev pub cost_by : ℕ → Heading → Heading → ℕ → ℕ
-cost_by place h next price = min (cond (is_against place h) price 0 + cond (turns h next) 200000 0) (2 ^ 64 - 1)
+cost_by place h next price = min (cond (is_against place h) price 0 + cond (turns h next) 20000 0) (2 ^ 64 - 1)
 
 -- the cost of a move from a node, before a move of that heading
 abbrev pub direction_cost : Mesh → ℕ → Move → ℕ → Heading → ℕ

@@ -26,6 +26,15 @@ fn is_before(first: Label, second: Label) -> bool {
     0 < first.rank && first.rank < second.rank
 }
 
+/// The way that costs less by the rule, of equal ones the first.
+fn better_of(first: Option<Way>, second: Option<Way>) -> Option<Way> {
+    match (first, second) {
+        (Some(a), Some(b)) => { if b.cost < a.cost { Some(b) } else { Some(a) } }
+        (Some(a), None) => Some(a),
+        (None, b) => b,
+    }
+}
+
 /// Whether a pass asks of each move if it is open, or takes it to be: a walk that it leads to is asked of in any case.
 #[derive(Clone, Copy, Debug, PartialEq, Eq)]
 pub(crate) enum Openness {
@@ -34,25 +43,30 @@ pub(crate) enum Openness {
 }
 
 impl<'a, M: Moves, B: Bound, T: Ties> Task<'a, M, B, T> {
-    /// A tight move before the way on of that heading.
-    fn choose_way(
+    /// The way on over a tight move, and then on by the way of that heading.
+    fn way_over(
         &self,
-        choices: &mut Choices,
+        choices: &Choices,
         from: Place,
         m: Move,
         to: Place,
         heading: Heading,
-    ) -> Result<(), AllocError> {
-        let Some(way) = choices.way(to.label.rank, heading) else {
-            return Ok(());
-        };
+    ) -> Option<Way> {
+        let way = choices.way(to.label.rank, heading)?;
         let price = to.label.price.saturating_sub(from.label.price);
-        let way = Way {
+        Some(Way {
             to: to.node,
             then: heading,
             cost: cost_with(way, self.ties.cost(from.node, m, price, heading)),
-        };
-        choices.offer(from.label.rank, heading_of(m), way)
+        })
+    }
+
+    /// The best way on over a tight move.
+    fn best_over(&self, choices: &Choices, from: Place, m: Move, to: Place) -> Option<Way> {
+        let across = self.way_over(choices, from, m, to, Heading::Across);
+        let up = self.way_over(choices, from, m, to, Heading::Up);
+        let elsewhere = self.way_over(choices, from, m, to, Heading::Elsewhere);
+        better_of(better_of(across, up), elsewhere)
     }
 
     /// The first move from one node to another; move `guess` is tried before all.
@@ -98,9 +112,10 @@ impl<'a, M: Moves, B: Bound, T: Ties> Task<'a, M, B, T> {
         let Some(m) = found else {
             return Ok(());
         };
-        self.choose_way(choices, from, m, to, Heading::Across)?;
-        self.choose_way(choices, from, m, to, Heading::Up)?;
-        self.choose_way(choices, from, m, to, Heading::Elsewhere)
+        let Some(way) = self.best_over(choices, from, m, to) else {
+            return Ok(());
+        };
+        choices.offer(from.label.rank, heading_of(m), way)
     }
 
     /// The ways on from the node to which move `i` leads back. On a lattice moves lead both ways at one price;
@@ -162,42 +177,41 @@ impl<'a, M: Moves, B: Bound, T: Ties> Task<'a, M, B, T> {
         Ok(())
     }
 
-    /// Whether a number is that of a goal.
-    fn is_marked(&self, node: u32) -> bool
-        requires { length self.now.marks.now ≡ (M.graph self.now.m.now).count }
+    /// The goals that are done at the price: walks end there.
+    fn choose_ends(
+        &self,
+        table: &Labels,
+        choices: &mut Choices,
+        price: u64,
+    ) -> Result<(), AllocError>
+        requires size { length table.now ≡ (M.graph self.now.m.now).count }
     {
-        node < self.m.count() && self.marks.has(node)
+        for goal in self.goals.as_slice() {
+            if let Some(label) = self.label_after(table, 0, *goal)
+                && label.price == price
+            {
+                choices.offer_goal(label.rank)?;
+            }
+        }
+        Ok(())
     }
 
-    /// The ways on from the nodes before a node of a rank that has ways on itself, as a goal at the price has.
+    /// The ways on from the nodes before a node that has ways on itself.
     fn choose_at(
         &self,
         table: &Labels,
         choices: &mut Choices,
         node: u32,
-        rank: usize,
-        price: u64,
         openness: Openness,
     ) -> Result<(), AllocError>
         requires ready { M.ready self.now.m.now }
         requires sound { IsSound (M.graph self.now.m.now) }
         requires size { length table.now ≡ (M.graph self.now.m.now).count }
-        requires marks { length self.now.marks.now ≡ (M.graph self.now.m.now).count }
         requires small { (v : ℕ) (l : TheLabel) → label_at table.now v ≡ Some l → l.price < 2 ^ 60 }
     {
-        let is_goal = self.is_marked(node);
-        if !is_goal && !choices.has(rank) {
-            return Ok(());
-        }
         let Some(label) = self.label_after(table, 0, node) else {
             return Ok(());
         };
-        if is_goal && label.price == price {
-            choices.offer_goal(label.rank)?;
-        }
-        if !choices.has(rank) {
-            return Ok(());
-        }
         if label.origin.is_none() {
             choices.offer_start(node, label.rank);
             return Ok(());
@@ -217,12 +231,14 @@ impl<'a, M: Moves, B: Bound, T: Ties> Task<'a, M, B, T> {
         requires ready { M.ready self.now.m.now }
         requires sound { IsSound (M.graph self.now.m.now) }
         requires size { length table.now ≡ (M.graph self.now.m.now).count }
-        requires marks { length self.now.marks.now ≡ (M.graph self.now.m.now).count }
         requires small { (v : ℕ) (l : TheLabel) → label_at table.now v ≡ Some l → l.price < 2 ^ 60 }
     {
         let mut choices = Choices::new(alloc, order.len())?;
+        self.choose_ends(table, &mut choices, price)?;
         for k in (0..order.len()).rev() {
-            self.choose_at(table, &mut choices, order[k], k + 1, price, openness)?;
+            if choices.has(k + 1) {
+                self.choose_at(table, &mut choices, order[k], openness)?;
+            }
         }
         Ok(choices)
     }

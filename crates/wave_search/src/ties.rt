@@ -30,7 +30,7 @@ impl Ties for NoTies {
 }
 
 /// What a corner costs, in nm.
-const CORNER: u64 = 200_000;
+const CORNER: u64 = 20_000;
 
 /// Which way a move leads: along x, along y, or neither.
 #[derive(Clone, Copy, Debug, PartialEq, Eq)]
@@ -79,7 +79,7 @@ fn leads_against(place: usize, here: Heading) -> bool
 }
 
 /// Few corners, and on each signal layer a preferred direction: a step costs its length where it leads along y on the first signal layer
-/// of a lattice, the third and so on, or along x on the others, and a corner as much as 200 um of such steps.
+/// of a lattice, the third and so on, or along x on the others, and a corner as much as 20 um of such steps.
 #[derive(Drop)]
 pub struct LayerDirections<'a> {
     pub lat: &'a Lattice,

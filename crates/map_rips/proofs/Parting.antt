@@ -34,6 +34,17 @@ missed_alike P Q (x ∷ xs) n to from (inl (holds, rest)) = inl (to x holds, mis
 missed_alike P Q (x ∷ xs) n to from (inr (fails, m, e, rest)) =
     inr ((λ q. fails (from x q)), m, e, missed_alike P Q xs m to from rest)
 
+-- where none of a list is missed, none of a part of it is
+pub none_of_part : {X : Type 0} (P : X → Type 0) (p : X → Bool) (xs : List X) (n : ℕ) → n ≡ 0 → Misses P xs n
+    → Misses P (filter p xs) n
+none_of_part P p [] n e h = h
+none_of_part {X} P p (x ∷ xs) n e (inl (holds, rest)) = by (p x) (none_of_part P p xs n e rest)
+  where
+    by : (b : Bool) → Misses P (filter p xs) n → Misses P (cond b (x ∷ filter p xs) (filter p xs)) n
+    by true some = inl (holds, some)
+    by false some = some
+none_of_part P p (x ∷ xs) n e (inr (fails, m, i, rest)) = absurd (omega (arith, e, i))
+
 module _ {X : Type 0} (P : X → Type 0) (p : X → Bool) where
   -- P holds, unless the test picks it
   abbrev pub OnOthers : X → Type 0

@@ -1,5 +1,5 @@
 -- The fixed items of a sound design as copper.
-use Rattle.std.proofs.Common.{◌≡◌, ℕ, ◌<◌, refl, sym, ap, ◌∙◌, subst, Bool, true, List, [], ◌∷◌, All, length, get_or}
+use Rattle.std.proofs.Common.{◌≡◌, ℕ, ◌<◌, refl, sym, ap, subst, Bool, true, List, [], ◌∷◌, All, length, get_or}
 use Rattle.std.proofs.Common.{cond, arith}
 use Prim.Native.Nat.{suc}
 use Rattle.std.specs.Prelude.{filter}

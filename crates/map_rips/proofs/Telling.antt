@@ -26,7 +26,7 @@ use Rattle.move_maps.specs.OwnCopper.{IsOwnCopper}
 use Rattle.move_maps.proofs.Alike.{clear_agrees, none_missed, bit_opens, same_probe, same_way_count}
 use Rattle.move_maps.proofs.Foreign.{agreed_clear, counted_shut}
 use Rattle.map_rips.specs.RipMaps.{AreRipMaps}
-use Rattle.map_rips.proofs.Parting.{OnOthers, missed_apart, counted_by}
+use Rattle.map_rips.proofs.Parting.{OnOthers, missed_apart, counted_by, none_of_part}
 
 -- a probe lies inside or outside
 one_outside : (d : Design) (p : Probe) (a b : ℕ) → IsOutside d p a → IsOutside d p b → a ≡ b
@@ -34,6 +34,23 @@ one_outside d p a b (inl (h, e)) (inl (k, f)) = e ∙ sym f
 one_outside d p a b (inl (h, e)) (inr (k, f)) = absurd (k h)
 one_outside d p a b (inr (h, e)) (inl (k, f)) = absurd (h k)
 one_outside d p a b (inr (h, e)) (inr (k, f)) = e ∙ sym f
+
+-- where nothing shuts a move, nothing fixed does
+pub none_fixed : (d : Design) (items : List Item) (g n : ℕ) (o : Option Probe) → Serves items d → n ≡ 0
+    → IsTally d g items o n → IsTally d g d.fixed o 0
+none_fixed d items g n None serves e tally = sym e ∙ tally
+none_fixed d items g n (Some p) serves e (inl top) = absurd (omega (arith, e, top))
+none_fixed d items g n (Some p) serves e (inr (few, (k, o, misses, out, sum))) = inr (
+  omega arith,
+  (
+    k,
+    o,
+    subst (λ (xs : List Item). Misses (IsClearOf d g p) xs k) serves.fixed_there
+        (none_of_part (IsClearOf d g p) is_fixed items k (omega (arith, e, sum)) misses),
+    out,
+    omega (arith, e, sum),
+  ),
+)
 
 -- ---- what is counted of all items and not of the fixed ones
 module _ (d : Design) (items : List Item) (g net : ℕ) (p : Probe) (serves : Serves items d) (alike : AreAlike d g net)

@@ -47,8 +47,9 @@ impl<C: Copper> MapRips<'_, C> {
         self.moves.by_map.map.counts.get(place)
     }
 
-    /// How much of what is fixed shuts the move.
+    /// How much of what is fixed shuts the move. Where nothing does at all the map of what is fixed isn't looked at.
     fn fixed_tally(&self, node: u32, i: u32) -> u8
+        requires serves { let t = self.now.moves.by_map.legal in C.serves t.c.now t.d.now }
         requires maps { let t = self.now.moves.by_map.legal in AreRipMaps t.d.now t.lat.now (C.items t.c.now) t.net
             self.now.moves.by_map.map.now self.now.fixed.now self.now.moves.own }
         requires node { node < node_count self.now.moves.by_map.legal.lat.now }
@@ -56,6 +57,10 @@ impl<C: Copper> MapRips<'_, C> {
         ensures { let t = self.now.moves.by_map.legal in let g = self.now.moves.by_map.map.now.first in
             IsTally t.d.now g t.d.now.fixed (probe_at t.d.now t.lat.now g node i) result }
     {
+        let all = self.tally(node, i);
+        if all == 0 {
+            return 0;
+        }
         let place = node as usize * self.moves.by_map.legal.arity as usize + i as usize;
         self.fixed.counts.get(place)
     }

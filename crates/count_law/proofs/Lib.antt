@@ -1,0 +1,4 @@
+pub mod Weighing
+pub mod Sections
+pub mod Plain
+pub mod Designs

@@ -8,7 +8,7 @@ use pcb_model::Metal;
 pub const CLOSER: u32 = 16;
 
 /// A wire's new chain, with points in nm.
-#[derive(Debug, Drop)]
+#[derive(Drop)]
 pub struct Shoved {
     pub id: u64,
     pub chain: List<Point>,
@@ -17,7 +17,7 @@ pub struct Shoved {
 /// What is laid for a net from the item `from` to the item `to`, as planned on the board after `base` entries:
 /// wires and vias in their order, and the ids that they rip up, or the wires that they shove aside.
 /// `worker` is the maker's number, and `penalty` that of the maker's search for ripping, where it had one.
-#[derive(Debug, Drop)]
+#[derive(Drop)]
 pub struct Offer {
     pub base: u64,
     pub worker: u32,

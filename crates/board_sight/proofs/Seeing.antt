@@ -1,6 +1,6 @@
 -- A snapshot of a board is later than what was seen of it before.
 use Rattle.std.proofs.Common.{◌≡◌, ◌∙◌, refl, sym, ap, subst, List, [], ◌++◌, length, Option, Some, None}
-use Rattle.std.proofs.Common.{◌+◌, ◌∷◌, inl, inr, arith, length-append}
+use Rattle.std.proofs.Common.{◌+◌, arith, length-append}
 use Rattle.std.specs.Prelude.{All, IfSome}
 use Rattle.std.proofs.lemmas.List.{append-nil, append_assoc, nil_from_length}
 use Rattle.pcb_model.specs.declared.item.Item.{Item}

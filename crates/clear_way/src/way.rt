@@ -18,7 +18,7 @@ use route_lattice::Lattice;
 use std::alloc::{AllocError, Global};
 
 /// What makes way: the ids of items that are ripped, ascending, or wires that are shoved.
-#[derive(Debug, Drop)]
+#[derive(Drop)]
 pub struct Way {
     pub rip: List<u64>,
     pub shoves: List<Shoved>,

@@ -10,7 +10,7 @@ use std::alloc::{AllocError, Global};
 
 /// What changed between an earlier and a later state of copper: the items that went and those that came, each list in
 /// order of id.
-#[derive(Debug, Drop)]
+#[derive(Drop)]
 pub struct Since {
     pub gone: List<Item>,
     pub come: List<Item>,

@@ -1,55 +1,25 @@
 -- What is counted in some lists is at most a few times their weight: how many tokens they have together.
 -- A count over the items of a tree is at most the tree's own tokens, so a sum over trees is at most theirs.
-use Rattle.std.proofs.Common.{◌≡◌, ◌≤◌, ◌+◌, ◌*◌, ap, subst, ℕ, Bool, true, false, cond, List, [], ◌∷◌, length, map}
+use Rattle.std.proofs.Common.{◌≡◌, ◌≤◌, ◌*◌, ap, ℕ, Bool, List, [], ◌∷◌, length, map}
 use Rattle.std.proofs.Common.{arith}
-use Rattle.std.specs.Prelude.{codes, count_by, filter, not, sum_by}
-use Rattle.std.specs.List.{flat_map}
-use Rattle.std.proofs.lemmas.List.{length-append, length-map}
+use Rattle.std.specs.Prelude.{codes, count_by, not, sum_by}
+use Rattle.std.proofs.lemmas.List.{length-map}
 use Rattle.std.proofs.lemmas.List.Sums.{count_by-le-length, sum_by-cons}
 use Rattle.dsn_tree.specs.declared.tree.Tree.{Tree}
-use Rattle.dsn_tree.specs.declared.tree.Tree.TheOpen.{Tree-F}
-use Rattle.dsn_tree.specs.declared.tree.Tree.TheOpen as layer
-use Rattle.dsn_tree.specs.declared.tree.Tree.TheViews.{out-Tree, roll-Tree, roll-out-Tree}
 use Rattle.dsn_tree.specs.Flat.{flat}
-use Rattle.dsn_tree.specs.Heads.{is_headed, items_in, items_of}
-use Rattle.dsn_tree.proofs.Flats.{layer_group, right}
+use Rattle.dsn_tree.specs.Heads.{is_headed, items_of}
 use Rattle.dsn_shapes.specs.declared.known.ListKind.{ListKind}
 use Rattle.dsn_shapes.specs.declared.known.ListKind.TheVariants as list
 use Rattle.dsn_shapes.specs.Lists.{is_note, is_word, notes_in}
 use Rattle.dsn_shapes.specs.Rules.{clearances_in, is_unknown, notes_with, pairing_of, rule_notes}
 use Rattle.dsn_shapes.specs.Shapes.{ban_notes, is_beside, notes_beside, windows_of}
 use Rattle.dsn_design.specs.Sound.{weight}
-use Rattle.dsn_design.proofs.Counted.{count_weight, lists_weight}
+use Rattle.dsn_design.proofs.Counted.{count_weight, filter_weight, items_weight, lists_weight, weight_more}
 
 -- ---- trees and their items
--- the tokens of one tree, and of the others
-pub weight_more : (t : Tree) (ts : List Tree) → weight (t ∷ ts) ≡ length (flat t) + weight ts
-weight_more t ts = length-append (flat t) (flat_map flat ts)
-
 -- the tokens of a tree alone
 pub weight_one : (t : Tree) → weight (t ∷ []) ≡ length (flat t)
 weight_one t = omega (arith, weight_more t [])
-
--- one level of a tree has the tokens of its items
-layer_items : (l : Tree-F Tree) → weight (items_in l) ≤ length (flat (roll-Tree l))
-layer_items (layer.Word at text) = omega arith
-layer_items (layer.Group at items) =
-    omega (arith, ap length (layer_group at items), length-append (flat_map flat items) (right ∷ []))
-
--- so has a tree
-items_weight : (t : Tree) → weight (items_of t) ≤ length (flat t)
-items_weight t = subst (λ u. weight (items_of t) ≤ length (flat u)) (roll-out-Tree t) (layer_items (out-Tree t))
-
--- one more tree, which passes a test or doesn't
-kept_weight : (b : Bool) (t : Tree) (ts us : List Tree) → weight us ≤ weight ts
-    → weight (cond b (t ∷ us) us) ≤ weight (t ∷ ts)
-kept_weight true t ts us h = omega (arith, weight_more t ts, weight_more t us)
-kept_weight false t ts us h = omega (arith, weight_more t ts)
-
--- the trees that pass a test
-filter_weight : (test : Tree → Bool) (ts : List Tree) → weight (filter test ts) ≤ weight ts
-filter_weight test [] = omega arith
-filter_weight test (t ∷ ts) = kept_weight (test t) t ts (filter test ts) (filter_weight test ts)
 
 -- ---- sums over trees
 -- what is made of trees is no more than their tokens

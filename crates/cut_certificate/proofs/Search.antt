@@ -1,40 +1,18 @@
 -- What binary searches find.
-use Rattle.std.proofs.Common.{◌≡◌, ℕ, zero, suc, ◌+◌, ◌-◌, ◌<◌, ◌≤◌, List, length, get_or, Result, Ok, Err, sym, refl, ap, ◌∙◌, subst, inl, inr, arith}
-use Rattle.std.specs.Prelude.{IsTrue, Contains}
+use Rattle.std.proofs.Common.{◌≡◌, ℕ, zero, suc, ◌+◌, ◌-◌, ◌<◌, ◌≤◌, List, length, get_or, Result, Ok, Err, refl, ap, ◌∙◌, subst, inl, inr, arith}
+use Rattle.std.specs.Prelude.{IsTrue}
 use Rattle.std.specs.Result.{is_ok}
 use Rattle.std.specs.List.{AllAdjacentBelow}
-use Rattle.std.specs.List.Sorted.{IsStrictlyIncreasing, IsBinarySearchResult, IsSearchInRange, IsNonDecreasingBy}
+use Rattle.std.specs.List.Sorted.{IsBinarySearchResult, IsSearchInRange, IsNonDecreasingBy}
 use Rattle.std.specs.declared.cmp.Ordering.{Ordering}
 use Rattle.std.specs.declared.cmp.Ordering.TheVariants.{Less, Equal, Greater}
 use Rattle.std.specs.Ordering.{nat_cmp, ordering_index, ordering_then}
 use Rattle.std.proofs.lemmas.Bool.{false≢true, cases_lt}
 use Rattle.std.proofs.lemmas.Bool.Decides.{nat_tests}
 use Rattle.std.proofs.lemmas.List.{get_or_default}
-use Rattle.std.proofs.lemmas.List.Kept.{AllPairs-from_increasing}
-use Rattle.std.proofs.lemmas.List.Sorted.{searched}
 use Rattle.cut_certificate.specs.declared.cut.Blocker.TheVariants.{Outside}
 use Rattle.cut_certificate.specs.declared.cut.Block.{Block}
 use Rattle.cut_certificate.specs.Border.{IsBefore, AreInOrder, IsListed}
-
--- ---- among nodes
--- numbers that ascend don't fall
-rises : (xs : List ℕ) → IsStrictlyIncreasing xs → (i j : ℕ) → i ≤ j → j < length xs → get_or xs i 0 ≤ get_or xs j 0
-rises xs up i j le lt = elim (cases_lt i j) [
-  | inl before ↦ omega (arith, AllPairs-from_increasing xs up i j 0 before lt)
-  | inr after ↦ let same : i ≡ j = omega arith in omega (arith, ap (λ (k : ℕ). get_or xs k 0) same)
-]
-
--- a number is found exactly where it is there
-pub found_node : (xs : List ℕ) (x : ℕ) (r : Result ℕ ℕ) → IsStrictlyIncreasing xs → IsBinarySearchResult (λ y. nat_cmp y x) xs r → (IsTrue (is_ok r) → Contains xs x) × (Contains xs x → IsTrue (is_ok r))
-found_node xs x (Ok i) up h = let s : (i < length xs) × (get_or xs i 0 ≡ x) = searched xs x (Ok i) h (rises xs up) in (λ _. (i, s.0, get_or_default xs i x 0 s.0 ∙ s.1), λ _. refl)
-found_node xs x (Err i) up h =
-    let s : (i ≤ length xs) × ((k : ℕ) → k < i → get_or xs k 0 < x) × ((k : ℕ) → i ≤ k → k < length xs → x < get_or xs k 0) = searched xs x (Err i) h (rises xs up) in (
-      λ t. absurd (false≢true t),
-      λ c. let same : get_or xs c.0 0 ≡ x = sym (get_or_default xs c.0 x 0 c.1) ∙ c.2 in absurd (elim (cases_lt c.0 i) [
-        | inl before ↦ omega (arith, s.1 c.0 before, same)
-        | inr after ↦ omega (arith, s.2 c.0 after c.1, same)
-      ]),
-    )
 
 -- ---- among blocks
 -- how a block's move compares with another

@@ -5,14 +5,14 @@ use geo_kernel::List;
 use route_lattice::Reach;
 
 /// What shuts a move: of the items that disagree with what the move lays the one of the least id, or, where all agree, a boundary.
-#[derive(Clone, Copy, Debug, PartialEq, Eq)]
+#[derive(Clone, Copy, PartialEq, Eq)]
 pub enum Blocker {
     Item(u64),
     Outside,
 }
 
 /// The move of this index at a node leads out of a cut, and is shut.
-#[derive(Clone, Copy, Debug, PartialEq, Eq)]
+#[derive(Clone, Copy, PartialEq, Eq)]
 pub struct Block {
     pub node: u32,
     pub index: u32,
@@ -21,7 +21,7 @@ pub struct Block {
 
 /// A set of nodes that holds each legal anchor of an island of the net, whose first pin is `pin`, and no anchor of another
 /// one, and the moves that lead out of it.
-#[derive(Debug, Drop)]
+#[derive(Drop)]
 pub struct Cut {
     pub net: u32,
     pub pin: u32,

@@ -11,7 +11,7 @@ pub trait Gate {
 }
 
 /// The gate that does nothing.
-#[derive(Clone, Copy, Debug, Default)]
+#[derive(Clone, Copy, Default)]
 pub struct NoGate;
 
 impl Gate for NoGate {

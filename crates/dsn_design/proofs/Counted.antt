@@ -62,7 +62,8 @@ reading_short p (t ∷ ts) end r = omega (arith, takes_short p t r.0 r.1, readin
 pub text_weight : (text : List ℕ) (t : Tree) → HasTree text t → weight (t ∷ []) ≤ length text
 text_weight text t h = omega (arith, reading_short (start text) h.ts None h.spells, ap length h.shows, length-map h.ts shown, length-append (flat t) [])
 
-weight_more : (t : Tree) (ts : List Tree) → weight (t ∷ ts) ≡ length (flat t) + weight ts
+-- the tokens of one tree, and of the others
+pub weight_more : (t : Tree) (ts : List Tree) → weight (t ∷ ts) ≡ length (flat t) + weight ts
 weight_more t ts = length-append (flat t) (flat_map flat ts)
 
 weight_both : (ts us : List Tree) → weight (ts ++ us) ≡ weight ts + weight us
@@ -84,7 +85,8 @@ layer_items : (l : Tree-F Tree) → weight (items_in l) ≤ length (flat (roll-T
 layer_items (layer.Word at text) = omega arith
 layer_items (layer.Group at items) = omega (arith, ap length (layer_group at items), length-append (flat_map flat items) (right ∷ []))
 
-items_weight : (t : Tree) → weight (items_of t) ≤ length (flat t)
+-- a tree's items have no more tokens than the tree
+pub items_weight : (t : Tree) → weight (items_of t) ≤ length (flat t)
 items_weight t = subst (λ u. weight (items_of t) ≤ length (flat u)) (roll-out-Tree t) (layer_items (out-Tree t))
 
 -- ---- trees that are taken from others
@@ -92,7 +94,8 @@ kept_weight : (b : Bool) (t : Tree) (ts us : List Tree) → weight us ≤ weight
 kept_weight true t ts us h = omega (arith, weight_more t ts, weight_more t us)
 kept_weight false t ts us h = omega (arith, weight_more t ts)
 
-filter_weight : (test : Tree → Bool) (ts : List Tree) → weight (filter test ts) ≤ weight ts
+-- the trees that pass a test
+pub filter_weight : (test : Tree → Bool) (ts : List Tree) → weight (filter test ts) ≤ weight ts
 filter_weight test [] = omega arith
 filter_weight test (t ∷ ts) = kept_weight (test t) t ts (filter test ts) (filter_weight test ts)
 

@@ -8,7 +8,7 @@ ghost use Rattle.dsn_design.specs.Pins.{layer_count};
 use dsn_shapes::{Head, Library, Network, Placing, Structure, Wiring};
 
 /// The sections of a design.
-#[derive(Debug, Drop)]
+#[derive(Drop)]
 pub struct Parts {
     pub head: Head,
     pub structure: Structure,

@@ -25,7 +25,7 @@ use geo_kernel::{List, Point};
 use std::alloc::{AllocError, Global};
 
 /// A component with the byte offset of its list, and how many pins and items it adds to those that are placed.
-#[derive(Debug, Drop)]
+#[derive(Drop)]
 pub struct Laid {
     pub place: Place,
     pub at: u64,

@@ -8,7 +8,7 @@ use desk_io::SinkFail;
 
 /// How a call ended: every net is complete; some net is open; the words are refused; the design is refused;
 /// the design couldn't be read; the session or the report couldn't be written; a limit is passed; memory is wanting.
-#[derive(Clone, Copy, Debug, PartialEq, Eq)]
+#[derive(Clone, Copy, PartialEq, Eq)]
 pub enum Status {
     Complete,
     SomeOpen,

@@ -20,7 +20,7 @@ use geo_kernel::{List, Point};
 use std::alloc::{AllocError, Global};
 
 /// The forms that are read.
-#[derive(Clone, Copy, Debug, PartialEq, Eq)]
+#[derive(Clone, Copy, PartialEq, Eq)]
 pub(crate) enum Form {
     Circle,
     Rect,
@@ -30,7 +30,7 @@ pub(crate) enum Form {
 
 /// What a form says: its layers, its width, and the coordinates of its vertices, x and y by turns;
 /// None stands for a number that is refused.
-#[derive(Debug, Drop)]
+#[derive(Drop)]
 pub(crate) struct Outline {
     pub(crate) layers: u32,
     pub(crate) width: u64,

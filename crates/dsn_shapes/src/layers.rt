@@ -13,7 +13,7 @@ use crate::refusal::{Refusal, note, refused};
 use dsn_tree::Tree;
 
 /// What a word stands for: the layers of a name, all, the signal or the power layers.
-#[derive(Clone, Copy, Debug, PartialEq, Eq)]
+#[derive(Clone, Copy, PartialEq, Eq)]
 pub(crate) enum Group {
     Named,
     All,

@@ -7,14 +7,14 @@ use geo_kernel::{List, Name, Point, Spine, Unit};
 use pcb_model::{Metal, RuleSet};
 
 /// A layer; a power layer takes no wires.
-#[derive(Debug, Drop)]
+#[derive(Drop)]
 pub struct Layer {
     pub name: Name,
     pub power: bool,
 }
 
 /// A spine grown by half of `width` on the layers `i` whose bit `i` is set in `layers`.
-#[derive(Debug, Drop)]
+#[derive(Drop)]
 pub struct LayerShape {
     pub layers: u32,
     pub spine: Spine,
@@ -23,7 +23,7 @@ pub struct LayerShape {
 
 /// What stands before the sections. `per` units of `unit` are the design's resolution,
 /// `scale` is that of its numbers, and `notes` counts the lists that were passed over.
-#[derive(Debug, Drop)]
+#[derive(Drop)]
 pub struct Head {
     pub name: Name,
     pub unit: Unit,
@@ -35,7 +35,7 @@ pub struct Head {
 }
 
 /// A shape that bans wires, vias or both.
-#[derive(Debug, Drop)]
+#[derive(Drop)]
 pub struct BanShape {
     pub shape: LayerShape,
     pub wires: bool,
@@ -45,7 +45,7 @@ pub struct BanShape {
 /// The structure: layers, boundaries, keepouts, the names of its via padstacks, and its rules.
 /// `via_at_smd` lets vias touch surface-mounted pins of their net; with `flip_last`
 /// a component on the back is mirrored after its turn.
-#[derive(Debug, Drop)]
+#[derive(Drop)]
 pub struct Structure {
     pub layers: List<Layer>,
     pub bounds: List<LayerShape>,
@@ -58,14 +58,14 @@ pub struct Structure {
 }
 
 /// A padstack.
-#[derive(Debug, Drop)]
+#[derive(Drop)]
 pub struct Stack {
     pub name: Name,
     pub shapes: List<LayerShape>,
 }
 
 /// A pin of an image: its padstack by index, turned by its angle.
-#[derive(Debug, Drop)]
+#[derive(Drop)]
 pub struct ImagePin {
     pub name: Name,
     pub stack: u32,
@@ -74,7 +74,7 @@ pub struct ImagePin {
 }
 
 /// A component's footprint.
-#[derive(Debug, Drop)]
+#[derive(Drop)]
 pub struct Image {
     pub name: Name,
     pub pins: List<ImagePin>,
@@ -82,7 +82,7 @@ pub struct Image {
 }
 
 /// The padstacks and the images.
-#[derive(Debug, Drop)]
+#[derive(Drop)]
 pub struct Library {
     pub stacks: List<Stack>,
     pub images: List<Image>,
@@ -90,7 +90,7 @@ pub struct Library {
 }
 
 /// A component: its image by index, and where it is placed, if it is.
-#[derive(Debug, Drop)]
+#[derive(Drop)]
 pub struct Place {
     pub name: Name,
     pub image: u32,
@@ -100,21 +100,21 @@ pub struct Place {
 }
 
 /// The components.
-#[derive(Debug, Drop)]
+#[derive(Drop)]
 pub struct Placing {
     pub places: List<Place>,
     pub notes: u64,
 }
 
 /// A pin by the indices of its component and of the image's pin.
-#[derive(Clone, Copy, Debug, PartialEq, Eq)]
+#[derive(Clone, Copy, PartialEq, Eq)]
 pub struct PinRef {
     pub place: u32,
     pub pin: u32,
 }
 
 /// What the splits of a pin's reference at its hyphens name: no pin, one, or several.
-#[derive(Clone, Copy, Debug, PartialEq, Eq)]
+#[derive(Clone, Copy, PartialEq, Eq)]
 pub enum Split {
     Unknown,
     One(PinRef),
@@ -122,7 +122,7 @@ pub enum Split {
 }
 
 /// A net: its pins, its own rules, and the class that names it last.
-#[derive(Debug, Drop)]
+#[derive(Drop)]
 pub struct ReadNet {
     pub name: Name,
     pub pins: List<PinRef>,
@@ -131,14 +131,14 @@ pub struct ReadNet {
 }
 
 /// A class: the padstacks of its vias by index, where it names some, and its rules.
-#[derive(Debug, Drop)]
+#[derive(Drop)]
 pub struct ReadClass {
     pub vias: Option<List<u32>>,
     pub rules: RuleSet,
 }
 
 /// The nets and the classes.
-#[derive(Debug, Drop)]
+#[derive(Drop)]
 pub struct Network {
     pub nets: List<ReadNet>,
     pub classes: List<ReadClass>,
@@ -146,7 +146,7 @@ pub struct Network {
 }
 
 /// A wire or a via, its net, and the byte offset of its list.
-#[derive(Debug, Drop)]
+#[derive(Drop)]
 pub struct ReadWire {
     pub at: u64,
     pub net: Option<u32>,
@@ -155,7 +155,7 @@ pub struct ReadWire {
 }
 
 /// The wires and vias.
-#[derive(Debug, Drop)]
+#[derive(Drop)]
 pub struct Wiring {
     pub wires: List<ReadWire>,
     pub notes: u64,

@@ -8,7 +8,7 @@ use dsn_tree::TreeFault;
 use std::alloc::AllocError;
 
 /// What a limit counts.
-#[derive(Clone, Copy, Debug, PartialEq, Eq)]
+#[derive(Clone, Copy, PartialEq, Eq)]
 pub enum What {
     Nothing,
     Layers,
@@ -20,7 +20,7 @@ pub enum What {
 
 /// Why a text is no design: the number of the rule, the byte offset of what breaks it,
 /// and for a limit that is passed what it counts and how many there may be.
-#[derive(Clone, Copy, Debug, PartialEq, Eq)]
+#[derive(Clone, Copy, PartialEq, Eq)]
 pub struct Refusal {
     pub number: u8,
     pub at: u64,
@@ -29,7 +29,7 @@ pub struct Refusal {
 }
 
 /// Why a section has no value.
-#[derive(Debug, Drop)]
+#[derive(Drop)]
 pub enum ReadFault {
     /// The refusal whose place comes first in the section, and there the one of the least number.
     Refused(Refusal),
@@ -38,7 +38,7 @@ pub enum ReadFault {
 }
 
 /// Why a text has no design.
-#[derive(Debug, Drop)]
+#[derive(Drop)]
 pub enum DesignFault {
     /// The text has no tree.
     Spelling(TreeFault),

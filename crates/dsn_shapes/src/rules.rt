@@ -22,7 +22,7 @@ use pcb_model::{Kind, RuleSet, Typed};
 use std::alloc::{AllocError, Global};
 
 /// Which pairs of kinds a clearance is for.
-#[derive(Clone, Copy, Debug, PartialEq, Eq)]
+#[derive(Clone, Copy, PartialEq, Eq)]
 pub(crate) enum Pairing {
     Plain,
     Unknown,
@@ -251,7 +251,7 @@ fn pass_over_rules(first: &mut Option<Refusal>, rules: &Trees, clearances: &Tree
 }
 
 /// A rule set, and how many lists in its rules were passed over.
-#[derive(Debug, Drop)]
+#[derive(Drop)]
 pub struct Rules {
     pub set: RuleSet,
     pub notes: u64,

@@ -24,7 +24,7 @@ use geo_kernel::{List, Point, Spine};
 use std::alloc::{AllocError, Global};
 
 /// A loop of an area, in nm.
-#[derive(Debug, Drop)]
+#[derive(Drop)]
 pub(crate) struct Rim {
     pub(crate) layers: u32,
     pub(crate) points: List<Point>,

@@ -11,8 +11,8 @@ ghost use Rattle.dsn_tokens.specs.declared.context.Line.TheVariants.{Quoting};
 
 use crate::context::{Context, Line};
 use crate::fronts::{gap_front, word_front};
+use crate::text::Text;
 use crate::token::{Lexeme, Mark, Token, TokenFault};
-use geo_kernel::{List, Name};
 use std::alloc::{AllocError, Global};
 use std::marker::Model;
 
@@ -150,7 +150,7 @@ fn quoting_front(alloc: Global, bytes: &[u8], at: usize) -> Result<Lexeme, Token
     if !can_quote(byte) {
         return Err(TokenFault::BadQuoteByte { at: at as u64 });
     }
-    let text = List::from_slice(alloc, &[byte])?;
+    let text = Text::of(alloc, &[byte])?;
     Ok(Lexeme {
         mark: Mark::Word(text),
         len: 1,
@@ -182,16 +182,16 @@ fn behind_word(context: Context, spelled: &[u8]) -> Context
 }
 
 /// The bytes but for the quoting bytes.
-fn unquoted(alloc: Global, spelled: &[u8], quote: u8) -> Result<Name, AllocError>
+fn unquoted(alloc: Global, spelled: &[u8], quote: u8) -> Result<Text, AllocError>
     ensures { IfOk result (λ t. t ≡ filter (λ b. not (b == quote)) spelled.now) }
 {
     if !spelled.contains(&quote) {
-        return List::from_slice(alloc, spelled);
+        return Text::of(alloc, spelled);
     }
     let text: Vec<u8> = spelled
         .iter()
         .copied()
         .filter(|b| *b != quote)
         .collect(alloc)?;
-    Ok(List::from_vec(text))
+    Text::of(alloc, text.as_slice())
 }

@@ -6,9 +6,11 @@ mod context;
 mod fronts;
 mod laws;
 mod lexer;
+mod text;
 mod token;
 
 pub use context::{Context, Line};
 pub use laws::{each_read, one_reading};
 pub use lexer::Lexer;
+pub use text::Text;
 pub use token::{Mark, Token, TokenFault};

@@ -2,23 +2,23 @@
 //! Offsets count the bytes before.
 
 use crate::context::Context;
-use geo_kernel::Name;
+use crate::text::Text;
 use std::alloc::AllocError;
 use thiserror::Error;
 
 /// What a token is.
-#[derive(Debug, Drop)]
+#[derive(Drop)]
 pub enum Mark {
     /// `(`
     Left,
     /// `)`
     Right,
     /// A word's text, without its quoting bytes.
-    Word(Name),
+    Word(Text),
 }
 
 /// A token with the offset of its first byte.
-#[derive(Debug, Drop)]
+#[derive(Drop)]
 pub struct Token {
     pub at: u64,
     pub mark: Mark,

@@ -6,7 +6,7 @@ ghost use Rattle.std.specs.Option.{option_copied};
 ghost use Rattle.dsn_tree.specs.Heads.{child, children, is_headed, placed, items_of, word};
 
 use crate::tree::Tree;
-use geo_kernel::Name;
+use dsn_tokens::Text;
 
 /// The items of a group, from left to right.
 pub fn items(tree: &Tree) -> &[Tree]
@@ -19,7 +19,7 @@ pub fn items(tree: &Tree) -> &[Tree]
 }
 
 /// Item `i` of a group where it is a word.
-pub fn word(tree: &Tree, i: usize) -> Option<&Name>
+pub fn word(tree: &Tree, i: usize) -> Option<&Text>
     ensures { option_copied result ≡ word tree.now i }
 {
     match items(tree).get(i) {

@@ -12,7 +12,7 @@ use geo_kernel::Unit;
 use thiserror::Error;
 
 /// How many nm one unit of a design's numbers has.
-#[derive(Clone, Copy, Debug, PartialEq, Eq)]
+#[derive(Clone, Copy, PartialEq, Eq)]
 pub struct Scale {
     pub nm: u64,
 }

@@ -2,7 +2,7 @@
 //! Source: SPECCTRA reference, number descriptors.
 
 /// A decimal: `digits` times ten to the `exponent`, below zero where `negative` is set.
-#[derive(Clone, Copy, Debug, PartialEq, Eq)]
+#[derive(Clone, Copy, PartialEq, Eq)]
 pub struct Decimal {
     pub negative: bool,
     pub digits: u64,

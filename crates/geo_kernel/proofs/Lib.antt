@@ -15,3 +15,4 @@ pub mod Growing
 pub mod Ends
 pub mod Outside
 pub mod Boxes
+pub mod Ascending

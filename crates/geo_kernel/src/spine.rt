@@ -4,7 +4,7 @@
 use crate::{List, Point};
 
 /// A chain of points, or the loops of an area under the even-odd rule.
-#[derive(Debug, Drop)]
+#[derive(Drop)]
 pub enum Spine {
     Chain(List<Point>),
     Area(List<List<Point>>),

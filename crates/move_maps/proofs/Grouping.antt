@@ -9,8 +9,8 @@ use Rattle.std.proofs.lemmas.Option.{slice_get_within}
 use Rattle.std.proofs.lemmas.List.{length-append, get_or_append_left}
 use Rattle.std.proofs.lemmas.List.Elements.{All-nil, All-push, All-weaker, All-contains}
 use Rattle.std.proofs.lemmas.List.Elements.{Contains-push_cases}
-use Rattle.std.proofs.lemmas.List.Kept.{AllPairs-from_increasing}
-use Rattle.std.proofs.lemmas.List.Quantifiers.{all_pairs_push, Any-push}
+use Rattle.std.proofs.lemmas.List.Quantifiers.{Any-push}
+use Rattle.geo_kernel.proofs.Ascending.{ascend_push}
 use Rattle.pcb_model.specs.declared.design.Net.{Net}
 use Rattle.pcb_model.specs.declared.design.Design.{Design}
 use Rattle.route_lattice.specs.Mesh.{Mesh, node_count}
@@ -78,12 +78,6 @@ any_left P xs ys (k, x, within, e, p) =
     (k, x, omega (arith, within, l), get_or_append_left xs ys x k within ∙ e, p)
 
 -- ---- lists of numbers that ascend
--- a number above all comes behind them
-pub ascend_push : (xs : List ℕ) (y : ℕ) → IsStrictlyIncreasing xs → All (λ x. x < y) xs
-    → IsStrictlyIncreasing (xs ++ y ∷ [])
-ascend_push xs y up below = λ k within.
-    all_pairs_push (λ (a b : ℕ). a < b) xs y (AllPairs-from_increasing xs up) below k (k + 1) 0 (omega arith) within
-
 -- two numbers of which neither is less
 one_of : (g h : ℕ) → (g < h → ⊥) → (h < g → ⊥) → g ≡ h
 one_of g h p q = at (nat_lt g h) refl (nat_lt h g) refl

@@ -6,7 +6,7 @@ use std::alloc::{AllocError, Global};
 use std::marker::Model;
 
 /// A table of counts. Contracts see it as their list.
-#[derive(Debug, Drop)]
+#[derive(Drop)]
 pub struct Counts {
     bytes: Vec<u8>,
 }

@@ -25,14 +25,14 @@ use std::alloc::{AllocError, Global};
 use std::marker::Model;
 
 /// The map of a group: its first net, and for each index of each node how much shuts the move.
-#[derive(Debug, Drop)]
+#[derive(Drop)]
 pub struct GroupMap {
     pub first: u32,
     pub counts: Counts,
 }
 
 /// The maps of the first groups. Contracts see them as their list.
-#[derive(Debug, Drop)]
+#[derive(Drop)]
 pub struct MoveMaps {
     maps: Vec<GroupMap>,
 }

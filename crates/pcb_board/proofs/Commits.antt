@@ -1,9 +1,8 @@
 -- The entry that placed or removed an id is the last that changed whether it is there.
-use Rattle.std.proofs.Common.{◌≡◌, ◌≢◌, ◌⊎◌, inl, inr, ℕ, ◌+◌, ◌-◌, ◌<◌, ◌≤◌, zero, suc, Bool, true, false, true≢false}
-use Rattle.std.proofs.Common.{refl, sym, ◌∙◌, ap, subst, List, length, arith}
-use Rattle.pcb_model.specs.declared.item.Item.{Item}
+use Rattle.std.proofs.Common.{◌≡◌, ◌≢◌, ℕ, ◌+◌, ◌-◌, ◌≤◌, zero, suc, Bool, true, false, true≢false}
+use Rattle.std.proofs.Common.{refl, sym, ◌∙◌, ap, subst, length, arith}
 use Rattle.board_offers.specs.Items.{is_on}
-use Rattle.pcb_board.specs.Boards.{BoardOf, replayed, Places, Removes, IsLast, IsCommitOf, Changes}
+use Rattle.pcb_board.specs.Boards.{BoardOf, replayed, IsLast, IsCommitOf, Changes}
 
 same_bool : (a b : Bool) → ¬ (a ≢ b) → a ≡ b
 same_bool true true n = refl

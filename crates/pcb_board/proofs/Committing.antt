@@ -1,11 +1,10 @@
 -- What a committed offer leaves, kept parts included.
-use Rattle.std.proofs.Common.{◌≡◌, ◌⊎◌, inl, inr, ℕ, ◌+◌, ◌<◌, ◌≤◌, ◌^◌, zero, suc, Bool, true, false, cond, Option}
-use Rattle.std.proofs.Common.{Some, None, refl, sym, ◌∙◌, ap, subst, List, [], ◌∷◌, ◌++◌, length, get_or, take, arith}
+use Rattle.std.proofs.Common.{◌≡◌, ℕ, ◌+◌, ◌<◌, ◌≤◌, Bool, true, false, cond}
+use Rattle.std.proofs.Common.{Some, sym, ◌∙◌, ap, subst, List, [], ◌∷◌, ◌++◌, length, take, arith}
 use Rattle.std.proofs.Common.{length-append}
-use Rattle.std.specs.Prelude.{All, Contains, slice_get, slice_index_or, count_by, if◌then◌else◌}
+use Rattle.std.specs.Prelude.{All, slice_get, if◌then◌else◌}
 use Rattle.std.proofs.lemmas.List.{take-append-le}
 use Rattle.std.proofs.lemmas.List.Sums.{count_by-le-length, sum_by-append}
-use Rattle.std.proofs.lemmas.Option.{slice_get-get_or}
 use Rattle.pcb_model.specs.declared.item.Item.{Item}
 use Rattle.pcb_model.specs.declared.design.Design.{Design}
 use Rattle.pcb_model.specs.Bounds.{IsItemFit}
@@ -14,9 +13,9 @@ use Rattle.pcb_tiles.specs.Spread.{Spread, holding}
 use Rattle.pcb_board.specs.Snaps.{IsSnapKept}
 use Rattle.board_offers.specs.declared.offer.Offer.{Offer}
 use Rattle.pcb_board.specs.declared.answer.Entry.{Entry}
-use Rattle.pcb_board.specs.declared.answer.Entry.TheVariants.{Join, Back}
+use Rattle.pcb_board.specs.declared.answer.Entry.TheVariants.{Join}
 use Rattle.pcb_board.specs.declared.board.Board.TheInside.{Inside}
-use Rattle.board_offers.specs.Items.{gone, without, new_items, joined_items}
+use Rattle.board_offers.specs.Items.{gone, without, new_items}
 use Rattle.pcb_board.specs.Boards.{BoardOf, given, worker_entries, is_of_worker, is_worker}
 use Rattle.board_offers.specs.Offers.{IsWellFormed}
 use Rattle.pcb_board.specs.Answers.{IsHeard, IsClearOn, known, joined}

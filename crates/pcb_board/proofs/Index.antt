@@ -1,25 +1,22 @@
 -- The index of a board that takes an offer.
-use Rattle.std.proofs.Common.{◌≡◌, ◌≢◌, ◌⊎◌, inl, inr, ℕ, ◌+◌, ◌-◌, ◌<◌, ◌≤◌, ◌==◌, zero, suc, Bool, true, false}
-use Rattle.std.proofs.Common.{true≢false, cond, Option, Some, None, refl, sym, ◌∙◌, ap, subst, List, [], ◌∷◌, ◌++◌}
+use Rattle.std.proofs.Common.{◌≡◌, ◌≢◌, ◌⊎◌, inl, inr, ℕ, ◌+◌, ◌-◌, ◌<◌, ◌≤◌, ◌==◌, Bool, true, false}
+use Rattle.std.proofs.Common.{true≢false, Some, refl, sym, ◌∙◌, ap, subst, List, [], ◌∷◌, ◌++◌}
 use Rattle.std.proofs.Common.{length, get_or, arith, length-append}
-use Rattle.std.specs.Prelude.{All, Contains, not, ◌||◌, slice_get, slice_index_or}
-use Rattle.std.specs.List.{filter}
+use Rattle.std.specs.Prelude.{not, ◌||◌, slice_get, slice_index_or}
 use Rattle.std.proofs.lemmas.Bool.{cases_lt}
 use Rattle.std.proofs.lemmas.Option.{slice_get-get_or}
-use Rattle.std.proofs.lemmas.List.Elements.{Contains-get_or}
 use Rattle.pcb_model.specs.declared.item.Item.{Item}
-use Rattle.pcb_model.specs.declared.design.Design.{Design}
 use Rattle.pcb_model.specs.Pairs.{Agrees}
 use Rattle.board_offers.specs.declared.offer.Offer.{Offer}
 use Rattle.board_offers.specs.Items.{names, is_on, without, gone, new_items, joined_items}
-use Rattle.pcb_board.specs.Boards.{BoardOf, given, replayed, IsLast, Changes}
+use Rattle.pcb_board.specs.Boards.{BoardOf, given, IsLast, Changes}
 use Rattle.board_offers.specs.Troubles.{wanted}
-use Rattle.pcb_board.specs.Answers.{IsHeard, IsClearOn, known, joined}
+use Rattle.pcb_board.specs.Answers.{IsHeard, IsClearOn, joined}
 use Rattle.pcb_board.specs.Keeping.{IsBoard}
 use Rattle.pcb_board.specs.Renewing.{IsRenewed, AreIndexed}
-use Rattle.board_offers.proofs.Lists.{in_here, in_later, in_from, found_at, stayed, passes, not_true, named_in}
-use Rattle.board_offers.proofs.Lists.{in_named, on_item, HasItem}
-use Rattle.board_offers.proofs.Troubles.{or_cases, or_left, or_right, is_on_in}
+use Rattle.board_offers.proofs.Lists.{in_later, in_from, found_at, stayed, passes, not_true, named_in}
+use Rattle.board_offers.proofs.Lists.{in_named, on_item}
+use Rattle.board_offers.proofs.Troubles.{or_right, is_on_in}
 use Rattle.board_offers.proofs.New.{new_at, new_id}
 use Rattle.pcb_board.proofs.Standing.{id_within}
 use Rattle.pcb_board.proofs.Order.{kept_there}

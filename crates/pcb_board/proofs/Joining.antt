@@ -1,7 +1,7 @@
 -- A board that takes an offer stays a board.
-use Rattle.std.proofs.Common.{◌≡◌, ◌⊎◌, inl, inr, ℕ, ◌+◌, ◌<◌, ◌≤◌, Bool, true, false, Option, Some, refl, sym, ◌∙◌}
+use Rattle.std.proofs.Common.{◌≡◌, inl, inr, ℕ, ◌+◌, ◌<◌, ◌≤◌, true, Some, refl, sym, ◌∙◌}
 use Rattle.std.proofs.Common.{ap, subst, List, [], ◌∷◌, ◌++◌, length, get_or, arith, length-append}
-use Rattle.std.specs.Prelude.{All, Contains, slice_get, None}
+use Rattle.std.specs.Prelude.{All, Contains, slice_get}
 use Rattle.std.specs.Option.{IsSomeAnd}
 use Rattle.std.proofs.lemmas.Bool.{cases_lt}
 use Rattle.std.proofs.lemmas.Option.{same_Some, slice_get_within}
@@ -10,26 +10,24 @@ use Rattle.pcb_model.specs.Copper.{Ascends}
 use Rattle.pcb_board.proofs.Order.{AreNumberedFrom, ascends_behind}
 use Rattle.std.proofs.lemmas.List.Elements.{All-append, All-filter, All-weaker, All-contains, Contains-append_cases}
 use Rattle.std.proofs.lemmas.List.Elements.{Contains-append_right}
-use Rattle.std.specs.List.{filter}
 use Rattle.std.specs.Prelude.{not}
 use Rattle.pcb_model.specs.declared.item.Item.{Item}
-use Rattle.pcb_model.specs.declared.design.Design.{Design}
 use Rattle.pcb_model.specs.Pairs.{Agrees}
 use Rattle.pcb_model.specs.Board.{IsLegal, IsRouted, IsLaid, IsMade, AreInside}
 use Rattle.board_offers.specs.declared.offer.Shoved.{Shoved}
 use Rattle.board_offers.specs.declared.offer.Offer.{Offer}
 use Rattle.pcb_board.specs.declared.answer.Entry.{Entry}
-use Rattle.pcb_board.specs.declared.answer.Entry.TheVariants.{Join, Back}
-use Rattle.board_offers.specs.Items.{names, is_on, without, shoved_ids, gone, new_items, joined_items}
-use Rattle.pcb_board.specs.Boards.{BoardOf, Past, given, past, replayed, next}
-use Rattle.board_offers.specs.Offers.{Known, IsWellFormed, IsInTheWay, IsShovable}
-use Rattle.board_offers.specs.Troubles.{wanted, IsClear}
+use Rattle.pcb_board.specs.declared.answer.Entry.TheVariants.{Join}
+use Rattle.board_offers.specs.Items.{names, without, shoved_ids, gone, new_items, joined_items}
+use Rattle.pcb_board.specs.Boards.{BoardOf, Past, given, past, replayed}
+use Rattle.board_offers.specs.Offers.{IsInTheWay}
+use Rattle.board_offers.specs.Troubles.{wanted}
 use Rattle.pcb_board.specs.declared.answer.Answer.{Answer}
 use Rattle.pcb_board.specs.declared.answer.Answer.TheVariants.{Committed, Stale, Wrong, Malformed, Full}
 use Rattle.pcb_board.specs.Answers.{Step, IsHeard, IsClearOn, known, joined}
 use Rattle.pcb_board.specs.Keeping.{IsBoard}
 use Rattle.board_offers.specs.Given.{IsGiven}
-use Rattle.board_offers.proofs.Lists.{in_here, in_later, found_at, all_from, that, look_left, look_right, look_cases}
+use Rattle.board_offers.proofs.Lists.{in_later, found_at, all_from, that, look_left, look_right, look_cases}
 use Rattle.board_offers.proofs.Lists.{named_in, in_named, HasItem, on_item, mapped, map_there}
 use Rattle.pcb_board.proofs.Legal.{Exchanges, exchanged_legal}
 use Rattle.board_offers.proofs.New.{IsNew, new_at, new_routed, new_id, new_given, new_inside, new_laid, WasShoved}

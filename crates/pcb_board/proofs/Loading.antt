@@ -1,35 +1,32 @@
 -- Loading a design's items, one by one.
-use Rattle.std.proofs.Common.{◌≡◌, ◌⊎◌, inl, inr, ℕ, ◌+◌, ◌<◌, ◌≤◌, ◌^◌, zero, suc, Bool, true, false, true≢false}
-use Rattle.std.proofs.Common.{cond}
-use Rattle.std.proofs.Common.{Some, refl, sym, ◌∙◌, ap, subst, List, [], ◌∷◌, ◌++◌, length, get_or, take, arith}
+use Rattle.std.proofs.Common.{◌≡◌, ◌⊎◌, inl, inr, ℕ, ◌+◌, ◌<◌, ◌≤◌, ◌^◌, zero, suc, false}
+use Rattle.std.proofs.Common.{refl, sym, ◌∙◌, ap, subst, List, [], ◌∷◌, ◌++◌, length, get_or, arith}
 use Rattle.std.proofs.Common.{Result, Ok, Err, drop}
 use Rattle.std.proofs.Math.Seq.{drop-cons}
-use Rattle.std.specs.Prelude.{IfOk, All, Any, Contains, slice_get, ℤ, ◌≤ℤ◌, unsigned_abs}
+use Rattle.std.specs.Prelude.{IfOk, All, Any, Contains, ℤ, unsigned_abs}
 use Rattle.std.proofs.lemmas.Int.{ints}
 use Rattle.std.proofs.lemmas.Option.{slice_get_within}
 use Rattle.std.specs.List.{filter, flat_map}
 use Rattle.std.proofs.lemmas.List.{append-nil, append_assoc}
 use Rattle.std.proofs.lemmas.List.Elements.{All-append, All-cons, All-nil, All-head, All-tail, All-contains}
 use Rattle.std.proofs.lemmas.List.Elements.{filter-append}
-use Rattle.std.proofs.lemmas.List.Elements.{Contains-get_or, Contains-append_left, Contains-append_right}
+use Rattle.std.proofs.lemmas.List.Elements.{Contains-get_or, Contains-append_right}
 use Rattle.std.proofs.lemmas.List.Quantifiers.{all_pairs_push}
 use Rattle.geo_kernel.specs.declared.point.Point.{Point}
 use Rattle.geo_kernel.specs.declared.point.Rect4.{Rect4}
 use Rattle.geo_kernel.specs.declared.spine.Spine.TheVariants.{Area}
 use Rattle.geo_kernel.specs.Plane.{IsWithin}
 use Rattle.geo_kernel.specs.Spine.{vertices}
-use Rattle.geo_kernel.specs.Boxes.{IsBoxOf, IsLeastBox, IsIn}
+use Rattle.geo_kernel.specs.Boxes.{IsBoxOf, IsIn}
 use Rattle.pcb_model.specs.declared.item.Item.{Item}
 use Rattle.pcb_model.specs.declared.design.FreeWire.{FreeWire}
 use Rattle.pcb_model.specs.declared.design.Design.{Design}
-use Rattle.pcb_model.specs.Near.{IsBoxWithin}
 use Rattle.pcb_model.specs.Pairs.{Agrees}
 use Rattle.pcb_model.specs.Bounds.{IsBoundFit, HasClearancesWithin}
 use Rattle.pcb_model.specs.Board.{IsLegal, IsRouted, IsLaid, IsMade, AreInside, is_fixed}
 use Rattle.pcb_model.specs.Sound.{IsSound, IsFreeSound, Serves, IsItemOf}
 use Rattle.pcb_tiles.specs.Tiling.{IsArea}
 use Rattle.pcb_tiles.specs.Spread.{Spread, holding, ServesSpread}
-use Rattle.board_offers.specs.Given.{AreGiven}
 use Rattle.board_offers.proofs.Lists.{all_from, found_at, in_here, none_pass}
 use Rattle.pcb_board.specs.declared.load.Loaded.{Loaded}
 use Rattle.pcb_board.specs.Boards.{Loads, free_item}

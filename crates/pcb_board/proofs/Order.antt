@@ -1,17 +1,16 @@
 -- Lists in order of id.
-use Rattle.std.proofs.Common.{◌≡◌, ◌⊎◌, inl, inr, ℕ, ◌+◌, ◌<◌, ◌≤◌, ◌==◌, zero, suc, Bool, true, false, true≢false}
-use Rattle.std.proofs.Common.{cond, Some, refl, sym, ◌∙◌, ap, subst, List, [], ◌∷◌, ◌++◌, length, get_or, take, arith}
-use Rattle.std.specs.Prelude.{All, AllPairs, Contains, slice_get}
+use Rattle.std.proofs.Common.{◌≡◌, ◌⊎◌, inl, inr, ℕ, ◌+◌, ◌<◌, zero, suc, Bool, true, false}
+use Rattle.std.proofs.Common.{cond, Some, refl, sym, ◌∙◌, ap, subst, List, [], ◌∷◌, ◌++◌, get_or, arith}
+use Rattle.std.specs.Prelude.{All, Contains, slice_get}
 use Rattle.std.specs.List.{filter}
-use Rattle.std.proofs.lemmas.Bool.{cases_lt}
 use Rattle.std.proofs.lemmas.Option.{same_Some, slice_get-get_or}
-use Rattle.std.proofs.lemmas.List.Elements.{All-cons, All-contains, Contains-get_or}
+use Rattle.std.proofs.lemmas.List.Elements.{All-contains}
 use Rattle.std.proofs.lemmas.List.Kept.{AllPairs-filter}
 use Rattle.pcb_model.specs.declared.item.Item.{Item}
 use Rattle.pcb_model.specs.declared.design.Design.{Design}
 use Rattle.pcb_model.specs.Copper.{Ascends}
 use Rattle.board_offers.specs.Items.{is_on}
-use Rattle.board_offers.specs.Given.{AreGiven, IsGiven}
+use Rattle.board_offers.specs.Given.{AreGiven}
 use Rattle.board_offers.proofs.Lists.{in_here, in_later, in_from, all_from, all_front, pairs_rest, pairs_append}
 use Rattle.board_offers.proofs.Lists.{found_at}
 use Rattle.board_offers.proofs.Lists.{stayed, passes, on_item}

@@ -1,27 +1,23 @@
 -- A board after its first entries is a board.
-use Rattle.std.proofs.Common.{◌≡◌, ◌⊎◌, inl, inr, ℕ, ◌+◌, ◌<◌, ◌≤◌, zero, suc, Option, Some, refl, sym, ◌∙◌, ap, ap₂}
+use Rattle.std.proofs.Common.{◌≡◌, inl, inr, ℕ, ◌+◌, ◌<◌, ◌≤◌, zero, suc, Some, refl, sym, ◌∙◌, ap, ap₂}
 use Rattle.std.proofs.Common.{subst}
 use Rattle.std.proofs.Common.{List, [], ◌∷◌, ◌++◌, length, take, arith, length-append}
 use Rattle.std.proofs.Math.Seq.{take-length}
-use Rattle.std.specs.Prelude.{All, Contains, slice_get, slice_index_or}
-use Rattle.std.proofs.lemmas.Bool.{cases_lt}
+use Rattle.std.specs.Prelude.{All, slice_get, slice_index_or}
 use Rattle.std.proofs.lemmas.Option.{slice_get_within}
-use Rattle.std.proofs.lemmas.List.{length-take-le, take-append-le, take_all}
+use Rattle.std.proofs.lemmas.List.{length-take-le, take-append-le}
 use Rattle.std.proofs.lemmas.List.Elements.{All-append, All-filter, All-weaker, All-contains, All-nil, All-cons}
-use Rattle.std.proofs.lemmas.List.Elements.{All-push}
-use Rattle.std.specs.List.{filter}
 use Rattle.std.specs.Prelude.{not}
 use Rattle.pcb_model.specs.declared.item.Item.{Item}
 use Rattle.pcb_model.specs.declared.design.Design.{Design}
 use Rattle.pcb_model.specs.Board.{IsLegal}
 use Rattle.pcb_model.specs.Copper.{Ascends}
-use Rattle.board_offers.specs.declared.offer.Offer.{Offer}
 use Rattle.board_offers.specs.Items.{names, gone, without, new_items, joined_items}
 use Rattle.board_offers.specs.Given.{AreGiven}
 use Rattle.board_offers.proofs.Lists.{all_from, found_at, look_left, look_cases}
 use Rattle.pcb_board.specs.declared.answer.Entry.{Entry}
 use Rattle.pcb_board.specs.declared.answer.Entry.TheVariants.{Join, Back}
-use Rattle.pcb_board.specs.Boards.{BoardOf, Past, opening, next, past_from, past, replay, given, replayed, board_at}
+use Rattle.pcb_board.specs.Boards.{BoardOf, Past, opening, next, past_from, past, given, replayed, board_at}
 use Rattle.pcb_board.specs.Keeping.{IsBoard, Grows}
 use Rattle.pcb_board.specs.Loading.{IsLoaded}
 use Rattle.pcb_board.proofs.Past.{BeginsWith, given_begins, take_less}

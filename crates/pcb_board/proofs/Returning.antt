@@ -1,7 +1,6 @@
 -- What a board that goes back leaves, kept parts included.
-use Rattle.std.proofs.Common.{◌≡◌, ℕ, ◌+◌, ◌<◌, ◌≤◌, Bool, cond, refl, sym, ◌∙◌, ap, subst, List, [], ◌∷◌, ◌++◌}
+use Rattle.std.proofs.Common.{◌≡◌, ℕ, ◌+◌, ◌≤◌, Bool, cond, sym, ◌∙◌, ap, subst, List, [], ◌∷◌, ◌++◌}
 use Rattle.std.proofs.Common.{length, take, arith}
-use Rattle.std.proofs.Common.{length-append}
 use Rattle.std.specs.List.{filter}
 use Rattle.std.proofs.lemmas.List.Sums.{sum_by-append}
 use Rattle.pcb_model.specs.declared.item.Item.{Item}
@@ -10,7 +9,7 @@ use Rattle.pcb_model.specs.Bounds.{HasClearancesWithin}
 use Rattle.pcb_tiles.specs.Tiling.{IsArea}
 use Rattle.pcb_tiles.specs.Spread.{Spread}
 use Rattle.pcb_board.specs.declared.answer.Entry.{Entry}
-use Rattle.pcb_board.specs.declared.answer.Entry.TheVariants.{Join, Back}
+use Rattle.pcb_board.specs.declared.answer.Entry.TheVariants.{Back}
 use Rattle.pcb_board.specs.declared.board.Board.TheInside.{Inside}
 use Rattle.pcb_board.specs.Boards.{BoardOf, given, replayed, worker_entries, is_of_worker}
 use Rattle.pcb_board.specs.Renewing.{AreIndexed}

@@ -1,27 +1,25 @@
 -- What a board's facts say of its items now, and where trouble can be.
-use Rattle.std.proofs.Common.{◌≡◌, ◌⊎◌, inl, inr, ℕ, ◌+◌, ◌<◌, ◌≤◌, ◌^◌, zero, suc, Bool, true, false, Option, Some}
-use Rattle.std.proofs.Common.{None, refl, sym, ◌∙◌, ap, subst, List, [], ◌∷◌, ◌++◌, length, get_or, arith}
+use Rattle.std.proofs.Common.{◌≡◌, ◌⊎◌, inl, inr, ℕ, ◌<◌, ◌≤◌, zero, suc, Some}
+use Rattle.std.proofs.Common.{None, refl, sym, subst, List, ◌∷◌, length, arith}
 use Rattle.std.specs.Prelude.{All, Contains, slice_get}
 use Rattle.std.specs.Option.{IsSomeAnd}
 use Rattle.std.proofs.lemmas.Bool.{cases_lt}
-use Rattle.std.proofs.lemmas.Option.{same_Some, slice_get_within}
+use Rattle.std.proofs.lemmas.Option.{slice_get_within}
 use Rattle.std.proofs.lemmas.List.Elements.{All-weaker, All-contains, Contains-append_cases}
 use Rattle.pcb_model.specs.declared.item.Item.{Item}
-use Rattle.pcb_model.specs.declared.design.Design.{Design}
 use Rattle.pcb_model.specs.Board.{IsLegal}
 use Rattle.pcb_model.specs.Copper.{Ascends}
 use Rattle.pcb_model.specs.Sound.{IsItemOf, Serves}
 use Rattle.board_offers.specs.declared.offer.Shoved.{Shoved}
 use Rattle.board_offers.specs.declared.offer.Offer.{Offer}
-use Rattle.board_offers.specs.Items.{names, gone, shoved_ids}
-use Rattle.pcb_board.specs.Boards.{BoardOf, IsCommitOf, given, replayed}
-use Rattle.board_offers.specs.Offers.{Known, IsWellFormed, FailsFirst, IsInTheWay, IsShovable, IsOfNet}
+use Rattle.board_offers.specs.Items.{gone, shoved_ids}
+use Rattle.pcb_board.specs.Boards.{BoardOf, IsCommitOf, given}
+use Rattle.board_offers.specs.Offers.{IsWellFormed, FailsFirst, IsInTheWay, IsShovable}
 use Rattle.board_offers.specs.Troubles.{wanted, FailsLeast}
 use Rattle.pcb_board.specs.declared.answer.Answer.{Answer}
 use Rattle.pcb_board.specs.declared.answer.Answer.TheVariants.{Committed, Stale, Wrong, Malformed, Full}
-use Rattle.pcb_board.specs.Answers.{IsClearOn, IsFull, IsHeard, MeetsTrouble, BlamesLast, Step, IsTaken, known}
+use Rattle.pcb_board.specs.Answers.{IsClearOn, IsFull, BlamesLast, Step, IsTaken, known}
 use Rattle.pcb_board.specs.Keeping.{IsBoard}
-use Rattle.board_offers.specs.Given.{IsGiven}
 use Rattle.board_offers.proofs.Lists.{that, named_in, mapped}
 
 pub found_now : (b : BoardOf) → IsBoard b → All (λ (a : Item). slice_get (given b) a.id ≡ Some a) b.items

@@ -1,12 +1,11 @@
 -- A start list makes a board.
-use Rattle.std.proofs.Common.{◌≡◌, ◌⊎◌, inl, inr, ℕ, ◌+◌, ◌<◌, ◌≤◌, ◌^◌, zero, suc, Bool, true, false, true≢false}
-use Rattle.std.proofs.Common.{cond, Option, Some, refl, sym, ◌∙◌, ap, subst, List, [], ◌∷◌, ◌++◌, length, get_or, take}
+use Rattle.std.proofs.Common.{◌≡◌, ◌⊎◌, inl, inr, ℕ, ◌≤◌, ◌^◌, zero, suc, Bool, true, true≢false}
+use Rattle.std.proofs.Common.{cond, Some, refl, sym, ◌∙◌, ap, subst, List, [], ◌∷◌, ◌++◌, length, get_or}
 use Rattle.std.proofs.Common.{arith}
-use Rattle.std.specs.Prelude.{All, Contains, slice_get}
+use Rattle.std.specs.Prelude.{All, slice_get}
 use Rattle.std.specs.List.{filter}
 use Rattle.std.proofs.lemmas.Option.{none-some, same_Some, slice_get-get_or}
 use Rattle.std.proofs.lemmas.List.Elements.{All-nil, All-cons, All-head, All-tail, All-map}
-use Rattle.geo_kernel.specs.declared.point.Point.{Point}
 use Rattle.pcb_model.specs.declared.item.Item.{Item}
 use Rattle.pcb_model.specs.declared.item.Metal.{Metal}
 use Rattle.pcb_model.specs.declared.item.Metal.TheVariants.{Wire, Via, Pad, Ban}
@@ -14,8 +13,8 @@ use Rattle.pcb_model.specs.declared.design.FreeWire.{FreeWire}
 use Rattle.pcb_model.specs.declared.design.Design.{Design}
 use Rattle.pcb_model.specs.Pieces.{pieces_of, wire_piece, moved_piece, padstack_pieces}
 use Rattle.pcb_model.specs.Board.{IsLegal, IsRouted, is_fixed}
-use Rattle.pcb_model.specs.Sound.{IsSound, IsItemOf, IsLayerOf, IsFreeSound, IsFixedSound, IsCopper, IsMetalInRange}
-use Rattle.pcb_board.specs.Boards.{BoardOf, Loads, Starts, free_item, given, replayed}
+use Rattle.pcb_model.specs.Sound.{IsSound, IsLayerOf, IsFreeSound, IsMetalInRange}
+use Rattle.pcb_board.specs.Boards.{Loads, Starts, free_item, given, replayed}
 use Rattle.pcb_board.specs.Keeping.{IsBoard, started}
 use Rattle.pcb_board.specs.Loading.{IsLoaded}
 use Rattle.pcb_model.specs.Plain.{IsPlainCopper}

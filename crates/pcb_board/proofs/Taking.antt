@@ -1,19 +1,17 @@
 -- Items taken out by their ids, one by one.
-use Rattle.std.proofs.Common.{◌≡◌, ◌≢◌, ◌⊎◌, inl, inr, ℕ, ◌+◌, ◌<◌, ◌≤◌, ◌==◌, zero, suc, Bool, true, false}
-use Rattle.std.proofs.Common.{true≢false, cond, Option, Some, None, refl, sym, ◌∙◌, ap, subst, List, [], ◌∷◌, ◌++◌}
-use Rattle.std.proofs.Common.{length, get_or, take, drop, arith, length-append}
-use Rattle.std.specs.Prelude.{All, Contains, not, ◌||◌, slice_get, slice_index_or, remove, MatchOption}
-use Rattle.std.specs.List.{filter, AllPairs}
-use Rattle.std.proofs.lemmas.Bool.{eq-eqb, eqb-true}
-use Rattle.std.proofs.lemmas.Option.{none-some, same_Some, slice_get_within, slice_get-get_or}
-use Rattle.std.proofs.lemmas.List.{append-nil, append_assoc}
-use Rattle.std.proofs.lemmas.List.Elements.{All-append, All-filter, All-take, All-contains, Contains-get_or}
+use Rattle.std.proofs.Common.{◌≡◌, ℕ, ◌+◌, ◌<◌, zero, suc, Bool, true, false}
+use Rattle.std.proofs.Common.{cond, Option, Some, None, refl, sym, ◌∙◌, ap, subst, List, [], ◌∷◌, ◌++◌}
+use Rattle.std.proofs.Common.{get_or, take, arith}
+use Rattle.std.specs.Prelude.{All, not, ◌||◌, slice_get, remove, MatchOption}
+use Rattle.std.specs.List.{filter}
+use Rattle.std.proofs.lemmas.Option.{none-some, same_Some}
+use Rattle.std.proofs.lemmas.List.Elements.{All-append, All-filter, All-contains}
 use Rattle.pcb_model.specs.declared.item.Item.{Item}
-use Rattle.pcb_model.specs.Copper.{Ascends, Removes}
+use Rattle.pcb_model.specs.Copper.{Ascends}
 use Rattle.pcb_tiles.specs.Spread.{Spread, holding, Loses}
 use Rattle.geo_kernel.specs.declared.point.Rect4.{Rect4}
 use Rattle.board_offers.specs.Items.{names, without}
-use Rattle.board_offers.proofs.Lists.{all_front, pairs_rest, in_from, look_left, look_right}
+use Rattle.board_offers.proofs.Lists.{all_front, pairs_rest, in_from}
 use Rattle.board_offers.proofs.Troubles.{names_on, only_named, names_itself}
 
 all_pass : {X : Type 0} (p : X → Bool) (xs : List X) → All (λ x. p x ≡ true) xs → filter p xs ≡ xs

@@ -1,8 +1,8 @@
 -- How many entries of tiles a search looks at, at most.
-use Rattle.std.proofs.Common.{get_or, ◌≡◌, ℕ, ℤ, pos, ◌+◌, ◌-◌, ◌*◌, ◌<◌, ◌≤◌, ◌^◌, zero, suc, sym, ◌∙◌, ap, subst}
+use Rattle.std.proofs.Common.{get_or, ℕ, ℤ, ◌-◌, ◌*◌, ◌<◌, ◌≤◌, ◌^◌, suc}
 use Rattle.std.proofs.Common.{List}
 use Rattle.std.proofs.Common.{length, arith}
-use Rattle.std.specs.Prelude.{All, unsigned_abs, ◌≤ℤ◌, ◌+ℤ◌}
+use Rattle.std.specs.Prelude.{unsigned_abs}
 use Rattle.std.specs.List.{sum_by, count_by}
 use Rattle.std.proofs.Math.Nat.{mul-le-mul_right}
 use Rattle.std.proofs.lemmas.Int.{ints}

@@ -3,31 +3,30 @@ use Rattle.std.proofs.Common.{◌≡◌, ◌≢◌, ◌⊎◌, inl, inr, ℕ, �
 use Rattle.std.proofs.Common.{Option, Some, refl, sym, ◌∙◌, ap, subst, List, [], ◌∷◌, ◌++◌, length, get_or, take}
 use Rattle.std.proofs.Common.{arith}
 use Rattle.std.proofs.Common.{length-append}
-use Rattle.std.specs.Prelude.{All, Contains, IfSome, ◌||◌, slice_get, slice_index_or}
+use Rattle.std.specs.Prelude.{All, IfSome, ◌||◌, slice_get, slice_index_or}
 use Rattle.std.specs.List.{filter}
 use Rattle.std.proofs.lemmas.Bool.{cases_lt}
-use Rattle.std.proofs.lemmas.List.{length-take-le, append-nil}
+use Rattle.std.proofs.lemmas.List.{length-take-le}
 use Rattle.std.proofs.lemmas.Option.{slice_get_within, slice_get_read}
-use Rattle.std.proofs.lemmas.List.Elements.{Contains-append_cases}
 use Rattle.pcb_model.specs.declared.item.Item.{Item}
 use Rattle.pcb_model.specs.declared.design.Design.{Design}
 use Rattle.board_offers.specs.declared.offer.Offer.{Offer}
-use Rattle.board_offers.specs.Items.{names, is_on, without, gone, shoved_ids, new_items, joined_items}
+use Rattle.board_offers.specs.Items.{names, is_on, without, gone, new_items, joined_items}
 use Rattle.board_offers.specs.Given.{AreGiven}
 use Rattle.board_offers.proofs.Lists.{found_at, on_item, in_from}
 use Rattle.board_offers.proofs.Troubles.{names_on, or_cases, or_left, or_right, is_on_in}
-use Rattle.board_offers.proofs.New.{IsNew, IsAdded, IsReplaced, new_at}
+use Rattle.board_offers.proofs.New.{IsNew, new_at}
 use Rattle.pcb_board.specs.declared.answer.Entry.{Entry}
 use Rattle.pcb_board.specs.declared.answer.Entry.TheVariants.{Join, Back}
 use Rattle.pcb_board.specs.Boards.{BoardOf, Past, past, next, given, replayed, IsLast, Changes}
 use Rattle.pcb_board.specs.Renewing.{AreIndexed}
-use Rattle.pcb_board.specs.Turning.{AreNumbered, IsNumbered, IsJoinAt, LeadBack, AreMarks, ArePut, IsRangePut}
+use Rattle.pcb_board.specs.Turning.{AreNumbered, IsJoinAt, LeadBack, AreMarks, ArePut, IsRangePut}
 use Rattle.pcb_board.specs.Turning.{MarksJoin}
-use Rattle.pcb_board.specs.Turning.{AreTurned, is_marked, given_after, EndsWithin, IsReached}
+use Rattle.pcb_board.specs.Turning.{AreTurned, is_marked, EndsWithin, IsReached}
 use Rattle.pcb_board.specs.Answers.{taken_back}
 use Rattle.pcb_board.specs.Keeping.{IsBoard}
 use Rattle.pcb_board.proofs.Past.{past_more, given_grows, taken_one, take_less}
-use Rattle.pcb_board.proofs.Index.{is_false, bool_cases, on_append, off_named, on_others, off_left, off_right}
+use Rattle.pcb_board.proofs.Index.{is_false, bool_cases, on_append, off_named, on_others, off_right}
 use Rattle.pcb_board.proofs.Order.{AreNumberedFrom, standing_is}
 use Rattle.pcb_board.proofs.Numbered.{new_long}
 use Rattle.pcb_board.proofs.Changing.{changes_last, stays_last}

@@ -6,7 +6,7 @@ use geo_kernel::List;
 use std::alloc::AllocError;
 
 /// What a board answers to an offer.
-#[derive(Clone, Copy, Debug, PartialEq, Eq)]
+#[derive(Clone, Copy, PartialEq, Eq)]
 pub enum Answer {
     /// The offer is taken, and its entry has this number; entries count from 1.
     Committed { number: u64 },
@@ -34,14 +34,14 @@ pub enum Answer {
 }
 
 /// An offer for which memory was wanting.
-#[derive(Debug, Drop)]
+#[derive(Drop)]
 pub struct OfferBack {
     pub offer: Offer,
     pub cause: AllocError,
 }
 
 /// An entry of a board's history. Entries are numbered from 1; the board after no entry is the start.
-#[derive(Debug, Drop)]
+#[derive(Drop)]
 pub enum Entry {
     /// An offer that was taken. The ids of its new items begin with `first` and end before `after`: those of what it
     /// adds, and behind them those of the replacements of what it shoves.
@@ -57,7 +57,7 @@ pub enum Entry {
 }
 
 /// Why a board didn't go back.
-#[derive(Debug, Drop)]
+#[derive(Drop)]
 pub enum BackFault {
     /// There are only so many entries.
     Later { entries: u64 },
@@ -66,7 +66,7 @@ pub enum BackFault {
 }
 
 /// Offers for which memory was wanting, and the answers to those before them.
-#[derive(Debug, Drop)]
+#[derive(Drop)]
 pub struct RunBack {
     pub done: List<Answer>,
     pub left: List<Offer>,

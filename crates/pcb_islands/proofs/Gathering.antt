@@ -1,14 +1,13 @@
 -- One pin more is gathered.
-use Rattle.std.proofs.Common.{◌≡◌, ◌≢◌, ℕ, ◌+◌, ◌<◌, List, [], ◌∷◌, ◌++◌, length, get_or, Some, None, refl, sym, ◌∙◌, ap, subst, inl, inr, ◌⊎◌, arith}
+use Rattle.std.proofs.Common.{◌≡◌, ◌≢◌, ℕ, ◌<◌, List, [], ◌∷◌, ◌++◌, length, get_or, Some, None, refl, sym, ◌∙◌, ap, subst, inl, inr, ◌⊎◌, arith}
 use Rattle.std.specs.Prelude.{Contains, All, slice_get}
 use Rattle.std.specs.List.{AllZip}
-use Rattle.std.specs.List.Sorted.{IsStrictlyIncreasing}
 use Rattle.std.proofs.Math.ListN.{set}
-use Rattle.std.proofs.lemmas.Bool.{cases_lt}
-use Rattle.std.proofs.lemmas.List.{length_push, get_or_append_left, get_or_push, length-set, get_or-set_same, get_or-set_other}
+use Rattle.std.proofs.lemmas.List.{length_push, get_or_append_left, length-set, get_or-set_same, get_or-set_other}
 use Rattle.std.proofs.lemmas.List.Elements.{All-nil, All-cons, All-contains, All-push, All-weaker, Contains-append_left, Contains-push}
 use Rattle.std.proofs.lemmas.Option.{slice_get-get_or, slice_get_within, same_Some, none-some}
 use Rattle.std.proofs.lemmas.List.Quantifiers.{Any-push}
+use Rattle.geo_kernel.proofs.Ascending.{ascend_push}
 use Rattle.pcb_model.specs.declared.item.Item.{Item}
 use Rattle.pcb_model.specs.declared.design.Design.{Design}
 use Rattle.pcb_model.specs.Board.{AreJoined}
@@ -36,16 +35,6 @@ begins_more pins pin i s b = record {
 }
 
 -- ---- orders and members
--- a number above all others goes to the end
-pub increasing_more : (xs : List ℕ) (n : ℕ) → IsStrictlyIncreasing xs → All (λ x. x < n) xs → IsStrictlyIncreasing (xs ++ n ∷ [])
-increasing_more xs n up below k within = elim (cases_lt (k + 1) (length xs)) [
-  | inl h ↦ let a = get_or_append_left xs (n ∷ []) 0 k (omega arith) in let b = get_or_append_left xs (n ∷ []) 0 (k + 1) h in omega (arith, a, b, up k h)
-  | inr h ↦
-      let inside : k < length xs = omega (arith, length_push xs n) in
-      let last : length xs ≡ k + 1 = omega (arith, length_push xs n) in
-      omega (arith, get_or_append_left xs (n ∷ []) 0 k inside, get_or_push xs n 0 (k + 1) last, below k 0 inside)
-]
-
 -- what a relation says of the left elements
 pub zip_left : {A B : Type 0} (R : A → B → Type 0) (P : A → Type 0) (xs : List A) (ys : List B) → ((x : A) (y : B) → R x y → P x) → AllZip R xs ys → All P xs
 zip_left R P [] ys says all = All-nil P
@@ -257,7 +246,7 @@ module _ (d : Design) (items : List Item) (net : ℕ) (sound : IsSound d) (serve
         covered = All-push (IsCovered found_more) pins pin (All-weaker (IsCovered found) (IsCovered found_more) cover_more pins g.islands.covered)
             (record { some = Any-push (λ (t : Island). Contains t.pins pin) found opened (in_here pin []) });
         places = g.islands.places ++ length pins ∷ [];
-        ascend = increasing_more g.islands.places (length pins) g.islands.ascend (zip_left (BeginsAt pins) (λ i. i < length pins) g.islands.places found (λ i t b. b.within) g.islands.begin);
+        ascend = ascend_push g.islands.places (length pins) g.islands.ascend (zip_left (BeginsAt pins) (λ i. i < length pins) g.islands.places found (λ i t b. b.within) g.islands.begin);
         begin = zip_push (BeginsAt (pins ++ pin ∷ [])) g.islands.places found (length pins) opened (zip_weaker (BeginsAt pins) (BeginsAt (pins ++ pin ∷ [])) g.islands.places found (begins_more pins pin) g.islands.begin)
             (record { within = omega (arith, length_push pins pin); first_is = sym (look_last pins pin) });
       }

@@ -1,5 +1,5 @@
 -- The pads of a net by their pins, fixed item by fixed item.
-use Rattle.std.proofs.Common.{◌≡◌, ◌≢◌, ℕ, ◌<◌, List, [], ◌∷◌, length, Option, Some, None, refl, sym, ◌∙◌, ap, subst, inl, inr, ◌⊎◌, arith}
+use Rattle.std.proofs.Common.{◌≡◌, ◌≢◌, ℕ, ◌<◌, List, [], length, Option, Some, None, refl, sym, ◌∙◌, ap, subst, inl, inr, ◌⊎◌, arith}
 use Rattle.std.specs.Prelude.{All, Contains, AllPairs, slice_get}
 use Rattle.std.specs.Option.{IsSome, IsSomeAnd, option_map_or}
 use Rattle.std.proofs.lemmas.Option.{slice_get_cases, same_Some}

@@ -14,7 +14,7 @@ use std::alloc::{AllocError, Global};
 
 /// Pins of a net that copper joins, in the order of the net's list, and the ids of all items of the net
 /// that are joined to them, ascending.
-#[derive(Debug, Drop)]
+#[derive(Drop)]
 pub struct Island {
     pub net: u32,
     pub pins: List<u32>,

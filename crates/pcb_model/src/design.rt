@@ -5,7 +5,7 @@ use crate::{Item, Kind, Metal, Piece};
 use geo_kernel::{List, Name, Point, Unit};
 
 /// A clearance in nm for a pair of kinds; with `b` None for `a` with any kind.
-#[derive(Clone, Copy, Debug, PartialEq, Eq)]
+#[derive(Clone, Copy, PartialEq, Eq)]
 pub struct Typed {
     pub a: Kind,
     pub b: Option<Kind>,
@@ -13,7 +13,7 @@ pub struct Typed {
 }
 
 /// A width, a plain clearance and the clearances of pairs of kinds, in nm and as far as they are given.
-#[derive(Debug, Drop)]
+#[derive(Drop)]
 pub struct RuleSet {
     pub width: Option<u64>,
     pub plain: Option<u64>,
@@ -21,7 +21,7 @@ pub struct RuleSet {
 }
 
 /// A placed pin.
-#[derive(Debug, Drop)]
+#[derive(Drop)]
 pub struct Pin {
     pub component: u32,
     pub name: Name,
@@ -31,7 +31,7 @@ pub struct Pin {
 }
 
 /// A placed component.
-#[derive(Debug, Drop)]
+#[derive(Drop)]
 pub struct Component {
     pub name: Name,
     pub image: Name,
@@ -41,7 +41,7 @@ pub struct Component {
 }
 
 /// A net: its pins, its class, its own rules, and the usable padstacks of its list of vias.
-#[derive(Debug, Drop)]
+#[derive(Drop)]
 pub struct Net {
     pub name: Name,
     pub pins: List<u32>,
@@ -51,7 +51,7 @@ pub struct Net {
 }
 
 /// A padstack; usable as a via where it has copper at the origin on at least two layers.
-#[derive(Debug, Drop)]
+#[derive(Drop)]
 pub struct Padstack {
     pub name: Name,
     pub pieces: List<Piece>,
@@ -59,7 +59,7 @@ pub struct Padstack {
 }
 
 /// A wire or via of the design that may be ripped up, and the byte offset of its list.
-#[derive(Debug, Drop)]
+#[derive(Drop)]
 pub struct FreeWire {
     pub at: u64,
     pub net: u32,
@@ -67,14 +67,14 @@ pub struct FreeWire {
 }
 
 /// A layer; a power layer takes no wires.
-#[derive(Debug, Drop)]
+#[derive(Drop)]
 pub struct BoardLayer {
     pub name: Name,
     pub power: bool,
 }
 
 /// A design. `per` units of `unit` are its resolution; each entry of `bounds` has the loops of one boundary.
-#[derive(Debug, Drop)]
+#[derive(Drop)]
 pub struct Design {
     pub name: Name,
     pub unit: Unit,
@@ -96,7 +96,7 @@ pub struct Design {
 }
 
 /// The scale of a session: a printed number counts units of `nm` nm, `per` of them to one `unit`.
-#[derive(Clone, Copy, Debug, PartialEq, Eq)]
+#[derive(Clone, Copy, PartialEq, Eq)]
 pub struct SesScale {
     pub unit: Unit,
     pub per: u64,

@@ -4,7 +4,7 @@
 use geo_kernel::{List, Point, Spine};
 
 /// What clearances tell apart; a surface-mounted pin (its padstack has shapes on one layer only) is `Smd`.
-#[derive(Clone, Copy, Debug, PartialEq, Eq)]
+#[derive(Clone, Copy, PartialEq, Eq)]
 pub enum Kind {
     Wire,
     Via,
@@ -14,7 +14,7 @@ pub enum Kind {
 }
 
 /// Copper on one layer: a spine grown by half of `width` nm.
-#[derive(Debug, Drop)]
+#[derive(Drop)]
 pub struct Piece {
     pub layer: u8,
     pub spine: Spine,
@@ -22,7 +22,7 @@ pub struct Piece {
 }
 
 /// What an item is made of: a wire, a via of a padstack, the pad of a pin, or a ban of wires, vias or both.
-#[derive(Debug, Drop)]
+#[derive(Drop)]
 pub enum Metal {
     Wire {
         layer: u8,
@@ -43,7 +43,7 @@ pub enum Metal {
 }
 
 /// An item of a board. The fixed ones are the design's; the others are routed.
-#[derive(Debug, Drop)]
+#[derive(Drop)]
 pub struct Item {
     pub id: u64,
     pub net: Option<u32>,
@@ -54,7 +54,7 @@ pub struct Item {
 }
 
 /// A disc, a step or a via of a net that a search asks about.
-#[derive(Clone, Copy, Debug, PartialEq, Eq)]
+#[derive(Clone, Copy, PartialEq, Eq)]
 pub enum Probe {
     Disc {
         layer: u8,

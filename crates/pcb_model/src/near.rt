@@ -17,7 +17,7 @@ use crate::{Design, Item, Piece, Probe};
 use geo_kernel::{Point, Rect4, Spine, box_of, parted};
 
 /// A box that holds all spines of some pieces, in nm, their greatest width, and their least and greatest layer.
-#[derive(Clone, Copy, Debug, PartialEq, Eq)]
+#[derive(Clone, Copy, PartialEq, Eq)]
 pub struct Extent {
     pub bounds: Rect4,
     pub width: u64,

@@ -9,7 +9,7 @@ use route_words::Text;
 const LIMIT_NUMBER: u8 = 23;
 
 /// The files of a picture: the design, the session whose wiring is drawn in place of the design's, and the picture.
-#[derive(Debug, Drop)]
+#[derive(Drop)]
 pub struct PictureCall {
     pub design: Text,
     pub session: Option<Text>,
@@ -17,7 +17,7 @@ pub struct PictureCall {
 }
 
 /// How a call ended. Offsets count the bytes before.
-#[derive(Debug, Drop)]
+#[derive(Drop)]
 pub enum Outcome {
     /// The picture is written.
     Drawn,

@@ -11,7 +11,7 @@ use geo_kernel::List;
 use std::alloc::{AllocError, Global};
 
 /// A ruler whose grid isn't finer than its unit, a span of its grid, and the anchors beside it.
-#[derive(Debug, Drop)]
+#[derive(Drop)]
 pub(crate) struct Axis {
     pub ruler: Ruler,
     pub span: Span,

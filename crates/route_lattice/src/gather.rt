@@ -15,7 +15,7 @@ use pcb_model::{BoardLayer, Design, Pin, SesScale};
 use std::alloc::{AllocError, Global};
 
 /// The session unit, the box of the first boundary, the anchors' x and y, and the numbers of the signal layers; in nm.
-#[derive(Debug, Drop)]
+#[derive(Drop)]
 pub(crate) struct Parts {
     pub unit: u64,
     pub outline: Rect4,

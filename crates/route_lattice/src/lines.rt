@@ -12,7 +12,7 @@ use geo_kernel::List;
 use std::alloc::{AllocError, Global};
 
 /// The session unit and the grid, and the numbers strictly between which lines may lie; in nm.
-#[derive(Clone, Copy, Debug)]
+#[derive(Clone, Copy)]
 pub(crate) struct Ruler {
     pub unit: u64,
     pub grid: u64,
@@ -21,7 +21,7 @@ pub(crate) struct Ruler {
 }
 
 /// Multiples of the grid, from `first` to below `end`.
-#[derive(Clone, Copy, Debug)]
+#[derive(Clone, Copy)]
 pub(crate) struct Span {
     pub first: i64,
     pub end: i64,

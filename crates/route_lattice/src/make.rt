@@ -39,7 +39,7 @@ impl From<AllocError> for LatticeFault {
 }
 
 /// The lines of both directions.
-#[derive(Debug, Drop)]
+#[derive(Drop)]
 pub(crate) struct Axes {
     pub across: Axis,
     pub up: Axis,

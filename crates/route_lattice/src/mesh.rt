@@ -8,7 +8,7 @@ use geo_kernel::{List, Point};
 use std::marker::Model;
 
 /// The crossings of lines on each signal layer. Node `(l ny + j) nx + i` is that of signal layer l, y line j and x line i.
-#[derive(Debug, Drop)]
+#[derive(Drop)]
 pub struct Lattice {
     grid: u64,
     unit: u64,

@@ -8,7 +8,7 @@ ghost use Rattle.route_lattice.specs.Walks.{MoveGraph};
 use geo_kernel::List;
 
 /// A step to the next line in a direction, or a via of a padstack to a signal layer.
-#[derive(Clone, Copy, Debug, PartialEq, Eq)]
+#[derive(Clone, Copy, PartialEq, Eq)]
 pub enum Move {
     Step { dir: u8 },
     Via { padstack: u32, layer: u8 },
@@ -54,7 +54,7 @@ pub trait Moves {
 }
 
 /// A chain of moves: its nodes, of which there is one more than moves, and what its moves cost together.
-#[derive(Debug, Drop)]
+#[derive(Drop)]
 pub struct Walk {
     pub nodes: List<u32>,
     pub moves: List<Move>,
@@ -62,13 +62,13 @@ pub struct Walk {
 }
 
 /// Nodes that moves reach, ascending.
-#[derive(Debug, Drop)]
+#[derive(Drop)]
 pub struct Reach {
     pub nodes: List<u32>,
 }
 
 /// What a search answers: a walk, or all that it reached where no walk leads to a goal.
-#[derive(Debug, Drop)]
+#[derive(Drop)]
 pub enum Found {
     Walk(Walk),
     Closed(Reach),

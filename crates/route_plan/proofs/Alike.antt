@@ -1,7 +1,7 @@
 -- What a search answers over the same moves is the same.
-use Rattle.std.proofs.Common.{◌≡◌, ℕ, ◌<◌, List, Result, Ok, Err, sym, subst}
+use Rattle.std.proofs.Common.{ℕ, ◌<◌, List, Result, Ok, Err, sym, subst}
 use Rattle.std.specs.Prelude.{IfOk}
-use Rattle.route_lattice.specs.Walks.{MoveGraph, Hop, Opens, Leads, IsWalk, NoneLeads, IsReach, Answers, IsLeastWalk}
+use Rattle.route_lattice.specs.Walks.{MoveGraph, IsWalk, NoneLeads, Answers}
 use Rattle.route_lattice.specs.declared.moves.Walk.{Walk}
 use Rattle.route_lattice.specs.declared.moves.Found.{Found}
 use Rattle.route_lattice.specs.declared.moves.Found.TheVariants as found

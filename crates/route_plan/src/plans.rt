@@ -20,7 +20,7 @@ use wave_search::Search;
 
 /// What a plan answers: an offer; all that moves reach from the first island, where no walk leads from it to another;
 /// or that the net has at most one island.
-#[derive(Debug, Drop)]
+#[derive(Drop)]
 pub enum Planned {
     Offer(Offer),
     Shut(Reach),
@@ -52,7 +52,7 @@ fn bare_offer(
 }
 
 /// A least offer, or all that legal moves reach where no walk leads on.
-#[derive(Debug, Drop)]
+#[derive(Drop)]
 pub enum Led {
     Offer(Offer),
     Shut(Reach),

@@ -24,7 +24,7 @@ use std::alloc::{AllocError, Global};
 use wave_search::{BoxBound, LayerDirections, Search, box_bound_sound};
 
 /// The copper of a walk, and the ids of the items that it joins.
-#[derive(Debug, Drop)]
+#[derive(Drop)]
 pub(crate) struct Route {
     pub from: u64,
     pub to: u64,
@@ -32,7 +32,7 @@ pub(crate) struct Route {
 }
 
 /// A route, or all that moves reach where none leads on.
-#[derive(Debug, Drop)]
+#[derive(Drop)]
 pub(crate) enum Routed {
     Route(Route),
     Shut(Reach),

@@ -6,7 +6,7 @@ use std::alloc::AllocError;
 use thiserror::Error;
 
 /// The knobs of `route`.
-#[derive(Clone, Copy, Debug, PartialEq, Eq)]
+#[derive(Clone, Copy, PartialEq, Eq)]
 pub struct Knobs {
     /// The distance of the lattice's lines in nm, from 1,000 to 100,000,000; None asks for the design's default grid.
     pub grid: Option<u64>,
@@ -21,7 +21,7 @@ pub struct Knobs {
 }
 
 /// What the words ask for.
-#[derive(Debug, Drop)]
+#[derive(Drop)]
 pub enum Command {
     /// Route the design in the file `input`, and write the session into the file `output`. No name is empty.
     Route {

@@ -8,7 +8,7 @@ use thiserror::Error;
 
 /// A wire or via of a session: the byte offset of its list, its net and its copper.
 /// Nets, layers and padstacks are indices of the design, which count from 0; lengths are in nm.
-#[derive(Debug, Drop)]
+#[derive(Drop)]
 pub struct SesItem {
     pub at: u64,
     pub net: u32,

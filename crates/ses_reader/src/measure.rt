@@ -9,7 +9,7 @@ use dsn_units::Decimal;
 use geo_kernel::Unit;
 
 /// The unit of a session's numbers: `per` of it are one `unit`.
-#[derive(Clone, Copy, Debug, PartialEq, Eq)]
+#[derive(Clone, Copy, PartialEq, Eq)]
 pub(crate) struct Measure {
     pub(crate) unit: Unit,
     pub(crate) per: u32,

@@ -14,7 +14,7 @@ use route_lattice::Lattice;
 use std::alloc::{AllocError, Global};
 
 /// A wire's new chain.
-#[derive(Debug, Drop)]
+#[derive(Drop)]
 pub struct Reshape {
     pub chain: List<Point>,
 }

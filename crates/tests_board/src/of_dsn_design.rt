@@ -108,7 +108,7 @@ fn a_board_of_kicad(rt: HostRuntime) {
         (6, 2, true, 140_000_000, -114_200_000),
         (7, 3, true, 140_000_000, -115_800_000),
     ] {
-        assert_eq!(rt; pin(rt.alloc(), at), Some((Some(net), smd, Point { x, y })));
+        assert!(rt; pin(rt.alloc(), at) == Some((Some(net), smd, Point { x, y })));
     }
 }
 
@@ -162,7 +162,7 @@ fn bans(item: &Item) -> Option<(bool, bool)> {
 }
 
 /// What a fixed item is: its kind and net, what it bans, and its pieces.
-#[derive(Clone, Copy, Debug, PartialEq, Eq)]
+#[derive(Clone, Copy, PartialEq, Eq)]
 struct Told {
     kind: Kind,
     net: Option<u32>,
@@ -207,7 +207,7 @@ fn fixed_items_in_the_order_of_their_ids(rt: HostRuntime) {
             bans,
             pieces,
         };
-        assert_eq!(rt; item(rt.alloc(), at), Some(told));
+        assert!(rt; item(rt.alloc(), at) == Some(told));
     }
 }
 
@@ -242,6 +242,6 @@ fn free_wiring_of_a_board(rt: HostRuntime) {
         (1, 883, 1, 2, 0, 50_000),
     ] {
         let metal = Some((number, width, Point { x: nm, y: nm }));
-        assert_eq!(rt; free(rt.alloc(), at), Some((place, net, metal)));
+        assert!(rt; free(rt.alloc(), at) == Some((place, net, metal)));
     }
 }

@@ -41,11 +41,11 @@ fn offers_are_answered_one_after_another(rt: HostRuntime) {
         Answer::Committed { number: 1 },
         Answer::Stale { item: 5, commit: 1 },
     ];
-    assert_eq!(rt; answers_to_both(alloc, &mut board), Some(both));
+    assert!(rt; answers_to_both(alloc, &mut board) == Some(both));
     let after = answer(&mut board, across(alloc, 1));
-    assert_eq!(rt; after, Some(Answer::Wrong { item: 5, commit: 1 }));
+    assert!(rt; after == Some(Answer::Wrong { item: 5, commit: 1 }));
     let over = answer(&mut board, with_rips(alloc, across(alloc, 1), &[5]));
-    assert_eq!(rt; over, Some(Answer::Committed { number: 2 }));
+    assert!(rt; over == Some(Answer::Committed { number: 2 }));
     assert!(rt; stand(alloc, &board, &[0, 1, 2, 3, 4, 6]));
 }
 
@@ -127,8 +127,8 @@ fn a_board_takes_so_many_offers_of_workers(rt: HostRuntime) {
     let alloc = rt.alloc();
     let (mut board, _) = start(alloc, CROSS, 1).expect(&rt, "no board");
     let first = answer(&mut board, along(alloc, 0));
-    assert_eq!(rt; first, Some(Answer::Committed { number: 1 }));
-    assert_eq!(rt; answer(&mut board, across(alloc, 0)), Some(Answer::Full));
+    assert!(rt; first == Some(Answer::Committed { number: 1 }));
+    assert!(rt; answer(&mut board, across(alloc, 0)) == Some(Answer::Full));
 }
 
 /// The first net's wire, led round that of the second net.

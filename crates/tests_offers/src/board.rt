@@ -7,8 +7,8 @@ ghost use Rattle.pcb_model.specs.Sound.{IsSound};
 
 use dsn_design::read_design;
 use geo_kernel::{List, Point};
-use pcb_board::{Answer, Board, Offer, Shoved};
-use pcb_model::{Copper, Design, Metal};
+use pcb_board::{Answer, Board, Entry, Offer, Shoved};
+use pcb_model::{Copper, Design, Item, Metal};
 use std::alloc::{AllocError, Global};
 
 /// Two nets whose pins lie across each other: the boundary is item 0, the pins are 1 and 2 of net 0, 3 and 4 of net 1.
@@ -171,12 +171,60 @@ fn ids(alloc: Global, board: &Board) -> Result<Vec<u64>, AllocError> {
     Ok(ids)
 }
 
+/// Puts what an item is made of.
+fn put_metal(alloc: Global, text: &mut String, metal: &Metal) -> Result<(), AllocError> {
+    let part = match metal {
+        Metal::Wire { layer, width, .. } => format!(in alloc; " wire {layer} {width}")?,
+        Metal::Via { padstack, at } => format!(in alloc; " via {padstack} {} {}", at.x, at.y)?,
+        Metal::Pad { pin } => format!(in alloc; " pad {pin}")?,
+        Metal::Ban { wires, vias } => format!(in alloc; " ban {wires} {vias}")?,
+    };
+    text.push_str(part.as_str())?;
+    if let Metal::Wire { chain, .. } = metal {
+        for p in chain.as_slice() {
+            let part = format!(in alloc; " {} {}", p.x, p.y)?;
+            text.push_str(part.as_str())?;
+        }
+    }
+    Ok(())
+}
+
+/// Puts an entry of a history: its numbers, and what was laid.
+fn put_entry(alloc: Global, text: &mut String, entry: &Entry) -> Result<(), AllocError> {
+    match entry {
+        Entry::Join {
+            offer,
+            first,
+            after,
+        } => {
+            let part = format!(in alloc; "join {first} {after} of {}", offer.net)?;
+            text.push_str(part.as_str())?;
+            for metal in offer.add.as_slice() {
+                put_metal(alloc, text, metal)?;
+            }
+            Ok(())
+        }
+        Entry::Back { to } => text.push_str(format!(in alloc; "back {to}")?.as_str()),
+    }
+}
+
+/// Puts an item.
+fn put_item(alloc: Global, text: &mut String, item: &Item) -> Result<(), AllocError> {
+    let part = format!(in alloc; " item {} {:?} {}", item.id, item.net, item.fixed)?;
+    text.push_str(part.as_str())?;
+    put_metal(alloc, text, &item.metal)
+}
+
 /// A board's history, and each of its first twenty items.
 pub(crate) fn shown(alloc: Global, board: &Board) -> Result<String, AllocError> {
-    let mut text = format!(in alloc; "{:?}", board.history())?;
+    let mut text = String::new(alloc);
+    for entry in board.history().as_slice() {
+        put_entry(alloc, &mut text, entry)?;
+    }
     for id in 0..20 {
-        let one = format!(in alloc; " {:?}", board.items().item(id))?;
-        text.push_str(one.as_str())?;
+        if let Some(item) = board.items().item(id) {
+            put_item(alloc, &mut text, item)?;
+        }
     }
     Ok(text)
 }

@@ -43,6 +43,6 @@ fn numbers_are_in_the_first_unit_or_else_in_that_of_the_resolution(rt: HostRunti
         ("(PCB b (Resolution MIL 1e1))", Unit::Mil, 10, 25_400, 0),
     ] {
         let found = measures(rt.alloc(), text);
-        assert_eq!(rt; found, Some((unit, per, nm, notes)));
+        assert!(rt; found == Some((unit, per, nm, notes)));
     }
 }

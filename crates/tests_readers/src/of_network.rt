@@ -28,7 +28,7 @@ fn a_reference_is_split_at_each_hyphen(rt: HostRuntime) {
         ("J-2", Split::Unknown),
         ("R1", Split::Unknown),
     ] {
-        assert_eq!(rt; split_on_board(rt.alloc(), text), Some(wanted));
+        assert!(rt; split_on_board(rt.alloc(), text) == Some(wanted));
     }
 }
 

@@ -29,7 +29,7 @@ fn points_are_placed_on_both_sides(rt: HostRuntime) {
         (true, true, -8_660_254, 5_000_000),
     ] {
         let placed = place_point(p, back, flip_last, a, ORIGIN);
-        assert_eq!(rt; placed, Some(Point { x, y }));
+        assert!(rt; placed == Some(Point { x, y }));
     }
 }
 
@@ -47,12 +47,12 @@ fn past_the_edge(degrees: u8) -> Option<Point> {
 
 #[test]
 fn a_point_past_the_limit_is_not_placed(rt: HostRuntime) {
-    assert_eq!(rt; past_the_edge(0), None);
+    assert!(rt; past_the_edge(0).is_none());
     let back = Point {
         x: 536_870_911,
         y: 0,
     };
-    assert_eq!(rt; past_the_edge(180), Some(back));
+    assert!(rt; past_the_edge(180) == Some(back));
 }
 
 fn turned_over(count: u8, layers: u32) -> u32 {
@@ -132,12 +132,12 @@ fn a_pin_on_the_back_is_turned_in_its_image_mirrored_and_turned_again(rt: HostRu
         x: 140_000_000,
         y: -114_200_000,
     };
-    assert_eq!(rt; centre, Some(wanted));
+    assert!(rt; centre == Some(wanted));
     let wanted = Point {
         x: 139_999_000,
         y: -114_200_000,
     };
-    assert_eq!(rt; copper, Some((0b100, 10, wanted)));
+    assert!(rt; copper == Some((0b100, 10, wanted)));
 }
 
 fn first_ban(alloc: Global, library: &Library) -> Option<(u32, u64, Point)>
@@ -157,7 +157,7 @@ fn a_keepout_on_the_back_is_mirrored_and_its_layers_are_turned_over(rt: HostRunt
         y: -114_998_000,
     };
     let found = first_ban(rt.alloc(), &library);
-    assert_eq!(rt; found, Some((0b100, 5_000, wanted)));
+    assert!(rt; found == Some((0b100, 5_000, wanted)));
 }
 
 /// Whether component `i` has this name, image and side.
@@ -203,6 +203,6 @@ fn components_have_their_places_and_angles_or_stand_nowhere(rt: HostRuntime) {
         (2, Some(second), 270_000_000),
         (3, Some(ORIGIN), 0),
     ] {
-        assert_eq!(rt; stand(&placing, i), Some((at, microdegrees)));
+        assert!(rt; stand(&placing, i) == Some((at, microdegrees)));
     }
 }

@@ -69,6 +69,6 @@ fn a_rect_has_its_four_corners_and_a_circle_its_centre(rt: HostRuntime) {
         ("(circle F.Cu 5)", 0, 0, 0),
         ("(circle F.Cu 5 -2 0.0005)", 0, -2_000, 1),
     ] {
-        assert_eq!(rt; vertex(rt.alloc(), text, i), Some(Point { x, y }));
+        assert!(rt; vertex(rt.alloc(), text, i) == Some(Point { x, y }));
     }
 }

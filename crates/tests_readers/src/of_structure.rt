@@ -78,9 +78,9 @@ fn clearances_of_pairs_of_kinds_are_in_the_order_of_the_text(rt: HostRuntime) {
         (0, Kind::Smd, Some(Kind::Smd), 50_000),
         (1, Kind::Smd, None, 6_000),
     ] {
-        assert_eq!(rt; typed(rt.alloc(), i), Some(Typed { a, b, value }));
+        assert!(rt; typed(rt.alloc(), i) == Some(Typed { a, b, value }));
     }
-    assert_eq!(rt; typed(rt.alloc(), 2), None);
+    assert!(rt; typed(rt.alloc(), 2).is_none());
 }
 
 /// A boundary's layers, its width, its number of loops, and the last corner of the first.
@@ -103,7 +103,7 @@ fn read_bound(alloc: Global, i: usize) -> Option<(u32, u64, usize, Point)> {
 fn boundaries_are_areas_of_all_their_forms(rt: HostRuntime) {
     for (i, width, loops, x, y) in [(0, 0, 1, 0, 20_000), (1, 1_000, 2, 9_000, 9_000)] {
         let wanted = (0b111, width, loops, Point { x, y });
-        assert_eq!(rt; read_bound(rt.alloc(), i), Some(wanted));
+        assert!(rt; read_bound(rt.alloc(), i) == Some(wanted));
     }
 }
 

@@ -33,7 +33,7 @@ pub(crate) const ROUTE_THRICE: [&str; 6] = [
 ];
 
 /// What is told of a run: how many entries its board has, and which pass was kept.
-#[derive(Clone, Copy, Debug, PartialEq, Eq)]
+#[derive(Clone, Copy, PartialEq, Eq)]
 pub(crate) struct Made {
     pub entries: usize,
     pub kept: u32,

@@ -214,7 +214,7 @@ fn a_later_pass_rips_what_is_in_the_way(rt: HostRuntime) -> Result<(), Fail> {
         let left = called(&rt, alloc, text.as_str(), &ROUTE_THRICE, 0, 0)?;
         let report = joined(alloc, &[CROSSING_HEAD, first, RIPPED])?;
         assert!(rt; left.says(Status::Complete, report.as_str()), "{first}");
-        assert_eq!(rt; left.made(), Some(Made { entries, kept: 3 }), "{first}");
+        assert!(rt; left.made() == Some(Made { entries, kept: 3 }), "{first}");
     }
     Ok(())
 }

@@ -18,9 +18,9 @@ fn places_bytes(rt: HostRuntime) -> Result<(), Fail> {
         (20, 4, 2),
         (99, 4, 2),
     ] {
-        assert_eq!(rt; place_of(DESIGN, at), Place { line, column }, "{at}");
+        assert!(rt; place_of(DESIGN, at) == Place { line, column }, "{at}");
     }
-    assert_eq!(rt; place_of(b"", 5), Place { line: 1, column: 1 });
+    assert!(rt; place_of(b"", 5) == Place { line: 1, column: 1 });
     Ok(())
 }
 

@@ -4,6 +4,7 @@ pub mod Table
 pub mod Steps
 pub mod Cells
 pub mod Kept
+pub mod Touched
 pub mod Ends
 pub mod Tracing
 pub mod Run

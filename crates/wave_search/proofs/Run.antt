@@ -2,7 +2,7 @@
 use Rattle.std.proofs.Common.{◌≡◌, ℕ, ◌+◌, ◌-◌, ◌*◌, ◌^◌, ◌<◌, ◌≤◌, List, [], length, Option, Some, None, refl, sym, ap}
 use Rattle.std.proofs.Common.{◌∙◌, subst, arith}
 use Rattle.std.specs.Prelude.{Contains, IfSome, MatchOption}
-use Rattle.wave_search.specs.declared.labels.Label.{Label}
+use Rattle.wave_search.specs.declared.rows.Label.{Label}
 use Rattle.wave_search.specs.declared.front.Entry.{Entry}
 use Rattle.wave_search.specs.Waiting.{IsTaken}
 use Rattle.route_lattice.specs.Walks.{MoveGraph, IsSound, NoneCostsLess, NoneLeads, IsReach}

@@ -3,7 +3,7 @@ use Rattle.std.proofs.Common.{◌≡◌, ℕ, ◌+◌, ◌*◌, ◌^◌, ◌<◌
 use Rattle.std.proofs.Common.{◌∙◌, subst, inl, inr, arith, ◌⊎◌}
 use Rattle.std.specs.Prelude.{Contains, nat_lt}
 use Prim.Native.Nat.{zero, suc}
-use Rattle.wave_search.specs.declared.labels.Label.{Label}
+use Rattle.wave_search.specs.declared.rows.Label.{Label}
 use Rattle.wave_search.specs.declared.front.Entry.{Entry}
 use Rattle.wave_search.specs.Waiting.{Waits, IsAdded, IsTaken}
 use Rattle.route_lattice.specs.declared.moves.Move.{Move}

@@ -2,7 +2,7 @@
 use Rattle.std.proofs.Common.{◌≡◌, ℕ, ◌+◌, ◌<◌, List, [], ◌∷◌, ◌++◌, map, reverse, Option, Some, None, refl, sym, ap, ◌∙◌, subst, arith}
 use Rattle.std.specs.Prelude.{Contains}
 use Rattle.std.proofs.lemmas.List.{reverse-append, map-append}
-use Rattle.wave_search.specs.declared.labels.Label.{Label}
+use Rattle.wave_search.specs.declared.rows.Label.{Label}
 use Rattle.wave_search.specs.State.{label_at, IsTight, IsTightBy, ComesBy, Comes, Roots}
 use Rattle.wave_search.proofs.Steps.{one_label, leads_on}
 use Rattle.wave_search.proofs.Table.{within}

@@ -3,7 +3,7 @@ use Rattle.std.specs.Prelude.{◌≡◌, ℕ, ◌+◌, ◌*◌, ◌^◌, ◌≤�
 use Rattle.std.specs.Prelude.{Contains, Bool, true, false, nat_lt}
 use Rattle.std.specs.List.Sorted.{IsStrictlyIncreasing}
 use Prim.Native.Nat.{zero, suc}
-use Rattle.wave_search.specs.declared.labels.Label.{Label}
+use Rattle.wave_search.specs.declared.rows.Label.{Label}
 use Rattle.wave_search.specs.declared.front.Entry.{Entry}
 use Rattle.wave_search.specs.Waiting.{Waits}
 use Rattle.route_lattice.specs.declared.moves.Move.{Move}

@@ -3,12 +3,13 @@
 
 ghost use Rattle.std.specs.Prelude.{◌≡◌, ℕ, ◌^◌, ◌<◌, length, Some};
 ghost use Rattle.route_lattice.specs.Walks.{IsSound};
-ghost use Rattle.wave_search.specs.declared.labels.Label.{Label as TheLabel};
+ghost use Rattle.wave_search.specs.declared.rows.Label.{Label as TheLabel};
 ghost use Rattle.wave_search.specs.State.{label_at};
 
 use crate::bound::Bound;
 use crate::choices::{Choices, Way, cost_with};
-use crate::labels::{Label, Labels};
+use crate::labels::Labels;
+use crate::rows::Label;
 use crate::task::Task;
 use crate::ties::{Heading, Ties, heading_of};
 use route_lattice::{Move, Moves};
@@ -36,7 +37,7 @@ fn better_of(first: Option<Way>, second: Option<Way>) -> Option<Way> {
 }
 
 /// Whether a pass asks of each move if it is open, or takes it to be: a walk that it leads to is asked of in any case.
-#[derive(Clone, Copy, Debug, PartialEq, Eq)]
+#[derive(Clone, Copy, PartialEq, Eq)]
 pub(crate) enum Openness {
     Taken,
     Asked,

@@ -15,7 +15,7 @@ use std::collections::BinaryHeap;
 use std::marker::Model;
 
 /// A node that waits under a key.
-#[derive(Clone, Copy, Debug)]
+#[derive(Clone, Copy)]
 pub(crate) struct Entry {
     pub key: u64,
     pub node: u32,

@@ -10,6 +10,7 @@ mod choose;
 mod front;
 mod labels;
 mod marks;
+mod rows;
 mod search;
 mod task;
 mod ties;

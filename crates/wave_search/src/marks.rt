@@ -1,82 +1,42 @@
-//! Marks on nodes, a byte a node.
-//! Marks are made once and cleared by what was marked.
+//! Marked nodes, in rising order.
 
-ghost use Rattle.std.specs.Prelude.{◌≡◌, ℕ, ◌<◌, ◌↔◌, length, IfOk, OnOk, IsTrue, Contains};
-ghost use Rattle.wave_search.specs.Rows.{IsMarked};
+ghost use Rattle.std.specs.Prelude.{◌≡◌, ℕ, ◌↔◌, IfOk, IsTrue, Contains};
 
 use std::alloc::{AllocError, Global};
 use std::marker::Model;
 
-/// Marks on nodes.
+/// Marked nodes; contracts see them as a list in rising order.
 #[derive(Drop)]
 pub(crate) struct Marks {
-    marks: Vec<bool>,
-    marked: Vec<u32>,
+    nodes: Vec<u32>,
 }
 
 impl Model for Marks {
-    ghost use Rattle.std.specs.Prelude.{List, Bool};
-    ghost use Rattle.wave_search.specs.Rows.{AreMarked};
+    ghost use Rattle.std.specs.Prelude.{ℕ, List};
+    ghost use Rattle.std.specs.List.Sorted.{IsStrictlyIncreasing};
 
-    ghost Value = { List Bool };
+    ghost Value = { List ℕ };
 
-    ghost view = { λ s. s.marks.items };
+    ghost view = { λ s. s.nodes.items };
 
-    ghost invariant = { λ s. AreMarked s.marks.items s.marked.items };
+    ghost invariant = { λ s. IsStrictlyIncreasing s.nodes.items };
 }
 
 impl Marks {
-    /// Marks for nodes below `count`, none of which is set.
-    pub(crate) fn new(alloc: Global, count: u32) -> Result<Marks, AllocError>
-        ensures { IfOk result (λ s. length s ≡ count) }
+    /// These nodes.
+    pub(crate) fn of(alloc: Global, nodes: &[u32]) -> Result<Marks, AllocError>
+        ensures { IfOk result (λ s. (v : ℕ) → (Contains s v ↔ Contains nodes.now v)) }
     {
-        let marks = vec![in alloc; false; count as usize]?;
-        let marked = Vec::new(alloc);
-        Ok(Marks { marks, marked })
+        let mut sorted = Vec::from_slice(alloc, nodes)?;
+        sorted.sort_unstable();
+        sorted.dedup();
+        Ok(Marks { nodes: sorted })
     }
 
     /// Whether the node is marked.
     pub(crate) fn has(&self, v: u32) -> bool
-        requires { v < length self.now }
-        ensures { IsTrue result ↔ IsMarked self.now v }
+        ensures { IsTrue result ↔ Contains self.now v }
     {
-        self.marks[v as usize]
-    }
-
-    /// Takes all marks away.
-    fn clear(&mut self)
-        ensures none { (v : ℕ) → IsMarked self.new v → ⊥ }
-        ensures size { length self.new ≡ length self.old }
-    {
-        while let Some(v) = self.marked.pop() {
-            self.marks[v as usize] = false;
-        }
-    }
-
-    /// Marks one node more, if it is one.
-    fn mark(&mut self, v: u32) -> Result<(), AllocError>
-        ensures here { OnOk result (v < length self.old → IsMarked self.new v) }
-        ensures others { (u : ℕ) → (u ≡ v → ⊥) → (IsMarked self.new u ↔ IsMarked self.old u) }
-        ensures size { length self.new ≡ length self.old }
-    {
-        let at = v as usize;
-        if at >= self.marks.len() || self.marks[at] {
-            return Ok(());
-        }
-        self.marked.push(v)?;
-        self.marks[at] = true;
-        Ok(())
-    }
-
-    /// Marks exactly these nodes, as far as they are nodes.
-    pub(crate) fn set_to(&mut self, nodes: &[u32]) -> Result<(), AllocError>
-        ensures marked { OnOk result ((v : ℕ) → v < length self.new → (IsMarked self.new v ↔ Contains nodes.now v)) }
-        ensures size { length self.new ≡ length self.old }
-    {
-        self.clear();
-        for v in nodes {
-            self.mark(*v)?;
-        }
-        Ok(())
+        self.nodes.binary_search(&v).is_ok()
     }
 }

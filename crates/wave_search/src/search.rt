@@ -15,21 +15,18 @@ use route_lattice::{Found, Moves};
 use std::alloc::{AllocError, Global};
 use std::marker::Model;
 
-/// Memory for searches over a number of nodes, 17 bytes a node; contracts see it as that number.
+/// Memory for searches over a number of nodes, 16 bytes a node; contracts see it as that number.
 #[derive(Drop)]
 pub struct Search {
     labels: Labels,
-    marks: Marks,
 }
 
 impl Model for Search {
-    ghost use Rattle.std.specs.Prelude.{◌≡◌, ℕ, length};
+    ghost use Rattle.std.specs.Prelude.{ℕ, length};
 
     ghost Value = { ℕ };
 
     ghost view = { λ s. length s.labels };
-
-    ghost invariant = { λ s. length s.marks ≡ length s.labels };
 }
 
 impl Search {
@@ -38,8 +35,7 @@ impl Search {
         ensures { IfOk result (λ s. s ≡ count) }
     {
         let labels = Labels::new(alloc, count)?;
-        let marks = Marks::new(alloc, count)?;
-        Ok(Search { labels, marks })
+        Ok(Search { labels })
     }
 
     /// A walk over open moves from a start to a goal such that none costs less; Closed exactly where there is none,
@@ -63,14 +59,14 @@ impl Search {
         ensures size { self.new ≡ self.old }
     {
         self.labels.clear();
-        self.marks.set_to(goals.as_slice())?;
+        let marks = Marks::of(alloc, goals.as_slice())?;
         let task = Task {
             m,
             b,
             ties,
             starts,
             goals,
-            marks: &self.marks,
+            marks: &marks,
         };
         task.run(alloc, &mut self.labels)
     }

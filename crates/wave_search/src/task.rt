@@ -6,15 +6,15 @@ ghost use Rattle.std.specs.Prelude.{Some, None, All};
 ghost use Rattle.std.specs.Bool.{OnTrue, OnFalse};
 ghost use Rattle.route_lattice.specs.Walks.{IsSound, IsWalk, Answers};
 ghost use Rattle.wave_search.specs.Bounds.{IsBound};
-ghost use Rattle.wave_search.specs.Rows.{IsMarked};
-ghost use Rattle.wave_search.specs.declared.labels.Label.{Label as TheLabel};
+ghost use Rattle.wave_search.specs.declared.rows.Label.{Label as TheLabel};
 ghost use Rattle.wave_search.specs.State.{label_at, done_count, improves_on, is_done_by, KeepsDone, Roots, IsState};
 
 use crate::bound::Bound;
 use crate::choose::Openness;
 use crate::front::{Entry, Front};
-use crate::labels::{Label, Labels};
+use crate::labels::Labels;
 use crate::marks::Marks;
+use crate::rows::Label;
 use crate::ties::Ties;
 use geo_kernel::List;
 use route_lattice::{Found, Moves, Reach, Walk};
@@ -234,9 +234,7 @@ impl<'a, M: Moves, B: Bound, T: Ties> Task<'a, M, B, T> {
         requires sound { IsSound (M.graph self.now.m.now) }
         requires roots { Roots (M.graph self.now.m.now) self.now.starts.now table.now }
         requires small { (v : ℕ) (l : TheLabel) → label_at table.now v ≡ Some l → l.price < 2 ^ 60 }
-        requires marked { (v : ℕ) → v < (M.graph self.now.m.now).count → IsMarked self.now.marks.now v
-            → Contains self.now.goals.now v }
-        requires marks { length self.now.marks.now ≡ (M.graph self.now.m.now).count }
+        requires marked { (v : ℕ) → Contains self.now.marks.now v → Contains self.now.goals.now v }
         ensures { IfOk result
             (λ o. IfSome o (λ w. IsWalk (M.graph self.now.m.now) self.now.starts.now self.now.goals.now w
             × (w.price ≡ price))) }
@@ -261,9 +259,7 @@ impl<'a, M: Moves, B: Bound, T: Ties> Task<'a, M, B, T> {
     ) -> Result<Walk, AllocError>
         requires ready { M.ready self.now.m.now }
         requires sound { IsSound (M.graph self.now.m.now) }
-        requires marked { (v : ℕ) → v < (M.graph self.now.m.now).count
-            → (IsMarked self.now.marks.now v ↔ Contains self.now.goals.now v) }
-        requires marks { length self.now.marks.now ≡ (M.graph self.now.m.now).count }
+        requires marked { (v : ℕ) → (Contains self.now.marks.now v ↔ Contains self.now.goals.now v) }
         requires roots { Roots (M.graph self.now.m.now) self.now.starts.now table.now }
         requires small { (v : ℕ) (l : TheLabel) → label_at table.now v ≡ Some l → l.price < 2 ^ 60 }
         requires there { label_at table.now node ≡ Some label }
@@ -295,9 +291,7 @@ impl<'a, M: Moves, B: Bound, T: Ties> Task<'a, M, B, T> {
         requires ready { M.ready self.now.m.now }
         requires sound { IsSound (M.graph self.now.m.now) }
         requires bound { IsBound (M.graph self.now.m.now) self.now.goals.now (B.low_of self.now.b.now) }
-        requires marked { (v : ℕ) → v < (M.graph self.now.m.now).count
-            → (IsMarked self.now.marks.now v ↔ Contains self.now.goals.now v) }
-        requires marks { length self.now.marks.now ≡ (M.graph self.now.m.now).count }
+        requires marked { (v : ℕ) → (Contains self.now.marks.now v ↔ Contains self.now.goals.now v) }
         requires there { label_at table.old node ≡ Some label }
         requires is_done { 0 < label.rank }
         requires goal { Contains self.now.goals.now node }
@@ -328,10 +322,8 @@ impl<'a, M: Moves, B: Bound, T: Ties> Task<'a, M, B, T> {
     /// Whether the node of an entry, which waited at a price, is a goal. Where the key isn't the price its bound isn't
     /// 0, so it is none.
     fn is_goal(&self, entry: Entry, price: u64) -> bool
-        requires node { entry.node < (M.graph self.now.m.now).count }
-        requires marks { length self.now.marks.now ≡ (M.graph self.now.m.now).count }
-        ensures yes { OnTrue result (IsMarked self.now.marks.now entry.node) }
-        ensures no { OnFalse result (entry.key ≡ price → IsMarked self.now.marks.now entry.node → ⊥) }
+        ensures yes { OnTrue result (Contains self.now.marks.now entry.node) }
+        ensures no { OnFalse result (entry.key ≡ price → Contains self.now.marks.now entry.node → ⊥) }
     {
         if entry.key != price {
             return false;
@@ -345,9 +337,7 @@ impl<'a, M: Moves, B: Bound, T: Ties> Task<'a, M, B, T> {
         requires sound { IsSound (M.graph self.now.m.now) }
         requires bound { IsBound (M.graph self.now.m.now) self.now.goals.now (B.low_of self.now.b.now) }
         requires starts { All (λ s. s < (M.graph self.now.m.now).count) self.now.starts.now }
-        requires marked { (v : ℕ) → v < (M.graph self.now.m.now).count
-            → (IsMarked self.now.marks.now v ↔ Contains self.now.goals.now v) }
-        requires marks { length self.now.marks.now ≡ (M.graph self.now.m.now).count }
+        requires marked { (v : ℕ) → (Contains self.now.marks.now v ↔ Contains self.now.goals.now v) }
         requires size { length table.old ≡ (M.graph self.now.m.now).count }
         requires blank { (v : ℕ) → label_at table.old v ≡ None }
         requires none_done { done_count table.old ≡ 0 }

@@ -33,7 +33,7 @@ impl Ties for NoTies {
 const CORNER: u64 = 20_000;
 
 /// Which way a move leads: along x, along y, or neither.
-#[derive(Clone, Copy, Debug, PartialEq, Eq)]
+#[derive(Clone, Copy, PartialEq, Eq)]
 pub enum Heading {
     Across,
     Up,

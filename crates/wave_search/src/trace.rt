@@ -3,13 +3,13 @@
 
 ghost use Rattle.std.specs.Prelude.{◌≡◌, ℕ, ◌^◌, ◌<◌, length, None, IfOk, IfSome, Contains, Some, MatchOption};
 ghost use Rattle.route_lattice.specs.Walks.{IsSound, IsWalk};
-ghost use Rattle.wave_search.specs.declared.labels.Label.{Label as TheLabel};
-ghost use Rattle.wave_search.specs.Rows.{IsMarked};
+ghost use Rattle.wave_search.specs.declared.rows.Label.{Label as TheLabel};
 ghost use Rattle.wave_search.specs.State.{label_at, IsTight, IsTightBy, Roots};
 
 use crate::bound::Bound;
 use crate::choices::{Choices, Start};
-use crate::labels::{Label, Labels};
+use crate::labels::Labels;
+use crate::rows::Label;
 use crate::task::Task;
 use crate::ties::Ties;
 use geo_kernel::List;
@@ -141,8 +141,7 @@ impl<'a, M: Moves, B: Bound, T: Ties> Task<'a, M, B, T> {
         requires sound { IsSound (M.graph self.now.m.now) }
         requires roots { Roots (M.graph self.now.m.now) self.now.starts.now table.now }
         requires small { (v : ℕ) (l : TheLabel) → label_at table.now v ≡ Some l → l.price < 2 ^ 60 }
-        requires marked { (v : ℕ) → v < (M.graph self.now.m.now).count → IsMarked self.now.marks.now v → Contains self.now.goals.now v }
-        requires marks { length self.now.marks.now ≡ (M.graph self.now.m.now).count }
+        requires marked { (v : ℕ) → Contains self.now.marks.now v → Contains self.now.goals.now v }
         ensures { IfOk result (λ o. IfSome o (λ w. IsWalk (M.graph self.now.m.now) self.now.starts.now self.now.goals.now w × (w.price ≡ price))) }
     {
         let Some(mut here) = self.label_of_start(table, start.node) else {

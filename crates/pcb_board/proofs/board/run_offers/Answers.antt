@@ -1,5 +1,4 @@
-use Rattle.std.proofs.Common.{◌≡◌, ◌+◌, ◌≤◌, List, [], ◌∷◌, ◌++◌, reverse, sym, ◌∙◌, ap, subst, arith, rules, vec_len}
-use Rattle.std.proofs.Common.{vec_capacity}
+use Rattle.std.proofs.Common.{◌≡◌, List, [], ◌∷◌, reverse, ◌∙◌, ap, subst, rules}
 use Rattle.std.proofs.lemmas.List.{reverse-append}
 use Rattle.board_offers.specs.declared.offer.Offer.{Offer}
 use Rattle.pcb_board.specs.Answers.{HasMade}

@@ -1,4 +1,4 @@
-use Rattle.std.proofs.Common.{◌≡◌, List, sym, ◌∙◌, subst}
+use Rattle.std.proofs.Common.{sym, ◌∙◌, subst}
 use Rattle.pcb_model.specs.Bounds.{IsBoundFit}
 use Rattle.pcb_board.proofs.Loading.{box_area}
 use Rattle.pcb_board.proofs.load.area_of.Goals as goal

@@ -1,11 +1,8 @@
-use Rattle.std.proofs.Common.{◌≡◌, true, false, true≢false, List, sym, ◌∙◌, arith}
-use Rattle.std.specs.Prelude.{All, Contains}
+use Rattle.std.proofs.Common.{true≢false, sym, ◌∙◌}
 use Rattle.std.proofs.lemmas.List.Elements.{All-contains}
-use Rattle.pcb_model.specs.declared.item.Item.{Item}
 use Rattle.pcb_model.specs.Pairs.{Agrees}
-use Rattle.pcb_model.specs.Board.{IsLegal}
 use Rattle.board_offers.proofs.Lists.{all_from}
-use Rattle.pcb_board.proofs.Loading.{Fits, fits_legal, legal_fits}
+use Rattle.pcb_board.proofs.Loading.{fits_legal, legal_fits}
 use Rattle.pcb_board.proofs.load.fits.Goals as goal
 
 pub returns-then-not-inside_board : goal.returns-then-not-inside_board

@@ -1,4 +1,4 @@
-use Rattle.std.proofs.Common.{◌≡◌, ◌+◌, ◌∷◌, List, drop, subst}
+use Rattle.std.proofs.Common.{◌+◌, List, drop, subst}
 use Rattle.pcb_model.specs.declared.design.FreeWire.{FreeWire}
 use Rattle.pcb_board.specs.Loading.{AreLoaded}
 use Rattle.pcb_board.proofs.Loading.{one_loaded, rest_one}

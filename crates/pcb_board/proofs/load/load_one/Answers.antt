@@ -1,7 +1,6 @@
-use Rattle.std.proofs.Common.{◌≡◌, ◌<◌, ℕ, List, length, refl, sym, ◌∙◌, ap, subst, rules}
-use Rattle.std.specs.Prelude.{All, Some, false}
+use Rattle.std.proofs.Common.{◌≡◌, ◌<◌, ℕ, length, sym, ◌∙◌, ap, subst, rules}
+use Rattle.std.specs.Prelude.{All}
 use Rattle.pcb_model.specs.declared.item.Item.{Item}
-use Rattle.pcb_model.specs.Pieces.{item_of}
 use Rattle.pcb_board.specs.Boards.{free_item}
 use Rattle.pcb_board.proofs.Loading.{loaded_serves, loaded_below, kept_more}
 use Rattle.pcb_board.proofs.load.load_one.Goals as goal

@@ -1,4 +1,4 @@
-use Rattle.std.proofs.Common.{◌≡◌, ℕ, true, false, List, refl, sym, ◌∙◌, ap}
+use Rattle.std.proofs.Common.{◌≡◌, sym}
 use Rattle.std.proofs.lemmas.List.Elements.{All-contains}
 use Rattle.pcb_model.specs.declared.item.Item.{Item}
 use Rattle.board_offers.specs.Items.{is_on}

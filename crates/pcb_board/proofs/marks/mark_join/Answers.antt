@@ -1,4 +1,4 @@
-use Rattle.std.proofs.Common.{◌≡◌, ℕ, Bool, false, List, map, sym, subst}
+use Rattle.std.proofs.Common.{ℕ, false, List, map, sym, subst}
 use Rattle.board_offers.specs.declared.offer.Shoved.{Shoved}
 use Rattle.board_offers.specs.Items.{gone, shoved_ids}
 use Rattle.pcb_board.specs.declared.answer.Entry.{Entry}

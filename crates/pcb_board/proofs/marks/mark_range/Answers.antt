@@ -1,4 +1,4 @@
-use Rattle.std.proofs.Common.{◌≡◌, ◌≤◌, ℕ, subst, arith}
+use Rattle.std.proofs.Common.{◌≡◌, ℕ, subst, arith}
 use Rattle.pcb_board.specs.Turning.{IsRangePut}
 use Rattle.pcb_board.proofs.marks.mark_range.Goals as goal
 

@@ -1,4 +1,3 @@
-use Rattle.std.proofs.Common.{◌≤◌}
 use Rattle.pcb_board.specs.Turning.{IsRangePut}
 use Rattle.pcb_board.proofs.marks.mark_range.Given as goal
 

@@ -1,4 +1,4 @@
-use Rattle.std.proofs.Common.{◌≡◌, ◌<◌, ◌*◌, Fits, w64, List, length, All, Some, refl, subst, arith}
+use Rattle.std.proofs.Common.{◌≡◌, List, length, All, Some, refl, subst, arith}
 use Rattle.std.specs.Prelude.{slice_get}
 use Rattle.std.proofs.lemmas.Option.{slice_get_within, slice_get_read}
 use Rattle.pcb_model.specs.declared.item.Item.{Item}

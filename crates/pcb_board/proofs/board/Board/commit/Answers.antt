@@ -1,17 +1,16 @@
 use Rattle.std.proofs.Common.{◌≡◌, ◌+◌, ◌<◌, ◌++◌, ◌∷◌, [], ℕ, List, Some, get_or, length, refl, sym, ◌∙◌, ap, subst}
 use Rattle.std.proofs.Common.{rules, arith}
-use Rattle.std.specs.Prelude.{All, Contains, slice_get, vec_len, if◌then◌else◌}
+use Rattle.std.specs.Prelude.{All, slice_get, vec_len}
 use Rattle.std.proofs.lemmas.List.Elements.{Contains-get_or}
 use Rattle.pcb_model.specs.declared.item.Item.{Item}
 use Rattle.pcb_model.specs.Bounds.{IsItemFit}
-use Rattle.pcb_tiles.specs.Spread.{Spread, holding}
-use Rattle.pcb_board.specs.declared.answer.Answer.{Answer}
+use Rattle.pcb_tiles.specs.Spread.{holding}
 use Rattle.pcb_board.specs.declared.answer.Answer.TheVariants.{Committed}
 use Rattle.pcb_board.specs.declared.answer.Entry.{Entry}
 use Rattle.pcb_board.specs.declared.answer.Entry.TheVariants.{Join}
 use Rattle.pcb_board.specs.declared.board.Board.TheInside.{Inside}
 use Rattle.board_offers.specs.Items.{gone, without, new_items}
-use Rattle.pcb_board.specs.Boards.{BoardOf, given, is_worker}
+use Rattle.pcb_board.specs.Boards.{BoardOf, given}
 use Rattle.pcb_board.specs.Renewing.{IsRenewed}
 use Rattle.pcb_board.specs.Keeping.{IsBoard}
 use Rattle.pcb_board.specs.Indexing.{board_of}

@@ -4,11 +4,9 @@ use Rattle.pcb_model.specs.declared.item.Item.{Item}
 use Rattle.pcb_model.specs.declared.design.Design.{Design}
 use Rattle.pcb_model.specs.Bounds.{HasClearancesWithin}
 use Rattle.board_offers.specs.Given.{AreGiven}
-use Rattle.pcb_board.specs.declared.answer.Entry.{Entry}
 use Rattle.pcb_board.specs.declared.answer.Entry.TheVariants.{Back}
 use Rattle.pcb_board.specs.declared.board.Board.TheInside.{Inside}
 use Rattle.pcb_board.specs.Turning.{AreTurned, is_marked}
-use Rattle.pcb_board.specs.Indexing.{board_of}
 use Rattle.pcb_board.proofs.Returning.{IsReturned, returned_view, returned_indexed}
 use Rattle.pcb_board.proofs.board.Board.go_back.Goals as goal
 

@@ -1,4 +1,4 @@
-use Rattle.std.proofs.Common.{◌≡◌, ◌<◌, ◌≤◌, ◌-◌, ◌++◌, ◌∷◌, [], ℕ, List, Some, length, sym, subst, arith}
+use Rattle.std.proofs.Common.{◌≡◌, ◌≤◌, ◌-◌, ℕ, List, Some, sym, subst, arith}
 use Rattle.std.specs.Prelude.{slice_get}
 use Rattle.pcb_board.specs.declared.answer.Entry.TheVariants.{Join, Back}
 use Rattle.pcb_board.specs.Turning.{LeadBack}

@@ -1,12 +1,12 @@
-use Rattle.std.proofs.Common.{◌≡◌, ℕ, ◌<◌, Option, Some, List, length, refl, sym, ◌∙◌, subst, rules}
+use Rattle.std.proofs.Common.{◌≡◌, ℕ, List, length, sym, ◌∙◌, subst, rules}
 use Rattle.pcb_model.specs.declared.item.Item.{Item}
 use Rattle.pcb_model.specs.declared.design.Design.{Design}
 use Rattle.board_offers.specs.declared.offer.Offer.{Offer}
 use Rattle.board_offers.specs.declared.judgement.Judged.{Judged}
-use Rattle.board_offers.specs.declared.judgement.Judged.TheVariants.{Fault, Fine}
+use Rattle.board_offers.specs.declared.judgement.Judged.TheVariants.{Fine}
 use Rattle.pcb_board.specs.declared.board.Board.TheInside.{Inside}
 use Rattle.pcb_board.specs.Boards.{BoardOf}
-use Rattle.board_offers.specs.Offers.{Known, IsWellFormed}
+use Rattle.board_offers.specs.Offers.{IsWellFormed}
 use Rattle.board_offers.specs.Troubles.{FailsLeast}
 use Rattle.pcb_board.specs.Answers.{IsClearOn, IsFull, known}
 use Rattle.pcb_board.specs.Keeping.{IsBoard}

@@ -1,4 +1,4 @@
-use Rattle.std.proofs.Common.{◌≡◌, ◌<◌, ℕ, List, [], length, refl, sym, ◌∙◌, ap, subst, rules, arith}
+use Rattle.std.proofs.Common.{◌≡◌, ◌<◌, ℕ, length, refl, ◌∙◌, rules, arith}
 use Rattle.std.specs.Prelude.{slice_index_or}
 use Rattle.pcb_board.specs.declared.board.Board.TheInside.{Inside}
 use Rattle.pcb_board.proofs.Opening.{IsOpened, opened_view, opened_indexed, starts}

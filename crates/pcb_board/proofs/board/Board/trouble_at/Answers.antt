@@ -1,4 +1,4 @@
-use Rattle.std.proofs.Common.{◌≡◌, ℕ, ◌<◌, List, refl, sym, ◌∙◌, subst, length}
+use Rattle.std.proofs.Common.{◌≡◌, ℕ, ◌<◌, List, refl, sym, subst, length}
 use Rattle.pcb_model.specs.declared.item.Item.{Item}
 use Rattle.pcb_board.specs.Boards.{BoardOf, IsCommitOf, given}
 use Rattle.pcb_board.specs.Indexing.{board_of, IsIndexed}

@@ -1,4 +1,4 @@
-use Rattle.std.proofs.Common.{◌≡◌, ◌≤◌, ◌+◌, ◌*◌, ◌^◌, List, Some, length, ap, subst, arith}
+use Rattle.std.proofs.Common.{◌+◌, List, Some, length, ap, subst, arith}
 use Rattle.pcb_model.specs.declared.item.Item.{Item}
 use Rattle.pcb_model.specs.Pairs.{Agrees}
 use Rattle.pcb_model.specs.Copper.{Finds}

@@ -4,7 +4,7 @@ use Rattle.std.proofs.lemmas.List.Kept.{Contains-dedup_nat, Contains-from_dedup}
 use Rattle.std.proofs.lemmas.List.Sorted.{Contains-permutation, IsPermutation-sym}
 use Rattle.std.proofs.lemmas.Map.Keys.{IsStrictlyIncreasing-dedup}
 use Rattle.std.specs.Prelude.{Contains}
-use Rattle.wave_search.specs.declared.labels.Label.{Label}
+use Rattle.wave_search.specs.declared.rows.Label.{Label}
 use Rattle.wave_search.specs.State.{IsListed}
 use Rattle.wave_search.proofs.labels.Labels.nodes.Goals as goal
 
@@ -12,9 +12,10 @@ pub returns : goal.returns
 returns c =
     let is = dedup_is _ _ _ c.dedup.ensures.filtered in
     let moved = c.sort_unstable.ensures.permutation in
+    let same = c.in_ok-nodes.ensures.items ∙ c.as_slice.ensures.value in
     subst (λ (t : List (Option Label)). IsListed t c.dedup.new.self.items) c.self.view_is (record {
       ascends = rw is (IsStrictlyIncreasing-dedup _ c.sort_unstable.ensures.sorted);
       labelled = λ v h.
-          c.self.invariant.labelled v (subst (λ (xs : List ℕ). Contains xs v) (c.in_ok-nodes.ensures.items ∙ c.as_slice.ensures.value) (Contains-permutation _ _ v (IsPermutation-sym _ _ moved) (Contains-from_dedup _ _ v (rw is at h))));
-      complete = λ v l h. rw is (Contains-dedup_nat _ v (Contains-permutation _ _ v moved (subst (λ (xs : List ℕ). Contains xs v) (sym (c.in_ok-nodes.ensures.items ∙ c.as_slice.ensures.value)) (c.self.invariant.covers v l h))));
+          c.self.invariant.labelled c.if-self.false v (subst (λ (xs : List ℕ). Contains xs v) same (Contains-permutation _ _ v (IsPermutation-sym _ _ moved) (Contains-from_dedup _ _ v (rw is at h))));
+      complete = λ v l h. rw is (Contains-dedup_nat _ v (Contains-permutation _ _ v moved (subst (λ (xs : List ℕ). Contains xs v) (sym same) (c.self.invariant.covers c.if-self.false v l h))));
     })

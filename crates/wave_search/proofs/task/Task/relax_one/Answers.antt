@@ -1,6 +1,6 @@
 use Rattle.std.proofs.Common.{arith, ◌≡◌, ℕ, ◌+◌, Option, Some, refl, sym, subst, ◌∙◌, true, false}
 use Rattle.wave_search.specs.Waiting.{IsAdded}
-use Rattle.wave_search.specs.declared.labels.Label.{Label}
+use Rattle.wave_search.specs.declared.rows.Label.{Label}
 use Rattle.wave_search.specs.State.{label_at, improves_on, is_done_by, entry}
 use Rattle.wave_search.proofs.Steps.{price_room, relabel_keeps, relabelled, better_from, unchanged, done_before}
 use Rattle.wave_search.proofs.Steps.{cheap_from}

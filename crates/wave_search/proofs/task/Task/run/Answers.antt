@@ -15,18 +15,11 @@ overflow_add-label g c =
     (taken_now c.search.front c.pop.new.self _ c.in-Some.entry c.in_ok-entry.ensures c.in-Some.is)
     (sym c.get.ensures ∙ c.in-Some-get.is) c.if-found-ne0.false in omega (arith, r, c.requires.sound.nodes)
 
-pub is_goal-requires-clause-node : goal.is_goal-requires-clause-node
-is_goal-requires-clause-node g c = node_below c.requires.sound c.requires.bound c.search.invariant.state
-    (taken_now c.search.front c.pop.new.self _ c.in-Some.entry c.in_ok-entry.ensures c.in-Some.is)
-
 pub end-requires-clause-there : goal.end-requires-clause-there
 end-requires-clause-there g c = c.in_ok-put.ensures.ok.here
 
 pub end-requires-clause-goal : goal.end-requires-clause-goal
-end-requires-clause-goal g c =
-    let b = node_below c.requires.sound c.requires.bound c.search.invariant.state
-    (taken_now c.search.front c.pop.new.self _ c.in-Some.entry c.in_ok-entry.ensures c.in-Some.is) in
-    (c.requires.marked c.in-Some.entry.node b).0 c.if-is_goal.ensures.yes
+end-requires-clause-goal g c = (c.requires.marked c.in-Some.entry.node).0 c.if-is_goal.ensures.yes
 
 pub end-requires-clause-state : goal.end-requires-clause-state
 end-requires-clause-state g c = state_now c.requires.sound (unbound [] refl c.requires.bound)
@@ -37,8 +30,6 @@ end-requires-clause-state g c = state_now c.requires.sound (unbound [] refl c.re
 
 pub returns-then-is_goal-clause-answers : goal.returns-then-is_goal-clause-answers
 returns-then-is_goal-clause-answers g c =
-    let b = node_below c.requires.sound c.requires.bound c.search.invariant.state
-    (taken_now c.search.front c.pop.new.self _ c.in-Some.entry c.in_ok-entry.ensures c.in-Some.is) in
     let there = sym c.get.ensures ∙ c.in-Some-get.is in
     record {
       walk = c.in_ok-walk.ensures.walk;
@@ -47,7 +38,7 @@ returns-then-is_goal-clause-answers g c =
           (sym c.in_ok-walk.ensures.price)
           (none_less_now c.requires.sound c.requires.bound c.search.invariant.state
           (taken_now c.search.front c.pop.new.self _ c.in-Some.entry c.in_ok-entry.ensures c.in-Some.is) there
-          c.if-found-ne0.false ((c.requires.marked c.in-Some.entry.node b).0 c.if-is_goal.ensures.yes));
+          c.if-found-ne0.false ((c.requires.marked c.in-Some.entry.node).0 c.if-is_goal.ensures.yes));
       small = omega (
         arith,
         c.in_ok-walk.ensures.price,
@@ -84,8 +75,6 @@ relax-requires-clause-node g c = node_below c.requires.sound c.requires.bound c.
 
 pub relax-requires-clause-state : goal.relax-requires-clause-state
 relax-requires-clause-state g c =
-    let b = node_below c.requires.sound c.requires.bound c.search.invariant.state
-    (taken_now c.search.front c.pop.new.self _ c.in-Some.entry c.in_ok-entry.ensures c.in-Some.is) in
     state_now c.requires.sound c.requires.bound c.search.invariant.state
     (taken_now c.search.front c.pop.new.self _ c.in-Some.entry c.in_ok-entry.ensures c.in-Some.is)
     (sym c.get.ensures ∙ c.in-Some-get.is) c.if-found-ne0.false
@@ -93,7 +82,7 @@ relax-requires-clause-state g c =
     (goal_key c.requires.sound c.requires.bound c.search.invariant.state
     (taken_now c.search.front c.pop.new.self _ c.in-Some.entry c.in_ok-entry.ensures c.in-Some.is)
     (sym c.get.ensures ∙ c.in-Some-get.is) c.if-found-ne0.false h)
-    ((c.requires.marked c.in-Some.entry.node b).1 h)) c.put.new.self c.in_ok-put.ensures.ok
+    ((c.requires.marked c.in-Some.entry.node).1 h)) c.put.new.self c.in_ok-put.ensures.ok
 
 pub search-smaller : goal.search-smaller
 search-smaller g c = falls (g.M.Moves.graph c.args.self.now.m.now).count c.search.finished

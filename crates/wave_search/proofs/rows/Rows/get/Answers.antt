@@ -1,9 +1,9 @@
 use Rattle.std.proofs.Common.{◌≡◌, ◌∙◌, ap, sym, subst, List, Option}
-use Rattle.wave_search.specs.declared.labels.Label.{Label}
+use Rattle.wave_search.specs.declared.rows.Label.{Label}
 use Rattle.wave_search.specs.Rows.{row_label}
 use Rattle.wave_search.specs.State.{label_at}
 use Rattle.wave_search.proofs.Kept.{read, in_rows}
-use Rattle.wave_search.proofs.labels.Labels.get.Goals as goal
+use Rattle.wave_search.proofs.rows.Rows.get.Goals as goal
 
 pub returns : goal.returns
 returns c = subst (λ (t : List (Option Label)). c.label_of.result ≡ label_at t c.args.v) c.self.view_is

@@ -6,7 +6,7 @@ use Rattle.pcb_model.specs.declared.item.Item.{Item}
 use Rattle.pcb_model.specs.declared.design.Design.{Design}
 use Rattle.pcb_model.specs.Board.{is_fixed}
 use Rattle.pcb_model.specs.Bounds.{IsItemFit}
-use Rattle.pcb_model.specs.Sound.{IsSound, IsFixedSound, IsItemOf, Serves}
+use Rattle.pcb_model.specs.Sound.{IsSound, IsFixedSound, Serves}
 
 each : (P : Item → Type 0) (found : Option Item) → ((a : Item) → found ≡ Some a → P a) → IfSome found P
 each P None holds = search rules

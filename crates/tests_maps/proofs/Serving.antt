@@ -1,10 +1,8 @@
 -- Copper of a design's fixed items and one routed item, and what becomes of it when another takes its place.
-use Rattle.std.proofs.Common.{◌≡◌, ℕ, ◌<◌, refl, sym, ap, ◌∙◌, subst, Bool, true, false, List, [], ◌∷◌, ◌++◌, map}
-use Rattle.std.proofs.Common.{Option, Some, None, All, IfSome, length, slice_get, get_or, cond, suc}
+use Rattle.std.proofs.Common.{◌≡◌, ℕ, ◌<◌, refl, sym, ap, ◌∙◌, subst, false, List, [], ◌∷◌, ◌++◌, map}
+use Rattle.std.proofs.Common.{Option, Some, None, All, IfSome, length, slice_get, suc}
 use Rattle.std.proofs.Common.{arith, inl, inr}
 use Prim.Native.Nat.{zero}
-use Rattle.std.specs.List.{filter}
-use Rattle.std.proofs.lemmas.Option.{slice_get-get_or}
 use Rattle.std.proofs.lemmas.List.Elements.{All-nil, All-cons, All-head, All-tail, All-map}
 use Rattle.geo_kernel.specs.declared.point.Point.{Point}
 use Rattle.pcb_model.specs.declared.item.Item.{Item}
@@ -14,9 +12,9 @@ use Rattle.pcb_model.specs.declared.item.Metal.TheVariants.{Wire, Via, Pad, Ban}
 use Rattle.pcb_model.specs.declared.design.Design.{Design}
 use Rattle.pcb_model.specs.declared.design.Padstack.{Padstack}
 use Rattle.pcb_model.specs.declared.design.FreeWire.{FreeWire}
-use Rattle.pcb_model.specs.Board.{is_fixed, IsRouted}
+use Rattle.pcb_model.specs.Board.{IsRouted}
 use Rattle.pcb_model.specs.Pieces.{pieces_of, pieces_in, padstack_pieces, moved_piece, wire_piece, item_of}
-use Rattle.pcb_model.specs.Sound.{IsSound, IsFixedSound, IsFreeSound, IsItemOf, IsLayerOf, IsMetalInRange, IsCopper}
+use Rattle.pcb_model.specs.Sound.{IsSound, IsFreeSound, IsItemOf, IsLayerOf, IsMetalInRange, IsCopper}
 use Rattle.pcb_model.specs.Sound.{Serves}
 use Rattle.pcb_model.proofs.Laying.{serves_more}
 use Rattle.route_lattice.specs.Mesh.{Mesh}

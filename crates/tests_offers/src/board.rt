@@ -171,6 +171,14 @@ fn ids(alloc: Global, board: &Board) -> Result<Vec<u64>, AllocError> {
     Ok(ids)
 }
 
+fn put_points(alloc: Global, text: &mut String, points: &[Point]) -> Result<(), AllocError> {
+    for p in points {
+        let part = format!(in alloc; " {} {}", p.x, p.y)?;
+        text.push_str(part.as_str())?;
+    }
+    Ok(())
+}
+
 /// Puts what an item is made of.
 fn put_metal(alloc: Global, text: &mut String, metal: &Metal) -> Result<(), AllocError> {
     let part = match metal {
@@ -180,16 +188,37 @@ fn put_metal(alloc: Global, text: &mut String, metal: &Metal) -> Result<(), Allo
         Metal::Ban { wires, vias } => format!(in alloc; " ban {wires} {vias}")?,
     };
     text.push_str(part.as_str())?;
-    if let Metal::Wire { chain, .. } = metal {
-        for p in chain.as_slice() {
-            let part = format!(in alloc; " {} {}", p.x, p.y)?;
-            text.push_str(part.as_str())?;
-        }
+    match metal {
+        Metal::Wire { chain, .. } => put_points(alloc, text, chain.as_slice()),
+        _ => Ok(()),
+    }
+}
+
+/// Puts an offer: its numbers, what it adds and rips, and the wires that it shoves.
+fn put_offer(alloc: Global, text: &mut String, offer: &Offer) -> Result<(), AllocError> {
+    let part = format!(in alloc;
+        " offer {} {} {} {} {} {:?} {:?}",
+        offer.base,
+        offer.worker,
+        offer.net,
+        offer.from,
+        offer.to,
+        offer.penalty,
+        offer.rip.as_slice()
+    )?;
+    text.push_str(part.as_str())?;
+    for metal in offer.add.as_slice() {
+        put_metal(alloc, text, metal)?;
+    }
+    for shoved in offer.shoves.as_slice() {
+        let part = format!(in alloc; " shove {}", shoved.id)?;
+        text.push_str(part.as_str())?;
+        put_points(alloc, text, shoved.chain.as_slice())?;
     }
     Ok(())
 }
 
-/// Puts an entry of a history: its numbers, and what was laid.
+/// Puts an entry of a history.
 fn put_entry(alloc: Global, text: &mut String, entry: &Entry) -> Result<(), AllocError> {
     match entry {
         Entry::Join {
@@ -197,12 +226,9 @@ fn put_entry(alloc: Global, text: &mut String, entry: &Entry) -> Result<(), Allo
             first,
             after,
         } => {
-            let part = format!(in alloc; "join {first} {after} of {}", offer.net)?;
+            let part = format!(in alloc; "join {first} {after}")?;
             text.push_str(part.as_str())?;
-            for metal in offer.add.as_slice() {
-                put_metal(alloc, text, metal)?;
-            }
-            Ok(())
+            put_offer(alloc, text, offer)
         }
         Entry::Back { to } => text.push_str(format!(in alloc; "back {to}")?.as_str()),
     }
@@ -210,7 +236,8 @@ fn put_entry(alloc: Global, text: &mut String, entry: &Entry) -> Result<(), Allo
 
 /// Puts an item.
 fn put_item(alloc: Global, text: &mut String, item: &Item) -> Result<(), AllocError> {
-    let part = format!(in alloc; " item {} {:?} {}", item.id, item.net, item.fixed)?;
+    let pieces = item.pieces.as_slice().len();
+    let part = format!(in alloc; " item {} {:?} {} {pieces}", item.id, item.net, item.fixed)?;
     text.push_str(part.as_str())?;
     put_metal(alloc, text, &item.metal)
 }

@@ -134,7 +134,8 @@ fn tell_turns_among<R: Runtime>(rt: &R, alloc: Global, side: u32, walls: u32) ->
     let fewest = tied.turns;
     let tied_price = tied.price;
     println!(rt;
-        "{side} x {side} cells, {walls} walls in a hundred: {walks} walks of price {price} turn {turns} times, and by the rule, at price {tied_price}, {fewest} times"
+        "{side} x {side} cells, {walls} walls in a hundred: {walks} walks of price {price} turn {turns} times, \
+        and by the rule, at price {tied_price}, {fewest} times"
     )
 }
 
@@ -200,6 +201,22 @@ fn nanos_between<R: Runtime, T: Ties>(
     }
 }
 
+/// Says what a search on an open square took.
+fn say_speed<R: Runtime>(
+    rt: &R,
+    side: u32,
+    words: &str,
+    count: u32,
+    nanos: u128,
+    is_found: bool,
+) -> io::Result<()> {
+    let speed = u128::from(count) * 1_000_000_000 / nanos.max(1);
+    let micros = nanos / 1000;
+    println!(rt;
+        "{side} x {side} open cells, {words}, found {is_found}: {count} nodes in {micros} us, {speed} a second"
+    )
+}
+
 /// Tells how many nodes a second a search visits on an open square, corner to corner, by a rule of ties or without.
 fn tell_speed<R: Runtime, T: Ties>(
     rt: &R,
@@ -216,12 +233,9 @@ fn tell_speed<R: Runtime, T: Ties>(
     if from >= count {
         return Ok(());
     }
-    let (nanos, is_found) = nanos_between(rt, alloc, &cells, ties, from, count - 1 - from)?;
-    let speed = u128::from(count) * 1_000_000_000 / nanos.max(1);
-    let micros = nanos / 1000;
-    println!(rt;
-        "{side} x {side} open cells, {words}, found {is_found}: {count} nodes in {micros} us, {speed} a second"
-    )
+    let last = count - 1 - from;
+    let (nanos, is_found) = nanos_between(rt, alloc, &cells, ties, from, last)?;
+    say_speed(rt, side, words, count, nanos, is_found)
 }
 
 /// Tells how often walks turn among walls.

@@ -1,5 +1,6 @@
 -- The clauses of an offer, as they are decided by the added items.
-use Rattle.std.proofs.Common.{◌≡◌, ◌≢◌, ◌↔◌, inl, inr, ℕ, ◌+◌, ◌<◌, ◌≤◌, Bool, false, true≢false, IsTrue, Option, Some, None, refl, sym, ◌∙◌, subst, List, [], ◌∷◌, length}
+use Rattle.std.proofs.Common.{◌≡◌, ◌≢◌, ◌↔◌, inl, inr, ℕ, ◌+◌, ◌<◌, ◌≤◌, Bool, false, true≢false, IsTrue, Option, Some}
+use Rattle.std.proofs.Common.{None, refl, sym, ◌∙◌, subst, List, [], ◌∷◌, length}
 use Rattle.std.specs.Prelude.{All, slice_get}
 use Rattle.std.specs.Option.{IsSomeAnd}
 use Rattle.std.proofs.lemmas.List.Elements.{All-nil, All-cons, All-head, All-tail, All-weaker}
@@ -12,7 +13,9 @@ use Rattle.pcb_model.specs.Sound.{IsSound}
 use Rattle.board_offers.specs.declared.offer.Shoved.{Shoved}
 use Rattle.board_offers.specs.declared.offer.Offer.{Offer}
 use Rattle.board_offers.specs.Items.{added_from, replaced_from, added}
-use Rattle.board_offers.specs.Offers.{Known, IsOfNet, IsTimely, HasEnds, HasMetals, LeadsAcross, LiesInside, NamesOnce, RipsInTheWay, ShovesInTheWay, NewAgree, IsAddable, IsInTheWay, IsShovable, Named, FailsFirst}
+use Rattle.board_offers.specs.Offers.{Known, IsOfNet, IsTimely, HasEnds, HasMetals, LeadsAcross, LiesInside, NamesOnce}
+use Rattle.board_offers.specs.Offers.{RipsInTheWay, ShovesInTheWay, NewAgree, IsAddable, IsInTheWay, IsShovable, Named}
+use Rattle.board_offers.specs.Offers.{FailsFirst}
 use Rattle.board_offers.specs.Given.{AreGiven}
 use Rattle.board_offers.specs.Judging.{known_by}
 use Rattle.board_offers.specs.Inner.{LeadsBetween, IsInTheWayOf, IsShovableOf, MayShove}

@@ -1,5 +1,7 @@
 -- Parts of lists, and lists one behind the other.
-use Rattle.std.proofs.Common.{◌≡◌, ◌⊎◌, inl, inr, ℕ, ◌+◌, ◌<◌, ◌≤◌, ◌==◌, map, zero, suc, Bool, true, false, true≢false, cond, Option, Some, None, refl, sym, ◌∙◌, ap, subst, List, [], ◌∷◌, ◌++◌, length, get_or, take, arith}
+use Rattle.std.proofs.Common.{◌≡◌, ◌⊎◌, inl, inr, ℕ, ◌+◌, ◌<◌, ◌≤◌, ◌==◌, map, zero, suc, Bool, true, false, true≢false}
+use Rattle.std.proofs.Common.{cond, Option, Some, None, refl, sym, ◌∙◌, ap, subst, List, [], ◌∷◌, ◌++◌, length, get_or}
+use Rattle.std.proofs.Common.{take, arith}
 use Rattle.std.specs.Prelude.{not, ◌||◌, IfSome, slice_get}
 use Rattle.std.specs.Option.{IsSomeAnd}
 use Rattle.pcb_model.specs.declared.item.Item.{Item}
@@ -10,7 +12,8 @@ use Rattle.std.proofs.lemmas.Bool.{eqb-true, eq-eqb}
 use Rattle.std.proofs.lemmas.List.{take_all, take_more, get_or-take, get_or_default, length-take-le}
 use Rattle.std.proofs.lemmas.List.Kept.{AllPairs-cons}
 use Rattle.std.proofs.lemmas.List.Quantifiers.{all_pairs_push}
-use Rattle.std.proofs.lemmas.List.Elements.{All-append, All-more, All-filter, All-contains, All-contains_itself, filter_passes, Contains-get_or}
+use Rattle.std.proofs.lemmas.List.Elements.{All-append, All-more, All-filter, All-contains, All-contains_itself}
+use Rattle.std.proofs.lemmas.List.Elements.{filter_passes, Contains-get_or}
 
 pub in_here : {X : Type 0} (x : X) (xs : List X) → Contains (x ∷ xs) x
 in_here x xs = (0, omega arith, refl)

@@ -1,5 +1,6 @@
 -- The new items of an offer, one by one.
-use Rattle.std.proofs.Common.{◌≡◌, ◌⊎◌, inl, inr, ℕ, ◌+◌, ◌≤◌, ◌^◌, zero, suc, false, Option, Some, refl, sym, ◌∙◌, ap, subst, List, [], ◌∷◌, length, arith}
+use Rattle.std.proofs.Common.{◌≡◌, ◌⊎◌, inl, inr, ℕ, ◌+◌, ◌≤◌, ◌^◌, zero, suc, false, Option, Some, refl, sym, ◌∙◌, ap}
+use Rattle.std.proofs.Common.{subst, List, [], ◌∷◌, length, arith}
 use Rattle.std.specs.Prelude.{All, Contains, slice_get}
 use Rattle.std.specs.Option.{IsSomeAnd}
 use Rattle.std.proofs.lemmas.Option.{none-some, same_Some, get_or_from_slice_get}
@@ -14,7 +15,8 @@ use Rattle.pcb_model.specs.Board.{IsRouted, IsLaid, AreInside}
 use Rattle.pcb_model.specs.Sound.{IsSound}
 use Rattle.board_offers.specs.declared.offer.Shoved.{Shoved}
 use Rattle.board_offers.specs.declared.offer.Offer.{Offer}
-use Rattle.board_offers.specs.Items.{item_at, added_from, replaced_from, reshaped, with_chain, added, replaced, new_items, no_item}
+use Rattle.board_offers.specs.Items.{item_at, added_from, replaced_from, reshaped, with_chain, added, replaced}
+use Rattle.board_offers.specs.Items.{new_items, no_item}
 use Rattle.board_offers.specs.Offers.{Known, IsWellFormed, IsAddable, IsShovable, IsWire}
 use Rattle.board_offers.specs.Given.{IsGiven, AreGiven}
 use Rattle.board_offers.proofs.Lists.{in_from, that, look_cases}

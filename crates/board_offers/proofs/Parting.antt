@@ -1,5 +1,7 @@
 -- Items that shoves part, step by step.
-use Rattle.std.proofs.Common.{◌≡◌, ◌≢◌, inl, inr, ℕ, ◌+◌, ◌<◌, ◌≤◌, ◌^◌, ◌==◌, suc, not, Bool, true, false, cond, Option, Some, None, refl, sym, ◌∙◌, ap, subst, List, [], ◌∷◌, ◌++◌, length, get_or, drop, arith}
+use Rattle.std.proofs.Common.{◌≡◌, ◌≢◌, inl, inr, ℕ, ◌+◌, ◌<◌, ◌≤◌, ◌^◌, ◌==◌, suc, not, Bool, true, false, cond}
+use Rattle.std.proofs.Common.{Option, Some, None, refl, sym, ◌∙◌, ap, subst, List, [], ◌∷◌, ◌++◌, length, get_or, drop}
+use Rattle.std.proofs.Common.{arith}
 use Rattle.std.specs.Prelude.{All, Contains, slice_get, nat_lt}
 use Rattle.std.specs.Option.{option_map_or}
 use Rattle.std.specs.List.{find, position, position_or_len}
@@ -18,7 +20,8 @@ use Rattle.pcb_model.specs.Pairs.{is_same_net, AreTouching, PiecesTouch}
 use Rattle.pcb_model.specs.Copper.{Ascends, Finds, IsLeast}
 use Rattle.board_offers.specs.declared.offer.Shoved.{Shoved}
 use Rattle.board_offers.specs.declared.offer.Offer.{Offer}
-use Rattle.board_offers.specs.Items.{no_item, item_at, added, new_items, replaced, replaced_from, reshaped, after_shoves}
+use Rattle.board_offers.specs.Items.{no_item, item_at, added, new_items, replaced, replaced_from, reshaped}
+use Rattle.board_offers.specs.Items.{after_shoves}
 use Rattle.board_offers.specs.Given.{AreGiven}
 use Rattle.board_offers.specs.Troubles.{FailsLeast, StaysJoined}
 use Rattle.board_offers.specs.Searching.{least_of, lies_after, TouchesAfter, StaysBy, StayBy, StaysWith, StaysWithAll}

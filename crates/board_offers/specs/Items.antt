@@ -1,5 +1,6 @@
 -- Items by id, and the items that an offer makes.
-use Rattle.std.specs.Prelude.{ℕ, ◌+◌, ◌==◌, Bool, true, false, not, List, [], ◌∷◌, ◌++◌, map, filter, length, slice_index_or, Some, None}
+use Rattle.std.specs.Prelude.{ℕ, ◌+◌, ◌==◌, Bool, true, false, not, List, [], ◌∷◌, ◌++◌, map, filter, length}
+use Rattle.std.specs.Prelude.{slice_index_or, Some, None}
 use Rattle.std.specs.List.{list_any, find}
 use Rattle.std.specs.Option.{option_map_or}
 use Rattle.geo_kernel.specs.declared.point.Point.{Point}

@@ -1,5 +1,6 @@
 -- Well-formed offers: nine clauses over the offer, the design and the items ever given.
-use Rattle.std.specs.Prelude.{◌≡◌, ◌≢◌, ℕ, ◌≤◌, ◌<◌, ◌^◌, ◌⊎◌, List, [], ◌∷◌, ◌++◌, length, All, AllPairs, Any, Some, slice_get}
+use Rattle.std.specs.Prelude.{◌≡◌, ◌≢◌, ℕ, ◌≤◌, ◌<◌, ◌^◌, ◌⊎◌, List, [], ◌∷◌, ◌++◌, length, All, AllPairs, Any, Some}
+use Rattle.std.specs.Prelude.{slice_get}
 use Rattle.std.specs.Option.{IsSomeAnd}
 use Rattle.geo_kernel.specs.Plane.{IsWithin}
 use Rattle.geo_kernel.specs.Spine.{IsSpineWithin}

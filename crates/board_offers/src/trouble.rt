@@ -1,7 +1,8 @@
 //! Trouble that an offer meets on the board: the least id that stands in its way.
 //! The copper is asked about the ids that the offer names, its new items and what it shoves, and nothing else.
 
-ghost use Rattle.std.specs.Prelude.{◌≡◌, ◌≢◌, ◌+◌, ◌<◌, ◌≤◌, ◌^◌, ◌∷◌, [], ℕ, All, Contains, IfOk, Some, true, false, drop, length, slice_get};
+ghost use Rattle.std.specs.Prelude.{◌≡◌, ◌≢◌, ◌+◌, ◌<◌, ◌≤◌, ◌^◌, ◌∷◌, [], ℕ, All, Contains, IfOk, Some, true};
+ghost use Rattle.std.specs.Prelude.{false, drop, length, slice_get};
 ghost use Rattle.pcb_model.specs.declared.item.Item.{Item as OneItem};
 ghost use Rattle.pcb_model.specs.Bounds.{IsItemFit};
 ghost use Rattle.pcb_model.specs.Pairs.{Agrees, AreTouching};

@@ -1,5 +1,6 @@
 -- What a check has tested item by item, node by node.
-use Rattle.std.proofs.Common.{◌≡◌, ℕ, ◌<◌, List, length, get_or, Bool, true, sym, refl, ap, ◌∙◌, subst, inl, inr, arith, All}
+use Rattle.std.proofs.Common.{◌≡◌, ℕ, ◌<◌, List, length, get_or, Bool, true, sym, refl, ap, ◌∙◌, subst, inl, inr, arith}
+use Rattle.std.proofs.Common.{All}
 use Rattle.std.specs.Prelude.{Contains, ◌↔◌, IsTrue}
 use Rattle.std.proofs.lemmas.Bool.{cases_lt}
 use Rattle.std.proofs.lemmas.List.{get_or_default}
@@ -29,41 +30,70 @@ module _ (items : List Item) (up : Ascends items) where
     | inl lt ↦ absurd (omega (arith, below a b p q lt, e))
     | inr ge ↦ elim (cases_lt q.0 p.0) [
       | inl gt ↦ absurd (omega (arith, below b a q p gt, e))
-      | inr le ↦ let same : p.0 ≡ q.0 = omega arith in sym p.2 ∙ (ap (λ (k : ℕ). get_or items k a) same ∙ at_place b a q.0 q.1 q.2)
+      | inr le ↦ let same : p.0 ≡ q.0 = omega arith in
+          sym p.2 ∙ (ap (λ (k : ℕ). get_or items k a) same ∙ at_place b a q.0 q.1 q.2)
     ]
   ]
 
   module _ (P : Item → Type 0) (id : ℕ) where
     -- what is tested of the one item with an id is so of each
-    pub of_one : (b : Item) → Contains items b → b.id ≡ id → (t : Bool) → (IsTrue t ↔ P b) → IsTrue t ↔ ((a : Item) → Contains items a → a.id ≡ id → P a)
+    pub of_one : (b : Item) → Contains items b → b.id ≡ id → (t : Bool) → (IsTrue t ↔ P b)
+        → IsTrue t ↔ ((a : Item) → Contains items a → a.id ≡ id → P a)
     of_one b p e t iff = (λ is a q f. subst P (same_item b a p q (e ∙ sym f)) (iff.0 is), λ each. iff.1 (each b p e))
 
     -- no item has the id
-    pub of_none : All (λ (b : Item). b.id ≡ id → ⊥) items → IsTrue true ↔ ((a : Item) → Contains items a → a.id ≡ id → P a)
+    pub of_none : All (λ (b : Item). b.id ≡ id → ⊥) items
+        → IsTrue true ↔ ((a : Item) → Contains items a → a.id ≡ id → P a)
     of_none none = (λ _ a q f. absurd (All-contains (λ (b : Item). b.id ≡ id → ⊥) items a none q f), λ _. refl)
 
 -- ---- starts and goals
 module _ (d : Design) (m : Mesh) (items : List Item) (nodes : List ℕ) where
-  pub starts_from : (island : Island) → All (HoldsStartsOf d m items island.net nodes) island.items → (node : ℕ) → IsStart d m items island node → Contains nodes node
-  starts_from island each node s = All-contains (HoldsStartsOf d m items island.net nodes) island.items s.anchors.item.id each s.anchors.asked s.anchors.item s.anchors.there refl node s.there s.anchors.anchors s.legal
+  pub starts_from : (island : Island) → All (HoldsStartsOf d m items island.net nodes) island.items → (node : ℕ)
+      → IsStart d m items island node → Contains nodes node
+  starts_from island each node s =
+      All-contains (HoldsStartsOf d m items island.net nodes) island.items s.anchors.item.id each s.anchors.asked
+      s.anchors.item s.anchors.there refl node s.there s.anchors.anchors s.legal
 
-  pub starts_to : (island : Island) → ((node : ℕ) → IsStart d m items island node → Contains nodes node) → All (HoldsStartsOf d m items island.net nodes) island.items
+  pub starts_to : (island : Island) → ((node : ℕ) → IsStart d m items island node → Contains nodes node)
+      → All (HoldsStartsOf d m items island.net nodes) island.items
   starts_to island starts k id h a p e node there anchors legal = starts node (record {
     there = there;
-    anchors = record { item = a; there = p; asked = subst (Contains island.items) (sym e) (Contains-get_or island.items k id h); anchors = anchors };
+    anchors = record {
+      item = a;
+      there = p;
+      asked = subst (Contains island.items) (sym e) (Contains-get_or island.items k id h);
+      anchors = anchors;
+    };
     legal = legal;
   })
 
-  pub goals_from : (others : List Island) → All (HoldsNoneOfIsland d m items nodes) others → (node : ℕ) → IsGoal d m items others node → Contains nodes node → ⊥
+  pub goals_from : (others : List Island) → All (HoldsNoneOfIsland d m items nodes) others → (node : ℕ)
+      → IsGoal d m items others node → Contains nodes node → ⊥
   goals_from others each node g c =
       let o = g.anchors in
-      let none : HoldsNoneOfIsland d m items nodes o.1 = subst (HoldsNoneOfIsland d m items nodes) o.3 (each o.0 o.1 o.2) in
-      All-contains (λ v. Anchors d m v o.4.item → ⊥) nodes node (All-contains (HoldsNoneOf d m items nodes) o.1.items o.4.item.id none o.4.asked o.4.item o.4.there refl) c o.4.anchors
+      let none : HoldsNoneOfIsland d m items nodes o.1 =
+      subst (HoldsNoneOfIsland d m items nodes) o.3 (each o.0 o.1 o.2) in
+      All-contains (λ v. Anchors d m v o.4.item → ⊥) nodes node
+      (All-contains (HoldsNoneOf d m items nodes) o.1.items o.4.item.id none o.4.asked o.4.item o.4.there refl) c
+      o.4.anchors
 
-  pub goals_to : (others : List Island) → All (λ v. v < node_count m) nodes → ((node : ℕ) → IsGoal d m items others node → Contains nodes node → ⊥) → All (HoldsNoneOfIsland d m items nodes) others
+  pub goals_to : (others : List Island) → All (λ v. v < node_count m) nodes
+      → ((node : ℕ) → IsGoal d m items others node → Contains nodes node → ⊥)
+      → All (HoldsNoneOfIsland d m items nodes) others
   goals_to others in_lattice out k o h j id lt a p e i v il anchors =
       let other : Island = get_or others k o in
       out (get_or nodes i v) (record {
         there = in_lattice i v il;
-        anchors = (k, other, h, get_or_default others k other o h, record { item = a; there = p; asked = subst (Contains other.items) (sym e) (Contains-get_or other.items j id lt); anchors = anchors });
+        anchors = (
+          k,
+          other,
+          h,
+          get_or_default others k other o h,
+          record {
+            item = a;
+            there = p;
+            asked = subst (Contains other.items) (sym e) (Contains-get_or other.items j id lt);
+            anchors = anchors;
+          },
+        );
       }) (Contains-get_or nodes i v il)

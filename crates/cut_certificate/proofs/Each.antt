@@ -1,5 +1,6 @@
 -- Loops that test each element, and what a test says.
-use Rattle.std.proofs.Common.{◌≡◌, ℕ, ◌+◌, ◌<◌, ◌≤◌, List, length, take, get_or, Bool, true, false, not, sym, refl, ◌∙◌, subst, arith, All}
+use Rattle.std.proofs.Common.{◌≡◌, ℕ, ◌+◌, ◌<◌, ◌≤◌, List, length, take, get_or, Bool, true, false, not, sym, refl, ◌∙◌}
+use Rattle.std.proofs.Common.{subst, arith, All}
 use Rattle.std.specs.Prelude.{IsTrue, ◌↔◌}
 use Rattle.std.proofs.lemmas.Bool.{false≢true}
 use Rattle.std.proofs.lemmas.List.{length-take, get_or-take}
@@ -12,10 +13,12 @@ module _ {X : Type 0} (P : X → Type 0) (xs : List X) (i : ℕ) where
 
   -- at the end
   pub each_true : length xs ≤ i → All P (take i xs) → (IsTrue true → All P xs) × (All P xs → IsTrue true)
-  each_true h a = (λ _ k d l. subst P (get_or-take i xs k d (omega arith)) (a k d (omega (arith, length-take i xs))), λ _. refl)
+  each_true h a =
+      (λ _ k d l. subst P (get_or-take i xs k d (omega arith)) (a k d (omega (arith, length-take i xs))), λ _. refl)
 
   -- at an element that fails
-  pub each_false : (d : X) → i < length xs → (P (get_or xs i d) → ⊥) → (IsTrue false → All P xs) × (All P xs → IsTrue false)
+  pub each_false : (d : X) → i < length xs → (P (get_or xs i d) → ⊥)
+      → (IsTrue false → All P xs) × (All P xs → IsTrue false)
   each_false d h f = (λ t. absurd (false≢true t), λ a. absurd (f (a i d h)))
 
 -- what a test says where it fails

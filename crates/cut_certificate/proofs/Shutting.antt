@@ -17,12 +17,14 @@ module _ (d : Design) (items : List Item) (net : ℕ) where
   shut_isnt_legal p (blocker.Item id) shut legal = shut.holds (legal.agrees shut.item shut.there)
   shut_isnt_legal p blocker.Outside shut legal = shut.1 legal.inside
 
-  pub shut_isnt_open : (o : Option Probe) (by : Blocker) → IsSomeAnd o (λ p. ShutsProbe d items net p by) → IsOpen d items net o → ⊥
+  pub shut_isnt_open : (o : Option Probe) (by : Blocker) → IsSomeAnd o (λ p. ShutsProbe d items net p by)
+      → IsOpen d items net o → ⊥
   shut_isnt_open None by shut is_open = is_open
   shut_isnt_open (Some p) by shut is_open = shut_isnt_legal p by shut is_open
 
   -- of two least ids, neither is below the other
-  least_isnt_above : (p : Probe) (i j : ℕ) → ShutsProbe d items net p (blocker.Item i) → ShutsProbe d items net p (blocker.Item j) → i < j → ⊥
+  least_isnt_above : (p : Probe) (i j : ℕ) → ShutsProbe d items net p (blocker.Item i)
+      → ShutsProbe d items net p (blocker.Item j) → i < j → ⊥
   least_isnt_above p i j a b lt = a.holds (b.before a.item a.there a.looked_at (omega (arith, a.id_is)))
 
   one_shuts_probe : (p : Probe) (by or : Blocker) → ShutsProbe d items net p by → ShutsProbe d items net p or → by ≡ or
@@ -38,8 +40,14 @@ module _ (d : Design) (items : List Item) (net : ℕ) where
   one_shuts_probe p blocker.Outside blocker.Outside a b = refl
 
   -- what shuts a probe is just the one
-  pub shut_exactly : (p : Probe) (by : Blocker) → ShutsProbe d items net p by → (or : Blocker) → ShutsProbe d items net p or ↔ (Some by ≡ Some or)
-  shut_exactly p by shut or = (λ h. ap (λ (b : Blocker). Some b) (one_shuts_probe p by or shut h), λ e. let same : by ≡ or = cc in subst (ShutsProbe d items net p) same shut)
+  pub shut_exactly : (p : Probe) (by : Blocker) → ShutsProbe d items net p by → (or : Blocker)
+      → ShutsProbe d items net p or ↔ (Some by ≡ Some or)
+  shut_exactly p by shut or = (
+    λ h. ap (λ (b : Blocker). Some b) (one_shuts_probe p by or shut h),
+    λ e. let same : by ≡ or = cc in
+        subst (ShutsProbe d items net p) same shut,
+  )
 
-  pub legal_exactly : (p : Probe) → IsLegalProbe d items net p → (o : Option Blocker) → o ≡ None → (or : Blocker) → ShutsProbe d items net p or ↔ (o ≡ Some or)
+  pub legal_exactly : (p : Probe) → IsLegalProbe d items net p → (o : Option Blocker) → o ≡ None → (or : Blocker)
+      → ShutsProbe d items net p or ↔ (o ≡ Some or)
   legal_exactly p legal o none or = (λ h. absurd (shut_isnt_legal p or h legal), λ e. cc)

@@ -1,5 +1,6 @@
 -- Cuts: sets of nodes that hold the anchors of an island and that no legal move leaves.
-use Rattle.std.specs.Prelude.{◌≡◌, ◌↔◌, ℕ, ◌<◌, ◌==◌, not, List, Option, Some, None, Contains, All, Any, filter, slice_get, slice_index}
+use Rattle.std.specs.Prelude.{◌≡◌, ◌↔◌, ℕ, ◌<◌, ◌==◌, not, List, Option, Some, None, Contains, All, Any, filter}
+use Rattle.std.specs.Prelude.{slice_get, slice_index}
 use Rattle.std.specs.Option.{IsSomeAnd}
 use Rattle.std.specs.List.{list_any}
 use Rattle.std.specs.List.Sorted.{IsStrictlyIncreasing}
@@ -35,7 +36,8 @@ pub record IsGoal (d : Design) (m : Mesh) (items : List Item) (others : List Isl
   pub anchors : Any (λ (o : Island). AnchorsAmong d m items o.items node) others
 
 -- legal moves lead from the island to one of the others
-pub record LeadsOn (d : Design) (m : Mesh) (items : List Item) (via_cost : ℕ) (island : Island) (others : List Island) : Type 0 where
+pub record LeadsOn (d : Design) (m : Mesh) (items : List Item) (via_cost : ℕ) (island : Island)
+    (others : List Island) : Type 0 where
   pub from : ℕ
   pub hops : List Hop
   pub to : ℕ
@@ -44,7 +46,8 @@ pub record LeadsOn (d : Design) (m : Mesh) (items : List Item) (via_cost : ℕ) 
   pub leads : Leads (legal_graph d m items island.net via_cost) from hops to
 
 -- the nodes are all that legal moves reach from the island
-pub record IsReached (d : Design) (m : Mesh) (items : List Item) (via_cost : ℕ) (island : Island) (nodes : List ℕ) : Type 0 where
+pub record IsReached (d : Design) (m : Mesh) (items : List Item) (via_cost : ℕ) (island : Island)
+    (nodes : List ℕ) : Type 0 where
   pub starts : List ℕ
   pub starts_are : (node : ℕ) → Contains starts node ↔ IsStart d m items island node
   pub reach : IsReach (legal_graph d m items island.net via_cost) starts nodes
@@ -52,35 +55,42 @@ pub record IsReached (d : Design) (m : Mesh) (items : List Item) (via_cost : ℕ
 -- ---- what shuts a move
 -- the least id of an item that disagrees with what the probe of the net stands for; or all agree, and it isn't inside
 abbrev pub ShutsProbe : Design → List Item → ℕ → Probe → Blocker → Type 0
-ShutsProbe d items net p (blocker.Item id) = Finds (λ b. ProbeAgrees d net p b → ⊥) (ProbeAgrees d net p) 0 None items (Some id)
-ShutsProbe d items net p blocker.Outside = ((b : Item) → Contains items b → ProbeAgrees d net p b) × ¬ (AreInside d.bounds (pieces_of d (metal_of p)))
+ShutsProbe d items net p (blocker.Item id) =
+    Finds (λ b. ProbeAgrees d net p b → ⊥) (ProbeAgrees d net p) 0 None items (Some id)
+ShutsProbe d items net p blocker.Outside =
+    ((b : Item) → Contains items b → ProbeAgrees d net p b) × ¬ (AreInside d.bounds (pieces_of d (metal_of p)))
 
 -- it shuts move i of a node
 abbrev pub IsShutBy : Design → Mesh → List Item → ℕ → ℕ → ℕ → Blocker → Type 0
 IsShutBy d m items net node i by = IsSomeAnd (probe_at d m net node i) (λ p. ShutsProbe d items net p by)
 
 -- ---- cuts
--- the nodes of a cut hold each start of the island and no goal, and all moves that lead out are listed with what shuts them
-pub record IsCut (d : Design) (m : Mesh) (items : List Item) (island : Island) (others : List Island) (cut : Cut) : Type 0 where
+-- the nodes of a cut hold each start of the island and no goal, and all moves that lead out are listed with what shuts
+-- them
+pub record IsCut (d : Design) (m : Mesh) (items : List Item) (island : Island) (others : List Island) (cut : Cut) : Type
+    0 where
   pub net_is : cut.net ≡ island.net
   pub pin_is : slice_get island.pins 0 ≡ Some cut.pin
   pub ascends : IsStrictlyIncreasing cut.reach.nodes
   pub there : All (λ v. v < node_count m) cut.reach.nodes
   pub starts_in : (node : ℕ) → IsStart d m items island node → Contains cut.reach.nodes node
   pub goals_out : (node : ℕ) → IsGoal d m items others node → Contains cut.reach.nodes node → ⊥
-  pub blocks : AreBlocks (way d m island.net) (way_count d m island.net) (IsShutBy d m items island.net) cut.reach.nodes cut.blocked
+  pub blocks : AreBlocks (way d m island.net) (way_count d m island.net) (IsShutBy d m items island.net) cut.reach.nodes
+      cut.blocked
 
 -- none where legal moves lead on; else a cut whose nodes are all that legal moves reach
 abbrev pub Cuts : Design → Mesh → List Item → ℕ → Island → List Island → Option Cut → Type 0
 Cuts d m items via_cost island others None = LeadsOn d m items via_cost island others
-Cuts d m items via_cost island others (Some cut) = IsCut d m items island others cut × IsReached d m items via_cost island cut.reach.nodes
+Cuts d m items via_cost island others (Some cut) =
+    IsCut d m items island others cut × IsReached d m items via_cost island cut.reach.nodes
 
 -- those that don't have the first pin of the island
 abbrev pub others_of : Island → List Island → List Island
 others_of island found = filter (λ (s : Island). not (list_any (λ pin. pin == slice_index island.pins 0) s.pins)) found
 
 -- the same for the other islands of the net
-pub record CutsOff (d : Design) (m : Mesh) (items : List Item) (via_cost : ℕ) (island : Island) (cut : Option Cut) : Type 0 where
+pub record CutsOff (d : Design) (m : Mesh) (items : List Item) (via_cost : ℕ) (island : Island)
+    (cut : Option Cut) : Type 0 where
   pub found : List Island
   pub found_are : AreIslands d items island.net found
   pub cuts : Cuts d m items via_cost island (others_of island found) cut
@@ -88,7 +98,8 @@ pub record CutsOff (d : Design) (m : Mesh) (items : List Item) (via_cost : ℕ) 
 -- ---- steps of a check and of a search
 -- each node that anchors the item, and whose disc is legal, is among the nodes
 abbrev pub HoldsStarts : Design → Mesh → List Item → ℕ → List ℕ → Item → Type 0
-HoldsStarts d m items net nodes a = (node : ℕ) → node < node_count m → Anchors d m node a → IsLegalNode d m items net node → Contains nodes node
+HoldsStarts d m items net nodes a =
+    (node : ℕ) → node < node_count m → Anchors d m node a → IsLegalNode d m items net node → Contains nodes node
 
 -- each item with this id is held so
 abbrev pub HoldsStartsOf : Design → Mesh → List Item → ℕ → List ℕ → ℕ → Type 0

@@ -5,7 +5,8 @@ ghost use Rattle.std.specs.Prelude.{◌≡◌, ℕ, ◌<◌, ◌↔◌, length, 
 ghost use Rattle.std.specs.List.{AllAdjacentBelow};
 ghost use Rattle.std.specs.List.Sorted.{IsStrictlyIncreasing};
 ghost use Rattle.cut_certificate.specs.declared.cut.Blocker.{Blocker as OneBlocker};
-ghost use Rattle.cut_certificate.specs.Border.{LeadsOut, IsBefore, AreInOrder, IsListed, IsBlock, AreBlocks, AllListed, Extends, IsClosed, Closes};
+ghost use Rattle.cut_certificate.specs.Border.{LeadsOut, IsBefore, AreInOrder, IsListed, IsBlock, AreBlocks};
+ghost use Rattle.cut_certificate.specs.Border.{AllListed, Extends, IsClosed, Closes};
 ghost use Rattle.cut_certificate.specs.Same.{SameMoves};
 ghost use Rattle.move_flood.specs.Goals.{Meets};
 ghost use Rattle.route_lattice.specs.Walks.{IsSound};
@@ -39,7 +40,8 @@ pub(crate) trait Shuts: Moves {
 
     /// Each move has a price: a call that does nothing.
     fn has_prices(&self)
-        ensures { (node i : ℕ) → node < (Self.graph self.now).count → i < (Self.graph self.now).arity → (p : ℕ) × (Self.graph self.now).priced node i p };
+        ensures { (node i : ℕ) → node < (Self.graph self.now).count → i < (Self.graph self.now).arity
+            → (p : ℕ) × (Self.graph self.now).priced node i p };
 }
 
 /// Whether each node is below the next.
@@ -172,7 +174,8 @@ fn all_blocks<M: Shuts>(m: &M, nodes: &[u32], blocked: &[Block]) -> bool
     requires ready { M.ready m.now }
     requires ascends { IsStrictlyIncreasing nodes.now }
     requires nodes { All (λ v. v < (M.graph m.now).count) nodes.now }
-    ensures { IsTrue result ↔ All (IsBlock (M.graph m.now).at (M.graph m.now).arity (M.shut_by m.now) nodes.now) blocked.now }
+    ensures { IsTrue result ↔ All (IsBlock (M.graph m.now).at (M.graph m.now).arity (M.shut_by m.now) nodes.now)
+        blocked.now }
 {
     for b in blocked {
         if !is_block(m, nodes, b) {
@@ -187,7 +190,8 @@ pub(crate) fn are_blocks<M: Shuts>(m: &M, nodes: &[u32], blocked: &[Block]) -> b
     requires ready { M.ready m.now }
     requires ascends { IsStrictlyIncreasing nodes.now }
     requires nodes { All (λ v. v < (M.graph m.now).count) nodes.now }
-    ensures { IsTrue result ↔ AreBlocks (M.graph m.now).at (M.graph m.now).arity (M.shut_by m.now) nodes.now blocked.now }
+    ensures { IsTrue result ↔ AreBlocks (M.graph m.now).at (M.graph m.now).arity (M.shut_by m.now) nodes.now
+        blocked.now }
 {
     if !in_order(blocked) {
         return false;
@@ -212,8 +216,11 @@ fn push_blocks<M: Shuts>(
     requires closed { IsClosed (M.graph m.now).at (M.graph m.now).arity (M.graph m.now).open_at nodes.now }
     requires in_order { AreInOrder blocked.old.items }
     requires earlier { All (λ b. b.node < node) blocked.old.items }
-    requires only { All (IsBlock (M.graph m.now).at (M.graph m.now).arity (M.shut_by m.now) nodes.now) blocked.old.items }
-    ensures { OnOk result (Extends (M.graph m.now).at (M.graph m.now).arity (M.shut_by m.now) nodes.now node (M.graph m.now).arity blocked.old.items blocked.new.items) }
+    requires only { All (IsBlock (M.graph m.now).at (M.graph m.now).arity (M.shut_by m.now) nodes.now)
+        blocked.old.items }
+    ensures { OnOk result
+        (Extends (M.graph m.now).at (M.graph m.now).arity (M.shut_by m.now) nodes.now node (M.graph m.now).arity
+        blocked.old.items blocked.new.items) }
 {
     for i in 0..m.arity() {
         if leads_out(m, nodes, node, i) {
@@ -236,7 +243,8 @@ pub(crate) fn blocks_of<M: Shuts>(
     requires ascends { IsStrictlyIncreasing nodes.now }
     requires nodes { All (λ v. v < (M.graph m.now).count) nodes.now }
     requires closed { IsClosed (M.graph m.now).at (M.graph m.now).arity (M.graph m.now).open_at nodes.now }
-    ensures { IfOk result (λ v. AreBlocks (M.graph m.now).at (M.graph m.now).arity (M.shut_by m.now) nodes.now v.items) }
+    ensures { IfOk result
+        (λ v. AreBlocks (M.graph m.now).at (M.graph m.now).arity (M.shut_by m.now) nodes.now v.items) }
 {
     let mut blocked = Vec::new(alloc);
     for v in nodes {

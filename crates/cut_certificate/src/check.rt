@@ -11,7 +11,8 @@ ghost use Rattle.route_lattice.specs.Anchors.{Anchors};
 ghost use Rattle.route_lattice.specs.Ways.{way, way_count};
 ghost use Rattle.route_lattice.specs.Legal.{IsLegalNode};
 ghost use Rattle.cut_certificate.specs.Border.{AreBlocks};
-ghost use Rattle.cut_certificate.specs.Cuts.{IsCut, IsStart, IsGoal, IsShutBy, LeadsOn, HoldsStarts, HoldsStartsOf, HoldsNone, HoldsNoneOf, HoldsNoneOfIsland};
+ghost use Rattle.cut_certificate.specs.Cuts.{IsCut, IsStart, IsGoal, IsShutBy, LeadsOn, HoldsStarts, HoldsStartsOf};
+ghost use Rattle.cut_certificate.specs.Cuts.{HoldsNone, HoldsNoneOf, HoldsNoneOfIsland};
 
 use crate::border::{are_blocks, ascends, has};
 use crate::cut::{Block, Cut};
@@ -36,7 +37,9 @@ fn start_in<C: Copper>(
     requires ascends { IsStrictlyIncreasing nodes.now }
     requires item { IsItemOf d.now item.now }
     requires node { node < node_count lat.now }
-    ensures { IsTrue result ↔ (Anchors d.now lat.now node item.now → IsLegalNode d.now lat.now (C.items c.now) net node → Contains nodes.now node) }
+    ensures { IsTrue result
+        ↔ (Anchors d.now lat.now node item.now → IsLegalNode d.now lat.now (C.items c.now) net node
+        → Contains nodes.now node) }
 {
     if !lat.anchor(d, node, item) {
         return true;
@@ -245,7 +248,8 @@ fn holds_starts<C: Copper>(
     requires serves { C.serves c.now d.now }
     requires in_order { Ascends (C.items c.now) }
     requires ascends { IsStrictlyIncreasing nodes.now }
-    ensures { IsTrue result ↔ ((node : ℕ) → IsStart d.now lat.now (C.items c.now) island.now node → Contains nodes.now node) }
+    ensures { IsTrue result
+        ↔ ((node : ℕ) → IsStart d.now lat.now (C.items c.now) island.now node → Contains nodes.now node) }
 {
     all_starts_in(
         lat,
@@ -270,7 +274,8 @@ fn holds_no_goal<C: Copper>(
     requires serves { C.serves c.now d.now }
     requires in_order { Ascends (C.items c.now) }
     requires nodes { All (λ v. v < node_count lat.now) nodes.now }
-    ensures { IsTrue result ↔ ((node : ℕ) → IsGoal d.now lat.now (C.items c.now) others.now node → Contains nodes.now node → ⊥) }
+    ensures { IsTrue result
+        ↔ ((node : ℕ) → IsGoal d.now lat.now (C.items c.now) others.now node → Contains nodes.now node → ⊥) }
 {
     islands_out(lat, d, c, nodes.as_slice(), others.as_slice())
 }
@@ -290,7 +295,9 @@ fn has_border<C: Copper>(
     requires serves { C.serves c.now d.now }
     requires ascends { IsStrictlyIncreasing nodes.now }
     requires nodes { All (λ v. v < node_count lat.now) nodes.now }
-    ensures { IsTrue result ↔ AreBlocks (way d.now lat.now net) (way_count d.now lat.now net) (IsShutBy d.now lat.now (C.items c.now) net) nodes.now blocked.now }
+    ensures { IsTrue result
+        ↔ AreBlocks (way d.now lat.now net) (way_count d.now lat.now net)
+        (IsShutBy d.now lat.now (C.items c.now) net) nodes.now blocked.now }
 {
     let moves = LegalMoves::of(lat, d, c, net, 0);
     are_blocks(&moves, nodes.as_slice(), blocked.as_slice())

@@ -4,7 +4,8 @@
 use geo_kernel::List;
 use route_lattice::Reach;
 
-/// What shuts a move: of the items that disagree with what the move lays the one of the least id, or, where all agree, a boundary.
+/// What shuts a move: of the items that disagree with what the move lays the one of the least id, or, where all
+/// agree, a boundary.
 #[derive(Clone, Copy, PartialEq, Eq)]
 pub enum Blocker {
     Item(u64),
@@ -19,7 +20,8 @@ pub struct Block {
     pub by: Blocker,
 }
 
-/// A set of nodes that holds each legal anchor of an island of the net, whose first pin is `pin`, and no anchor of another
+/// A set of nodes that holds each legal anchor of an island of the net, whose first pin is `pin`, and no anchor of
+/// another
 /// one, and the moves that lead out of it.
 #[derive(Drop)]
 pub struct Cut {

@@ -85,7 +85,9 @@ fn close_legal<C: Copper, M: Moves>(
     requires ready { M.ready legal.now }
     requires legal { SameMoves (M.graph legal.now) (legal_graph d.now lat.now (C.items c.now) net via_cost) }
     requires starts { All (λ v. v < node_count lat.now) starts.now }
-    ensures { IfOk result (Closes (legal_graph d.now lat.now (C.items c.now) net via_cost) (IsShutBy d.now lat.now (C.items c.now) net) starts.now goals.now) }
+    ensures { IfOk result
+        (Closes (legal_graph d.now lat.now (C.items c.now) net via_cost)
+        (IsShutBy d.now lat.now (C.items c.now) net) starts.now goals.now) }
 {
     legal_graph_sound();
     let moves = LegalMoves::of(lat, d, c, net, via_cost);

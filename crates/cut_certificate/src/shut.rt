@@ -29,7 +29,8 @@ fn first_block<C: Copper, L: Ledger>(
     requires whole { 0 < blank.parts }
     requires serves { C.serves c.now d.now }
     requires p_fits { IsProbeFit d.now p.now }
-    ensures { Finds (λ b. ProbeAgrees d.now net p.now b → ⊥) (ProbeAgrees d.now net p.now) 0 None (C.items c.now) result }
+    ensures { Finds (λ b. ProbeAgrees d.now net p.now b → ⊥) (ProbeAgrees d.now net p.now) 0 None (C.items c.now)
+        result }
 {
     let mut steps: Steps<L> = Steps::new(blank);
     c.next_block(d, net, p, 0, &mut steps)

@@ -1,5 +1,6 @@
 -- What the calls of a desk and of a sink answer and leave.
-use Rattle.std.specs.Prelude.{◌≡◌, ◌<◌, ◌≤◌, ℕ, false, List, ◌++◌, length, take, Option, None, Some, IfSome, IsSome, IsSomeAnd, IsTrue, ⊤, Result, Ok, Err, Vec, vec_len}
+use Rattle.std.specs.Prelude.{◌≡◌, ◌<◌, ◌≤◌, ℕ, false, List, ◌++◌, length, take, Option, None, Some, IfSome, IsSome}
+use Rattle.std.specs.Prelude.{IsSomeAnd, IsTrue, ⊤, Result, Ok, Err, Vec, vec_len}
 use Rattle.std.specs.Option.{option_map}
 use Rattle.std.specs.declared.alloc.Global.{Global}
 use Rattle.std.specs.FinMap.{get, insert}
@@ -57,12 +58,14 @@ ReadGives old new name limit (Err (desk_fail.Memory e)) = ⊤
 -- what a write answers and leaves
 abbrev pub WriteGives : {T : Type 0} → DeskState → DeskState → List ℕ → List ℕ → Result T DeskFail → Type 0
 WriteGives old new name bytes (Ok x) = new.files ≡ written old.files name bytes
-WriteGives old new name bytes (Err desk_fail.Failed) = DeskFaulted old new ⊥ × ((kept : ℕ) × (new.files ≡ written old.files name (take kept bytes)))
+WriteGives old new name bytes (Err desk_fail.Failed) =
+    DeskFaulted old new ⊥ × ((kept : ℕ) × (new.files ≡ written old.files name (take kept bytes)))
 WriteGives old new name bytes (Err (desk_fail.TooLong seen)) = ⊥
 WriteGives old new name bytes (Err (desk_fail.Memory e)) = new.files ≡ old.files
 
 -- what a put answers and leaves
 abbrev pub PutGives : {T : Type 0} → SinkState → SinkState → List ℕ → Result T SinkFail → Type 0
 PutGives old new bytes (Ok x) = new.bytes ≡ appended old.bytes bytes
-PutGives old new bytes (Err sink_fail.Failed) = SinkFaulted old new × ((kept : ℕ) × (new.bytes ≡ appended old.bytes (take kept bytes)))
+PutGives old new bytes (Err sink_fail.Failed) =
+    SinkFaulted old new × ((kept : ℕ) × (new.bytes ≡ appended old.bytes (take kept bytes)))
 PutGives old new bytes (Err (sink_fail.Memory e)) = new.bytes ≡ old.bytes

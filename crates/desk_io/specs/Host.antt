@@ -1,5 +1,6 @@
 -- The host's desk and sink: what their loops do to a reader and a writer, and what is seen of them.
-use Rattle.std.specs.Prelude.{◌≡◌, ◌<◌, ◌≤◌, ◌+◌, ℕ, Bool, true, false, List, length, take, Option, IfSome, ⊤, Result, Ok, Err, Vec, vec_len}
+use Rattle.std.specs.Prelude.{◌≡◌, ◌<◌, ◌≤◌, ◌+◌, ℕ, Bool, true, false, List, length, take, Option, IfSome, ⊤, Result}
+use Rattle.std.specs.Prelude.{Ok, Err, Vec, vec_len}
 use Rattle.std.specs.declared.alloc.Global.{Global}
 use Rattle.std.specs.Io.KnownBytes.{Appends}
 use Rattle.desk_io.specs.States.{DeskState, SinkState, next_count}

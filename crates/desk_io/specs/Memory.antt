@@ -1,5 +1,6 @@
 -- Desks and sinks in memory: their files, the calls that fail, and what each call leaves exactly.
-use Rattle.std.specs.Prelude.{◌≡◌, ◌==◌, ◌/◌, ◌⊎◌, ℕ, Bool, false, List, length, take, String, Vec, string_bytes, fold, IsTrue, Result, Ok, Err}
+use Rattle.std.specs.Prelude.{◌≡◌, ◌==◌, ◌/◌, ◌⊎◌, ℕ, Bool, false, List, length, take, String, Vec, string_bytes, fold}
+use Rattle.std.specs.Prelude.{IsTrue, Result, Ok, Err}
 use Rattle.std.specs.List.{list_any}
 use Rattle.std.specs.declared.alloc.Global.{Global}
 use Rattle.std.specs.FinMap.{empty, insert}
@@ -38,19 +39,24 @@ first_half bytes = take (length bytes / 2) bytes
 -- A read fails where its call is listed or the file is absent, and nowhere else; only the count changes.
 abbrev pub MemoryReads : Bool → DeskState → DeskState → List ℕ → Result (Vec ℕ Global) DeskFail → Type 0
 MemoryReads listed old new name (Ok v) = (listed ≡ false) × (new ≡ old)
-MemoryReads listed old new name (Err desk_fail.Failed) = (IsTrue listed ⊎ IsAbsent old.files name) × (new ≡ record old { faults = next_count old.faults })
+MemoryReads listed old new name (Err desk_fail.Failed) =
+    (IsTrue listed ⊎ IsAbsent old.files name) × (new ≡ record old { faults = next_count old.faults })
 MemoryReads listed old new name (Err (desk_fail.TooLong seen)) = (listed ≡ false) × (new ≡ old)
 MemoryReads listed old new name (Err (desk_fail.Memory e)) = (listed ≡ false) × IsPresent old.files name × (new ≡ old)
 
 -- A write fails where its call is listed, and nowhere else; it then keeps half of the bytes.
 abbrev pub MemoryWrites : {T : Type 0} → Bool → DeskState → DeskState → List ℕ → List ℕ → Result T DeskFail → Type 0
-MemoryWrites listed old new name bytes (Ok x) = (listed ≡ false) × (new ≡ record old { files = written old.files name bytes })
-MemoryWrites listed old new name bytes (Err desk_fail.Failed) = IsTrue listed × (new ≡ record old { files = written old.files name (first_half bytes); faults = next_count old.faults })
+MemoryWrites listed old new name bytes (Ok x) =
+    (listed ≡ false) × (new ≡ record old { files = written old.files name bytes })
+MemoryWrites listed old new name bytes (Err desk_fail.Failed) =
+    IsTrue listed
+    × (new ≡ record old { files = written old.files name (first_half bytes); faults = next_count old.faults })
 MemoryWrites listed old new name bytes (Err (desk_fail.TooLong seen)) = ⊥
 MemoryWrites listed old new name bytes (Err (desk_fail.Memory e)) = new ≡ old
 
 -- A put fails where its call is listed, and nowhere else; it then keeps half of the bytes.
 abbrev pub MemoryPuts : {T : Type 0} → Bool → SinkState → SinkState → List ℕ → Result T SinkFail → Type 0
 MemoryPuts listed old new bytes (Ok x) = (listed ≡ false) × (new ≡ record old { bytes = appended old.bytes bytes })
-MemoryPuts listed old new bytes (Err sink_fail.Failed) = IsTrue listed × (new ≡ record old { bytes = appended old.bytes (first_half bytes); faults = next_count old.faults })
+MemoryPuts listed old new bytes (Err sink_fail.Failed) =
+    IsTrue listed × (new ≡ record old { bytes = appended old.bytes (first_half bytes); faults = next_count old.faults })
 MemoryPuts listed old new bytes (Err (sink_fail.Memory e)) = new ≡ old

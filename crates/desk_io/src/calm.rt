@@ -53,7 +53,8 @@ impl CalmDesk {
 
     /// A desk with these files, by name. Of pairs with one name the last counts.
     pub fn new(alloc: Global, files: Vec<(String, Vec<u8>)>) -> Result<CalmDesk, AllocError>
-        ensures { IfOk result (λ desk. state_of desk ≡ record { files = Some (files_of files.items); faults = 0; calm = true }) }
+        ensures { IfOk result
+            (λ desk. state_of desk ≡ record { files = Some (files_of files.items); faults = 0; calm = true }) }
     {
         Ok(CalmDesk {
             alloc,

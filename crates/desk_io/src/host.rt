@@ -97,11 +97,18 @@ impl<'a, R: Files + AllocGlobal> Desk for HostDesk<'a, R> {
     ghost calm_tells = { Prim.search rules };
 
     fn read(&mut self, name: &str, limit: u64) -> Result<Vec<u8>, DeskFail>
-        ensures gives { ReadGives (⟦<HostDesk<'a, R> as Desk>⟧.state self.old) (⟦<HostDesk<'a, R> as Desk>⟧.state self.new) name.now limit result }
-        ensures files { (⟦<HostDesk<'a, R> as Desk>⟧.state self.new).files ≡ (⟦<HostDesk<'a, R> as Desk>⟧.state self.old).files }
-        ensures faults { (⟦<HostDesk<'a, R> as Desk>⟧.state self.old).faults ≤ (⟦<HostDesk<'a, R> as Desk>⟧.state self.new).faults }
-        ensures calm { IsTrue (⟦<HostDesk<'a, R> as Desk>⟧.state self.old).calm → IsTrue (⟦<HostDesk<'a, R> as Desk>⟧.state self.new).calm }
-        ensures exact { HostReads (⟦<HostDesk<'a, R> as Desk>⟧.state self.old) (⟦<HostDesk<'a, R> as Desk>⟧.state self.new) limit result }
+        ensures gives { ReadGives (⟦<HostDesk<'a, R> as Desk>⟧.state self.old)
+            (⟦<HostDesk<'a, R> as Desk>⟧.state self.new)
+            name.now limit result }
+        ensures files { (⟦<HostDesk<'a, R> as Desk>⟧.state self.new).files
+            ≡ (⟦<HostDesk<'a, R> as Desk>⟧.state self.old).files }
+        ensures faults { (⟦<HostDesk<'a, R> as Desk>⟧.state self.old).faults
+            ≤ (⟦<HostDesk<'a, R> as Desk>⟧.state self.new).faults }
+        ensures calm { IsTrue (⟦<HostDesk<'a, R> as Desk>⟧.state self.old).calm
+            → IsTrue (⟦<HostDesk<'a, R> as Desk>⟧.state self.new).calm }
+        ensures exact { HostReads (⟦<HostDesk<'a, R> as Desk>⟧.state self.old)
+            (⟦<HostDesk<'a, R> as Desk>⟧.state self.new)
+            limit result }
     {
         let result = match fs::open(self.rt, name) {
             Ok(mut file) => read_whole(&mut file, self.rt.alloc(), limit),
@@ -114,10 +121,16 @@ impl<'a, R: Files + AllocGlobal> Desk for HostDesk<'a, R> {
     }
 
     fn write(&mut self, name: &str, bytes: &[u8]) -> Result<(), DeskFail>
-        ensures gives { WriteGives (⟦<HostDesk<'a, R> as Desk>⟧.state self.old) (⟦<HostDesk<'a, R> as Desk>⟧.state self.new) name.now bytes.now result }
-        ensures faults { (⟦<HostDesk<'a, R> as Desk>⟧.state self.old).faults ≤ (⟦<HostDesk<'a, R> as Desk>⟧.state self.new).faults }
-        ensures calm { IsTrue (⟦<HostDesk<'a, R> as Desk>⟧.state self.old).calm → IsTrue (⟦<HostDesk<'a, R> as Desk>⟧.state self.new).calm }
-        ensures exact { HostWrites (⟦<HostDesk<'a, R> as Desk>⟧.state self.old) (⟦<HostDesk<'a, R> as Desk>⟧.state self.new) result }
+        ensures gives { WriteGives (⟦<HostDesk<'a, R> as Desk>⟧.state self.old)
+            (⟦<HostDesk<'a, R> as Desk>⟧.state self.new)
+            name.now bytes.now result }
+        ensures faults { (⟦<HostDesk<'a, R> as Desk>⟧.state self.old).faults
+            ≤ (⟦<HostDesk<'a, R> as Desk>⟧.state self.new).faults }
+        ensures calm { IsTrue (⟦<HostDesk<'a, R> as Desk>⟧.state self.old).calm
+            → IsTrue (⟦<HostDesk<'a, R> as Desk>⟧.state self.new).calm }
+        ensures exact { HostWrites (⟦<HostDesk<'a, R> as Desk>⟧.state self.old)
+            (⟦<HostDesk<'a, R> as Desk>⟧.state self.new)
+            result }
     {
         if let Ok(mut file) = fs::create(self.rt, name)
             && write_whole(&mut file, bytes)
@@ -161,10 +174,16 @@ impl<'a, R: Print> Sink for HostSink<'a, R> {
     ghost faults_end = { λ sink. sink.faults.fits };
 
     fn put(&mut self, bytes: &[u8]) -> Result<(), SinkFail>
-        ensures gives { PutGives (⟦<HostSink<'a, R> as Sink>⟧.state self.old) (⟦<HostSink<'a, R> as Sink>⟧.state self.new) bytes.now result }
-        ensures faults { (⟦<HostSink<'a, R> as Sink>⟧.state self.old).faults ≤ (⟦<HostSink<'a, R> as Sink>⟧.state self.new).faults }
-        ensures calm { IsTrue (⟦<HostSink<'a, R> as Sink>⟧.state self.old).calm → IsTrue (⟦<HostSink<'a, R> as Sink>⟧.state self.new).calm }
-        ensures exact { HostPuts (⟦<HostSink<'a, R> as Sink>⟧.state self.old) (⟦<HostSink<'a, R> as Sink>⟧.state self.new) result }
+        ensures gives { PutGives (⟦<HostSink<'a, R> as Sink>⟧.state self.old)
+            (⟦<HostSink<'a, R> as Sink>⟧.state self.new)
+            bytes.now result }
+        ensures faults { (⟦<HostSink<'a, R> as Sink>⟧.state self.old).faults
+            ≤ (⟦<HostSink<'a, R> as Sink>⟧.state self.new).faults }
+        ensures calm { IsTrue (⟦<HostSink<'a, R> as Sink>⟧.state self.old).calm
+            → IsTrue (⟦<HostSink<'a, R> as Sink>⟧.state self.new).calm }
+        ensures exact { HostPuts (⟦<HostSink<'a, R> as Sink>⟧.state self.old)
+            (⟦<HostSink<'a, R> as Sink>⟧.state self.new)
+            result }
     {
         if write_whole(&mut io::writer(self.rt), bytes) {
             return Ok(());

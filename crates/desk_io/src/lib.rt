@@ -1,5 +1,7 @@
-//! Named files, a place for a report, and a gate between the steps of a worker: all that the router sees of the outside.
-//! Contracts see a desk as its files, a sink as the bytes that were put, and both as a count of faults and as calm or not.
+//! Named files, a place for a report, and a gate between the steps of a worker: all that the router sees of the
+//! outside.
+//! Contracts see a desk as its files, a sink as the bytes that were put, and both as a count of faults and as calm
+//! or not.
 #![tactic(auto)]
 
 mod calm;

@@ -41,7 +41,8 @@ impl MemDesk {
         files: Vec<(String, Vec<u8>)>,
         fail: Vec<u64>,
     ) -> Result<MemDesk, AllocError>
-        ensures state { IfOk result (λ desk. state_of desk ≡ record { files = Some (files_of files.items); faults = 0; calm = false }) }
+        ensures state { IfOk result
+            (λ desk. state_of desk ≡ record { files = Some (files_of files.items); faults = 0; calm = false }) }
         ensures schedule { IfOk result (λ desk. schedule_of desk ≡ record { calls = 0; fail = fail.items }) }
     {
         let desk = CalmDesk::new(alloc, files)?;
@@ -81,7 +82,9 @@ impl Desk for MemDesk {
         ensures files { (state_of self.new).files ≡ (state_of self.old).files }
         ensures faults { (state_of self.old).faults ≤ (state_of self.new).faults }
         ensures calm { IsTrue (state_of self.old).calm → IsTrue (state_of self.new).calm }
-        ensures exact { MemoryReads (is_next_listed (schedule_of self.old)) (state_of self.old) (state_of self.new) name.now result }
+        ensures exact { MemoryReads (is_next_listed (schedule_of self.old)) (state_of self.old) (state_of self.new)
+            name.now
+            result }
         ensures schedule { schedule_of self.new ≡ after_call (schedule_of self.old) }
     {
         if next_is_listed(&mut self.calls, &self.fail) {
@@ -95,7 +98,9 @@ impl Desk for MemDesk {
         ensures gives { WriteGives (state_of self.old) (state_of self.new) name.now bytes.now result }
         ensures faults { (state_of self.old).faults ≤ (state_of self.new).faults }
         ensures calm { IsTrue (state_of self.old).calm → IsTrue (state_of self.new).calm }
-        ensures exact { MemoryWrites (is_next_listed (schedule_of self.old)) (state_of self.old) (state_of self.new) name.now bytes.now result }
+        ensures exact { MemoryWrites (is_next_listed (schedule_of self.old)) (state_of self.old) (state_of self.new)
+            name.now
+            bytes.now result }
         ensures schedule { schedule_of self.new ≡ after_call (schedule_of self.old) }
     {
         if next_is_listed(&mut self.calls, &self.fail) {

@@ -62,7 +62,9 @@ impl Sink for MemSink {
         ensures gives { PutGives (state_of self.old) (state_of self.new) bytes.now result }
         ensures faults { (state_of self.old).faults ≤ (state_of self.new).faults }
         ensures calm { IsTrue (state_of self.old).calm → IsTrue (state_of self.new).calm }
-        ensures exact { MemoryPuts (is_next_listed (schedule_of self.old)) (state_of self.old) (state_of self.new) bytes.now result }
+        ensures exact { MemoryPuts (is_next_listed (schedule_of self.old)) (state_of self.old) (state_of self.new)
+            bytes.now
+            result }
         ensures schedule { schedule_of self.new ≡ after_call (schedule_of self.old) }
     {
         let listed = next_is_listed(&mut self.calls, &self.fail);

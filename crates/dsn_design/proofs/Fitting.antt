@@ -13,11 +13,15 @@ use Rattle.dsn_design.specs.Fit.{IsStackFit}
 
 pub pieces_fit : (n : ℕ) (s : LayerShape) → IsShapeFit s → All IsFit (pieces_of n s)
 unfolding pieces_of
-pieces_fit n s h = All-map IsFit (piece_on s) (layers_below n s.layers) (λ k d l. record { well_formed = h.well_formed; within = h.within; width_within = h.width_within })
+pieces_fit n s h =
+    All-map IsFit (piece_on s) (layers_below n s.layers)
+    (λ k d l. record { well_formed = h.well_formed; within = h.within; width_within = h.width_within })
 
 pub shapes_fit : (n : ℕ) (ss : List LayerShape) → All IsShapeFit ss → All IsFit (flat_map (pieces_of n) ss)
 shapes_fit n [] h = All-nil IsFit
-shapes_fit n (s ∷ ss) h = All-append IsFit (pieces_of n s) (flat_map (pieces_of n) ss) (pieces_fit n s (All-head IsShapeFit s ss h)) (shapes_fit n ss (All-tail IsShapeFit s ss h))
+shapes_fit n (s ∷ ss) h =
+    All-append IsFit (pieces_of n s) (flat_map (pieces_of n) ss) (pieces_fit n s (All-head IsShapeFit s ss h))
+    (shapes_fit n ss (All-tail IsShapeFit s ss h))
 
 pub stack_fit : (n : ℕ) (s : Stack) → IsStackFit s → All IsFit (stack_pieces n s)
 unfolding stack_pieces

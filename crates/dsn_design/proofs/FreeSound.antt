@@ -33,24 +33,35 @@ net_there : (o : Option ℕ) (n : ℕ) → IsSome o → IfSome o (λ k. k < n) �
 net_there None n s h = absurd (cc)
 net_there (Some k) n s h = h
 
-wire_sound : (d : Design) (parts : Parts) → length d.layers ≡ layer_count parts → length d.nets ≡ length parts.network.nets → ArePadstacksOf parts d.padstacks → IsLibrarySound parts.library → (w : ReadWire) → w.fixed ≡ false → IsWireSound parts.structure parts.library parts.network w → IsFreeSound d (free_wire w)
+wire_sound : (d : Design) (parts : Parts) → length d.layers ≡ layer_count parts
+    → length d.nets ≡ length parts.network.nets → ArePadstacksOf parts d.padstacks → IsLibrarySound parts.library
+    → (w : ReadWire) → w.fixed ≡ false → IsWireSound parts.structure parts.library parts.network w
+    → IsFreeSound d (free_wire w)
 wire_sound d parts e f own lib w free h =
-    let net : unwrap_or w.net 0 < length parts.network.nets = net_there w.net (length parts.network.nets) (h.net_there free) h.net_in_range in
+    let net : unwrap_or w.net 0 < length parts.network.nets =
+    net_there w.net (length parts.network.nets) (h.net_there free) h.net_in_range in
     record {
       copper = is_copper parts.structure parts.library w.metal h.copper;
       fits = copper_fit parts.structure parts.library w.metal h.copper;
       in_range = copper_in_range d parts w.metal e own lib.stacks h.copper;
-      pieces_fit = subst (All IsFit) (sym (same_pieces d w.metal)) (All-weaker (IsFitOn (layer_count parts)) IsFit (λ q k. k.fit) _ (copper_on parts d.padstacks w.metal own lib.stacks h.copper));
+      pieces_fit =
+          subst (All IsFit) (sym (same_pieces d w.metal))
+          (All-weaker (IsFitOn (layer_count parts)) IsFit (λ q k. k.fit) _
+          (copper_on parts d.padstacks w.metal own lib.stacks h.copper));
       net_in_range = omega arith;
     }
 
 -- each free wire and via has a net of the design, and copper that fits
-pub free_sound : (parts : Parts) (stacks : List Padstack) → ArePadstacksOf parts stacks → IsLibrarySound parts.library → IsWiringSound parts.structure parts.library parts.network parts.wiring → All (IsFreeSound (design_from parts stacks)) (design_from parts stacks).free
+pub free_sound : (parts : Parts) (stacks : List Padstack) → ArePadstacksOf parts stacks → IsLibrarySound parts.library
+    → IsWiringSound parts.structure parts.library parts.network parts.wiring
+    → All (IsFreeSound (design_from parts stacks)) (design_from parts stacks).free
 unfolding design_with free_wiring
 free_sound parts stacks own lib wires =
     let d = design_from parts stacks in
     let kept = filter is_free parts.wiring.wires in
     let passes = filter_passes is_free parts.wiring.wires in
-    let sound = All-filter is_free (IsWireSound parts.structure parts.library parts.network) parts.wiring.wires wires.wires in
+    let sound = All-filter is_free (IsWireSound parts.structure parts.library parts.network) parts.wiring.wires
+    wires.wires in
     All-map (IsFreeSound d) free_wire kept
-    (λ k x l. wire_sound d parts (layers_are parts stacks) (nets_are parts stacks) own lib (get_or kept k x) (not-true (get_or kept k x).fixed (passes k x l)) (sound k x l))
+    (λ k x l. wire_sound d parts (layers_are parts stacks) (nets_are parts stacks) own lib (get_or kept k x)
+    (not-true (get_or kept k x).fixed (passes k x l)) (sound k x l))

@@ -14,9 +14,12 @@ same_pieces d (Pad pin) = refl
 same_pieces d (Ban wires vias) = refl
 
 -- one more numbered item
-pub numbered_push : (id : ℕ) (items : List Item) (a : Item) → numbered_from id (items ++ a ∷ []) ≡ numbered_from id items ++ with_id (id + length items) a ∷ []
+pub numbered_push : (id : ℕ) (items : List Item) (a : Item) → numbered_from id (items ++ a ∷ [])
+    ≡ numbered_from id items ++ with_id (id + length items) a ∷ []
 numbered_push id [] a = let e : id ≡ id + 0 = omega arith in ap (λ k. with_id k a ∷ []) e
-numbered_push id (b ∷ items) a = let e : id + 1 + length items ≡ id + suc (length items) = omega arith in ap (λ rest. with_id id b ∷ rest) (numbered_push (id + 1) items a ∙ ap (λ k. numbered_from (id + 1) items ++ with_id k a ∷ []) e)
+numbered_push id (b ∷ items) a = let e : id + 1 + length items ≡ id + suc (length items) = omega arith in
+    ap (λ rest. with_id id b ∷ rest)
+    (numbered_push (id + 1) items a ∙ ap (λ k. numbered_from (id + 1) items ++ with_id k a ∷ []) e)
 
 pub numbered_long : (id : ℕ) (items : List Item) → length (numbered_from id items) ≡ length items
 numbered_long id [] = refl

@@ -13,13 +13,15 @@ use Rattle.dsn_design.specs.Fit.{IsStackFit}
 use Rattle.dsn_design.proofs.Fitting.{stack_fit}
 use Rattle.dsn_design.specs.Usable.{AreUsable, padstack_of, padstacks_of, usables}
 
-zip_push : (n : ℕ) (us : List Bool) (ss : List Stack) (u : Bool) (s : Stack) → AreUsable n us ss → zip (us ++ u ∷ []) (ss ++ s ∷ []) ≡ zip us ss ++ (u, s) ∷ []
+zip_push : (n : ℕ) (us : List Bool) (ss : List Stack) (u : Bool) (s : Stack) → AreUsable n us ss
+    → zip (us ++ u ∷ []) (ss ++ s ∷ []) ≡ zip us ss ++ (u, s) ∷ []
 zip_push n [] [] u s h = refl
 zip_push n [] (y ∷ ss) u s h = absurd h
 zip_push n (x ∷ us) [] u s h = absurd h
 zip_push n (x ∷ us) (y ∷ ss) u s h = ap (λ es. (x, y) ∷ es) (zip_push n us ss u s h.1)
 
-usable_push : (n : ℕ) (us : List Bool) (ss : List Stack) (u : Bool) (s : Stack) → AreUsable n us ss → IsTrue u ↔ IsUsable (stack_pieces n s) → AreUsable n (us ++ u ∷ []) (ss ++ s ∷ [])
+usable_push : (n : ℕ) (us : List Bool) (ss : List Stack) (u : Bool) (s : Stack) → AreUsable n us ss
+    → IsTrue u ↔ IsUsable (stack_pieces n s) → AreUsable n (us ++ u ∷ []) (ss ++ s ∷ [])
 usable_push n [] [] u s h k = (k, tt)
 usable_push n [] (y ∷ ss) u s h k = absurd h
 usable_push n (x ∷ us) [] u s h k = absurd h
@@ -37,7 +39,9 @@ pub padstacks_none : (n : ℕ) (ps : List Padstack) → ps ≡ [] → ArePadstac
 unfolding padstacks_of
 padstacks_none n ps e = rw e (record { are = refl; usable = tt })
 
-pub padstacks_push : (n : ℕ) (ss more : List Stack) (ps qs : List Padstack) (s : Stack) (p : Padstack) → ArePadstacks n ss ps → p ≡ padstack_of n (p.usable, s) → IsTrue p.usable ↔ IsUsable (stack_pieces n s) → more ≡ ss ++ s ∷ [] → qs ≡ ps ++ p ∷ [] → ArePadstacks n more qs
+pub padstacks_push : (n : ℕ) (ss more : List Stack) (ps qs : List Padstack) (s : Stack) (p : Padstack)
+    → ArePadstacks n ss ps → p ≡ padstack_of n (p.usable, s) → IsTrue p.usable ↔ IsUsable (stack_pieces n s)
+    → more ≡ ss ++ s ∷ [] → qs ≡ ps ++ p ∷ [] → ArePadstacks n more qs
 unfolding padstacks_of
 padstacks_push n ss more ps qs s p h e k m q =
     let us = usables ps in
@@ -49,13 +53,17 @@ padstacks_push n ss more ps qs s p h e k m q =
     ∙ sym (ap (map (padstack_of n)) (zip_push n us ss p.usable s h.usable)) in
     rw (m, q) (record {
       are = a ∙ ap (λ (vs : List Bool). map (padstack_of n) (zip vs (ss ++ s ∷ []))) (sym u);
-      usable = subst (λ (vs : List Bool). AreUsable n vs (ss ++ s ∷ [])) (sym u) (usable_push n us ss p.usable s h.usable k);
+      usable = subst (λ (vs : List Bool). AreUsable n vs (ss ++ s ∷ [])) (sym u)
+          (usable_push n us ss p.usable s h.usable k);
     })
 
 -- the pieces of padstacks that fit, fit
-pub padstacks_fit : (n : ℕ) (us : List Bool) (ss : List Stack) → AreUsable n us ss → All IsStackFit ss → All (λ (s : Padstack). All IsFit s.pieces) (padstacks_of n us ss)
+pub padstacks_fit : (n : ℕ) (us : List Bool) (ss : List Stack) → AreUsable n us ss → All IsStackFit ss
+    → All (λ (s : Padstack). All IsFit s.pieces) (padstacks_of n us ss)
 unfolding padstacks_of
 padstacks_fit n [] [] u h = All-nil (λ (s : Padstack). All IsFit s.pieces)
 padstacks_fit n [] (s ∷ ss) u h = absurd u
 padstacks_fit n (b ∷ us) [] u h = absurd u
-padstacks_fit n (b ∷ us) (s ∷ ss) u h = All-cons (λ (p : Padstack). All IsFit p.pieces) (padstack_of n (b, s)) (padstacks_of n us ss) (stack_fit n s (All-head IsStackFit s ss h)) (padstacks_fit n us ss u.1 (All-tail IsStackFit s ss h))
+padstacks_fit n (b ∷ us) (s ∷ ss) u h =
+    All-cons (λ (p : Padstack). All IsFit p.pieces) (padstack_of n (b, s)) (padstacks_of n us ss)
+    (stack_fit n s (All-head IsStackFit s ss h)) (padstacks_fit n us ss u.1 (All-tail IsStackFit s ss h))

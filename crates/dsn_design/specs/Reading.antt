@@ -33,16 +33,20 @@ abbrev pub ReadsStructure : Tree → Head → Result Structure ReadFault → Typ
 ReadsStructure pcb h r = Reads (structure_refusals h.scale.nm pcb) (λ v. v ≡ structure_of h.scale.nm pcb) r
 
 abbrev pub ReadsLibrary : Tree → Head → Structure → Result Library ReadFault → Type 0
-ReadsLibrary pcb h st r = Reads (library_refusals h.scale.nm st.layers pcb) (λ v. v ≡ library_of h.scale.nm st.layers pcb) r
+ReadsLibrary pcb h st r =
+    Reads (library_refusals h.scale.nm st.layers pcb) (λ v. v ≡ library_of h.scale.nm st.layers pcb) r
 
 abbrev pub ReadsPlacing : Tree → Head → Structure → Library → Result Placing ReadFault → Type 0
-ReadsPlacing pcb h st lib r = Reads (placement_refusals h.scale.nm st lib pcb) (λ v. v ≡ placing_of h.scale.nm st lib pcb) r
+ReadsPlacing pcb h st lib r =
+    Reads (placement_refusals h.scale.nm st lib pcb) (λ v. v ≡ placing_of h.scale.nm st lib pcb) r
 
 abbrev pub ReadsNetwork : Tree → Head → Library → Placing → Result Network ReadFault → Type 0
-ReadsNetwork pcb h lib placing r = Reads (network_refusals h.scale.nm lib placing pcb) (λ v. v ≡ network_of h.scale.nm lib placing pcb) r
+ReadsNetwork pcb h lib placing r =
+    Reads (network_refusals h.scale.nm lib placing pcb) (λ v. v ≡ network_of h.scale.nm lib placing pcb) r
 
 abbrev pub ReadsWiring : Tree → Head → Structure → Library → Placing → Network → Result Wiring ReadFault → Type 0
-ReadsWiring pcb h st lib placing net r = Reads (wiring_refusals h.scale.nm st lib placing net pcb) (λ v. v ≡ wiring_of h.scale.nm st lib placing net pcb) r
+ReadsWiring pcb h st lib placing net r =
+    Reads (wiring_refusals h.scale.nm st lib placing net pcb) (λ v. v ≡ wiring_of h.scale.nm st lib placing net pcb) r
 
 -- the parts of a tree of which no phase is refused
 pub record ArePartsOf (pcb : Tree) (p : Parts) : Type 0 where
@@ -57,10 +61,17 @@ pub record ArePartsOf (pcb : Tree) (p : Parts) : Type 0 where
 pub data FirstRefusal (pcb : Tree) (r : Refusal) : Type 0 where
   in_head : ReadsHead pcb (Err (Refused r)) → FirstRefusal pcb r
   in_structure : (h : Head) → ReadsHead pcb (Ok h) → ReadsStructure pcb h (Err (Refused r)) → FirstRefusal pcb r
-  in_library : (h : Head) (st : Structure) → ReadsHead pcb (Ok h) → ReadsStructure pcb h (Ok st) → ReadsLibrary pcb h st (Err (Refused r)) → FirstRefusal pcb r
-  in_placement : (h : Head) (st : Structure) (lib : Library) → ReadsHead pcb (Ok h) → ReadsStructure pcb h (Ok st) → ReadsLibrary pcb h st (Ok lib) → ReadsPlacing pcb h st lib (Err (Refused r)) → FirstRefusal pcb r
-  in_network : (h : Head) (st : Structure) (lib : Library) (placing : Placing) → ReadsHead pcb (Ok h) → ReadsStructure pcb h (Ok st) → ReadsLibrary pcb h st (Ok lib) → ReadsPlacing pcb h st lib (Ok placing) → ReadsNetwork pcb h lib placing (Err (Refused r)) → FirstRefusal pcb r
-  in_wiring : (h : Head) (st : Structure) (lib : Library) (placing : Placing) (net : Network) → ReadsHead pcb (Ok h) → ReadsStructure pcb h (Ok st) → ReadsLibrary pcb h st (Ok lib) → ReadsPlacing pcb h st lib (Ok placing) → ReadsNetwork pcb h lib placing (Ok net) → ReadsWiring pcb h st lib placing net (Err (Refused r)) → FirstRefusal pcb r
+  in_library : (h : Head) (st : Structure) → ReadsHead pcb (Ok h) → ReadsStructure pcb h (Ok st)
+      → ReadsLibrary pcb h st (Err (Refused r)) → FirstRefusal pcb r
+  in_placement : (h : Head) (st : Structure) (lib : Library) → ReadsHead pcb (Ok h) → ReadsStructure pcb h (Ok st)
+      → ReadsLibrary pcb h st (Ok lib) → ReadsPlacing pcb h st lib (Err (Refused r)) → FirstRefusal pcb r
+  in_network : (h : Head) (st : Structure) (lib : Library) (placing : Placing) → ReadsHead pcb (Ok h)
+      → ReadsStructure pcb h (Ok st) → ReadsLibrary pcb h st (Ok lib) → ReadsPlacing pcb h st lib (Ok placing)
+      → ReadsNetwork pcb h lib placing (Err (Refused r)) → FirstRefusal pcb r
+  in_wiring : (h : Head) (st : Structure) (lib : Library) (placing : Placing) (net : Network) → ReadsHead pcb (Ok h)
+      → ReadsStructure pcb h (Ok st) → ReadsLibrary pcb h st (Ok lib) → ReadsPlacing pcb h st lib (Ok placing)
+      → ReadsNetwork pcb h lib placing (Ok net) → ReadsWiring pcb h st lib placing net (Err (Refused r))
+      → FirstRefusal pcb r
 
 -- what reading the sections of a tree answers
 abbrev pub ReadsParts : Tree → Result Parts ReadFault → Type 0
@@ -90,7 +101,8 @@ ReadsDesign text (Err (fault.Memory e)) = Unit {0}
 
 -- Each text has a design, a fault of its tree, or a refusal of its sections, and just one of these.
 pub record OneOutcome : Type 0 where
-  pub some : (text : List ℕ) → ((d : Design) → HasDesign text d → ⊥) → ((f : TreeFault) × HasFault text f) ⊎ ((r : Refusal) × HasRefusal text r)
+  pub some : (text : List ℕ) → ((d : Design) → HasDesign text d → ⊥) → ((f : TreeFault) × HasFault text f)
+      ⊎ ((r : Refusal) × HasRefusal text r)
   pub designs : (text : List ℕ) (d e : Design) → HasDesign text d → HasDesign text e → d ≡ e
   pub faults : (text : List ℕ) (f g : TreeFault) → HasFault text f → HasFault text g → f ≡ g
   pub refusals : (text : List ℕ) (r s : Refusal) → HasRefusal text r → HasRefusal text s → r ≡ s

@@ -5,12 +5,14 @@ ghost use Rattle.std.specs.Prelude.{◌≡◌, [], map, All, IfOk};
 ghost use Rattle.dsn_shapes.specs.Lists.{capped};
 ghost use Rattle.pcb_model.specs.Bounds.{IsFit};
 ghost use Rattle.pcb_model.specs.declared.design.Padstack.{Padstack as TheStack};
-ghost use Rattle.dsn_design.specs.Counts.{IsCountedOf, counted_components, counted_items, counted_nets, counted_pins, counted_with};
+ghost use Rattle.dsn_design.specs.Counts.{IsCountedOf, counted_components, counted_items, counted_nets};
+ghost use Rattle.dsn_design.specs.Counts.{counted_pins, counted_with};
 ghost use Rattle.dsn_design.specs.Nets.{class_rules};
 ghost use Rattle.dsn_design.specs.Usable.{AreUsable, padstacks_of, usables};
 ghost use Rattle.dsn_design.specs.Fit.{ArePartsFit};
 ghost use Rattle.dsn_design.specs.Items.{free_wiring, loops_of};
-ghost use Rattle.dsn_design.specs.Made.{ArePadstacksOf, board_layer, bounds_of, design_with, layers_of, notes_of, section_notes, structure_vias};
+ghost use Rattle.dsn_design.specs.Made.{ArePadstacksOf, board_layer, bounds_of, design_with, layers_of, notes_of};
+ghost use Rattle.dsn_design.specs.Made.{section_notes, structure_vias};
 
 use crate::edges::loops_of;
 use crate::items::{numbered, push_bans, push_edges, push_places};
@@ -128,7 +130,8 @@ struct Placed {
 
 fn place_all(alloc: Global, parts: &Parts, stacks: &List<Padstack>) -> Result<Placed, AllocError>
     requires { ArePartsFit parts.now }
-    ensures components { IfOk result (λ v. v.components ≡ counted_components parts.now.library parts.now.placing.places) }
+    ensures components { IfOk result
+        (λ v. v.components ≡ counted_components parts.now.library parts.now.placing.places) }
     ensures pins { IfOk result (λ v. v.pins ≡ counted_pins parts.now stacks.now) }
 {
     let components = components_of(alloc, &parts.library, parts.placing.places.as_slice())?;

@@ -7,7 +7,8 @@ ghost use Rattle.dsn_shapes.specs.declared.parts.BanShape.{BanShape as TheBan};
 ghost use Rattle.dsn_shapes.specs.Within.{IsPinWithin};
 ghost use Rattle.dsn_design.specs.Fit.{ArePartsFit, IsPlaceWithin};
 ghost use Rattle.dsn_design.specs.Counts.{items_from, next_number, pads_at, place_items, placed_items};
-ghost use Rattle.dsn_design.specs.Items.{ban_item, edge_item, numbered, numbered_from, pad_item, pad_kind, pad_pieces, placed_ban};
+ghost use Rattle.dsn_design.specs.Items.{ban_item, edge_item, numbered, numbered_from, pad_item, pad_kind};
+ghost use Rattle.dsn_design.specs.Items.{pad_pieces, placed_ban};
 ghost use Rattle.dsn_design.specs.Pins.{layer_count};
 
 use crate::copper::{add_pieces, shape_pieces};
@@ -148,7 +149,8 @@ fn pad_item(
     requires parts_fit { ArePartsFit board.now.parts.now }
     requires place_within { IsPlaceWithin place.now }
     requires pin_within { IsPinWithin image_pin.now }
-    ensures { IfOk result (λ a. a ≡ pad_item board.now.parts.now board.now.stacks.now pin number place.now image_pin.now) }
+    ensures { IfOk result
+        (λ a. a ≡ pad_item board.now.parts.now board.now.stacks.now pin number place.now image_pin.now) }
 {
     let pieces = pad_pieces(alloc, board.parts, place, image_pin)?;
     let net = net_of_pin(&board.owners, number);
@@ -168,7 +170,9 @@ fn push_pads(
     requires parts_fit { ArePartsFit board.now.parts.now }
     requires place_within { IsPlaceWithin place.now }
     requires pins_within { All IsPinWithin pins.now }
-    ensures { OnOk result (items.new ≡ items.old ++ pads_at board.now.parts.now board.now.stacks.now number place.now 0 first pins.now) }
+    ensures { OnOk result
+        (items.new ≡ items.old ++ pads_at board.now.parts.now board.now.stacks.now number place.now 0 first
+        pins.now) }
 {
     let mut next: u32 = 0;
     let mut count = first;
@@ -194,7 +198,8 @@ fn push_placed(
 ) -> Result<(), AllocError>
     requires parts_fit { ArePartsFit board.now.parts.now }
     requires place_within { IsPlaceWithin place.now }
-    ensures { OnOk result (items.new ≡ items.old ++ placed_items board.now.parts.now board.now.stacks.now number first place.now) }
+    ensures { OnOk result
+        (items.new ≡ items.old ++ placed_items board.now.parts.now board.now.stacks.now number first place.now) }
 {
     let lib = &board.parts.library;
     push_placed_bans(alloc, items, board.parts, place, image_bans(lib, place))?;
@@ -220,7 +225,8 @@ fn push_place(
 ) -> Result<(), AllocError>
     requires parts_fit { ArePartsFit board.now.parts.now }
     requires place_within { IsPlaceWithin place.now }
-    ensures { OnOk result (items.new ≡ items.old ++ place_items board.now.parts.now board.now.stacks.now number first place.now) }
+    ensures { OnOk result
+        (items.new ≡ items.old ++ place_items board.now.parts.now board.now.stacks.now number first place.now) }
 {
     if is_placed(place) {
         push_placed(alloc, items, board, place, number, first)?;
@@ -248,7 +254,8 @@ pub(crate) fn push_places(
 ) -> Result<(), AllocError>
     requires parts_fit { ArePartsFit board.now.parts.now }
     requires places_within { All IsPlaceWithin places.now }
-    ensures { OnOk result (items.new ≡ items.old ++ items_from board.now.parts.now board.now.stacks.now 0 0 places.now) }
+    ensures { OnOk result
+        (items.new ≡ items.old ++ items_from board.now.parts.now board.now.stacks.now 0 0 places.now) }
 {
     let mut number: u32 = 0;
     let mut first: u32 = 0;

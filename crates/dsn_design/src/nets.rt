@@ -4,7 +4,8 @@
 ghost use Rattle.std.specs.Prelude.{◌≡◌, ◌++◌, filter, map, sum_by, count_by, not, IfOk};
 ghost use Rattle.dsn_shapes.specs.Lists.{capped};
 ghost use Rattle.dsn_shapes.specs.Names.{stack_names};
-ghost use Rattle.dsn_design.specs.Nets.{class_rules, class_vias, is_usable_at, net_of, stack_number, stack_numbers, unusable_in, unusable_of_class, usable_of, via_list, via_notes};
+ghost use Rattle.dsn_design.specs.Nets.{class_rules, class_vias, is_usable_at, net_of, stack_number, stack_numbers};
+ghost use Rattle.dsn_design.specs.Nets.{unusable_in, unusable_of_class, usable_of, via_list, via_notes};
 ghost use Rattle.dsn_design.specs.Counts.{counted_number};
 
 use crate::pins::pin_number;
@@ -121,7 +122,9 @@ pub(crate) struct Lists<'a> {
 
 #[tactic(auto, unfolding(crate::specs::Nets::net_of))]
 fn net_of(alloc: Global, lists: &Lists, net: &ReadNet) -> Result<Net, AllocError>
-    ensures { IfOk result (λ n. n ≡ net_of lists.now.stacks.now (counted_number lists.now.firsts.now) lists.now.vias.now lists.now.classes.now net.now) }
+    ensures { IfOk result
+        (λ n. n ≡ net_of lists.now.stacks.now (counted_number lists.now.firsts.now) lists.now.vias.now
+        lists.now.classes.now net.now) }
 {
     let name = List::from_slice(alloc, net.name.as_slice())?;
     let pins = pin_numbers(alloc, lists.firsts, net.pins.as_slice())?;
@@ -143,7 +146,10 @@ pub(crate) fn nets_of(
     lists: &Lists,
     nets: &[ReadNet],
 ) -> Result<List<Net>, AllocError>
-    ensures { IfOk result (λ ns. ns ≡ map (net_of lists.now.stacks.now (counted_number lists.now.firsts.now) lists.now.vias.now lists.now.classes.now) nets.now) }
+    ensures { IfOk result
+        (λ ns. ns ≡ map
+        (net_of lists.now.stacks.now (counted_number lists.now.firsts.now) lists.now.vias.now
+        lists.now.classes.now) nets.now) }
 {
     let mut all = List::new(alloc);
     for net in nets {

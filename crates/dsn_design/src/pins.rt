@@ -1,7 +1,8 @@
 //! Placed components and their pins, which count up in the order of the placement and of the images.
 //! Source: SPECCTRA reference, placement, image and pin descriptors. Lengths are in nm.
 
-ghost use Rattle.std.specs.Prelude.{◌≡◌, ◌==◌, ◌≤◌, ◌<◌, ◌++◌, ◌∷◌, [], ◌-◌, ◌^◌, min, All, IfOk, OnOk, filter, length, map, if◌then◌else◌};
+ghost use Rattle.std.specs.Prelude.{◌≡◌, ◌==◌, ◌≤◌, ◌<◌, ◌++◌, ◌∷◌, [], ◌-◌, ◌^◌, min, All, IfOk, OnOk, filter};
+ghost use Rattle.std.specs.Prelude.{length, map, if◌then◌else◌};
 ghost use Rattle.std.specs.List.{list_all};
 ghost use Rattle.geo_kernel.specs.Spine.{IsSpineWithin};
 ghost use Rattle.pcb_model.specs.declared.item.Piece.{Piece as ThePiece};
@@ -10,8 +11,11 @@ ghost use Rattle.dsn_shapes.specs.Within.{IsLibraryWithin, IsPinWithin};
 ghost use Rattle.pcb_model.specs.Sound.{origin};
 ghost use Rattle.dsn_placement.specs.Copper.{IsStandWithin, stand_of};
 ghost use Rattle.dsn_design.specs.Fit.{ArePartsFit, IsPlaceWithin};
-ghost use Rattle.dsn_design.specs.Counts.{counted_components, counted_number, counted_pins, first_pins, firsts_from, next_component, pin_count, pins_at, pins_from, place_pins, plus};
-ghost use Rattle.dsn_design.specs.Pins.{centre_of, component_of, image_bans, image_name, image_pins, is_on_one, is_placed, is_smd, net_of_pin, pin_of, pin_ref, placed_as, placed_pin};
+ghost use Rattle.dsn_design.specs.Counts.{counted_components, counted_number, counted_pins, first_pins};
+ghost use Rattle.dsn_design.specs.Counts.{firsts_from, next_component, pin_count, pins_at, pins_from, place_pins};
+ghost use Rattle.dsn_design.specs.Counts.{plus};
+ghost use Rattle.dsn_design.specs.Pins.{centre_of, component_of, image_bans, image_name, image_pins, is_on_one};
+ghost use Rattle.dsn_design.specs.Pins.{is_placed, is_smd, net_of_pin, pin_of, pin_ref, placed_as, placed_pin};
 
 use crate::parts::Parts;
 use dsn_network::Owners;
@@ -176,7 +180,9 @@ fn pin_of(
 ) -> Result<Pin, AllocError>
     requires place_within { IsPlaceWithin place.now }
     requires pin_within { IsPinWithin pin.now }
-    ensures { IfOk result (λ p. p ≡ pin_of board.now.parts.now board.now.stacks.now (placed_pin (placed_as (component, (number.place, place.now))) (number.pin, pin.now))) }
+    ensures { IfOk result
+        (λ p. p ≡ pin_of board.now.parts.now board.now.stacks.now
+        (placed_pin (placed_as (component, (number.place, place.now))) (number.pin, pin.now))) }
 {
     Ok(Pin {
         component,
@@ -198,7 +204,9 @@ fn push_pins(
 ) -> Result<(), AllocError>
     requires place_within { IsPlaceWithin place.now }
     requires pins_within { All IsPinWithin image_pins.now }
-    ensures { OnOk result (pins.new ≡ pins.old ++ pins_at board.now.parts.now board.now.stacks.now number component place.now 0 image_pins.now) }
+    ensures { OnOk result
+        (pins.new ≡ pins.old ++ pins_at board.now.parts.now board.now.stacks.now number component place.now 0
+        image_pins.now) }
 {
     let mut next: u32 = 0;
     for image_pin in image_pins {
@@ -223,7 +231,8 @@ fn push_place(
 ) -> Result<(), AllocError>
     requires library_within { IsLibraryWithin board.now.parts.now.library }
     requires place_within { IsPlaceWithin place.now }
-    ensures { OnOk result (pins.new ≡ pins.old ++ place_pins board.now.parts.now board.now.stacks.now number component place.now) }
+    ensures { OnOk result
+        (pins.new ≡ pins.old ++ place_pins board.now.parts.now board.now.stacks.now number component place.now) }
 {
     if is_placed(place) {
         let image_pins = image_pins(&board.parts.library, place);

@@ -23,7 +23,11 @@ use Rattle.dsn_library.specs.Whole.{images, library_of, padstacks}
 
 stack_within : (nm : ℕ) (layers : List Layer) (t : Tree) → IsStackWithin (stack_of nm layers t)
 unfolding stack_of
-stack_within nm layers t = record { shapes = All-map (λ (shape : LayerShape). IsSpineWithin (2 ^ 29) shape.spine) (held_shape nm layers) (shapes_in (t ∷ [])) (λ k d l. held_near nm layers _) }
+stack_within nm layers t =
+    record {
+      shapes = All-map (λ (shape : LayerShape). IsSpineWithin (2 ^ 29) shape.spine) (held_shape nm layers)
+          (shapes_in (t ∷ [])) (λ k d l. held_near nm layers _);
+    }
 
 -- ---- pins
 or_no_turn : (o : Option Angle) → IfSome o IsReduced → IsReduced (unwrap_or o no_turn)
@@ -51,15 +55,18 @@ unfolding pin_of pin_place
 pin_within nm stacks t = record { at = (coord_at_near nm t 3, coord_at_near nm t 4); angle = rotation_reduced t }
 
 -- ---- images and the whole
-image_within : (nm : ℕ) (layers : List Layer) (stacks : List (List ℕ)) (t : Tree) → IsImageWithin (image_of nm layers stacks t)
+image_within : (nm : ℕ) (layers : List Layer) (stacks : List (List ℕ)) (t : Tree)
+    → IsImageWithin (image_of nm layers stacks t)
 unfolding image_of
 image_within nm layers stacks t = record {
   pins = All-map IsPinWithin (pin_of nm stacks) (pins_in (t ∷ [])) (λ k d l. pin_within nm stacks _);
-  bans = All-map (λ (ban : BanShape). IsSpineWithin (2 ^ 29) ban.shape.spine) (ban_of nm layers) (keepouts_in (t ∷ [])) (λ k d l. ban_near nm layers _);
+  bans = All-map (λ (ban : BanShape). IsSpineWithin (2 ^ 29) ban.shape.spine) (ban_of nm layers) (keepouts_in (t ∷ []))
+      (λ k d l. ban_near nm layers _);
 }
 
 pub library_within : (nm : ℕ) (layers : List Layer) (pcb : Tree) → IsLibraryWithin (library_of nm layers pcb)
 library_within nm layers pcb = record {
   stacks = All-map IsStackWithin (stack_of nm layers) (padstacks pcb) (λ k d l. stack_within nm layers _);
-  images = All-map IsImageWithin (image_of nm layers (names_at 1 (padstacks pcb))) (images pcb) (λ k d l. image_within nm layers (names_at 1 (padstacks pcb)) _);
+  images = All-map IsImageWithin (image_of nm layers (names_at 1 (padstacks pcb))) (images pcb)
+      (λ k d l. image_within nm layers (names_at 1 (padstacks pcb)) _);
 }

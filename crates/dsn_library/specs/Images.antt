@@ -24,10 +24,17 @@ pins_refusals nm stacks ts = same_names 2 ts ++ flat_map (pin_refusals nm stacks
 
 -- an image whose pins name padstacks of these names
 unfoldable pub image_of : ℕ → List Layer → List (List ℕ) → Tree → Image
-image_of nm layers stacks t = record { name = name_of t 1; pins = map (pin_of nm stacks) (pins_in (t ∷ [])); bans = map (ban_of nm layers) (keepouts_in (t ∷ [])) }
+image_of nm layers stacks t =
+    record {
+      name = name_of t 1;
+      pins = map (pin_of nm stacks) (pins_in (t ∷ []));
+      bans = map (ban_of nm layers) (keepouts_in (t ∷ []));
+    }
 
 unfoldable pub image_refusals : ℕ → List Layer → List (List ℕ) → Tree → List Refusal
-image_refusals nm layers stacks t = quoted_name t 1 ++ (pins_refusals nm stacks (pins_in (t ∷ [])) ++ flat_map (ban_refusals nm layers) (keepouts_in (t ∷ [])))
+image_refusals nm layers stacks t =
+    quoted_name t 1
+    ++ (pins_refusals nm stacks (pins_in (t ∷ [])) ++ flat_map (ban_refusals nm layers) (keepouts_in (t ∷ [])))
 
 -- images that are together the design's
 unfoldable pub images_refusals : ℕ → List Layer → List (List ℕ) → List Tree → List Refusal

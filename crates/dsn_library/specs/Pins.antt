@@ -53,7 +53,8 @@ pin_place_refusals nm t = coord_refusal nm t 3 ++ coord_refusal nm t 4
 
 -- a pin of an image, where the padstacks have these names
 unfoldable pub pin_of : ℕ → List (List ℕ) → Tree → ImagePin
-pin_of nm stacks t = record { name = name_of t 2; stack = pin_stack stacks t; at = pin_place nm t; angle = rotation_of t }
+pin_of nm stacks t =
+    record { name = name_of t 2; stack = pin_stack stacks t; at = pin_place nm t; angle = rotation_of t }
 
 unfoldable pub pin_refusals : ℕ → List (List ℕ) → Tree → List Refusal
 pin_refusals nm stacks t = unknown_stack stacks t ++ (pin_place_refusals nm t ++ rotation_refusals t)

@@ -44,7 +44,9 @@ unfoldable pub library_left_out : List Tree → List Tree → List Tree → List
 library_left_out libs imgs stacks = sections_left_out libs imgs ++ parts_left_out (pins_in imgs) stacks
 
 unfoldable pub library_notes : List Tree → List Tree → List Tree → ℕ
-library_notes libs imgs stacks = sections_passed libs imgs + (parts_passed (pins_in imgs) stacks + forms_passed (shapes_in stacks) (keepouts_in imgs))
+library_notes libs imgs stacks =
+    sections_passed libs
+    imgs + (parts_passed (pins_in imgs) stacks + forms_passed (shapes_in stacks) (keepouts_in imgs))
 
 -- ---- the whole
 -- all refusals of the library

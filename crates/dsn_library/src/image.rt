@@ -55,7 +55,8 @@ fn read_pins(
     scale: Scale,
     stacks: &NameIndex,
 ) -> Result<List<ImagePin>, AllocError>
-    ensures noted { OnOk result (first.new ≡ noted first.old (pins_refusals scale.nm stacks.now (pins_in (tree.now ∷ [])))) }
+    ensures noted { OnOk result
+        (first.new ≡ noted first.old (pins_refusals scale.nm stacks.now (pins_in (tree.now ∷ [])))) }
     ensures value { IfOk result (λ v. v ≡ map (pin_of scale.nm stacks.now) (pins_in (tree.now ∷ []))) }
 {
     let pins = Trees::in_list(alloc, tree, b"pin")?;
@@ -86,7 +87,8 @@ fn read_bans(
     scale: Scale,
     layers: &List<Layer>,
 ) -> Result<List<BanShape>, AllocError>
-    ensures noted { OnOk result (first.new ≡ noted first.old (flat_map (ban_refusals scale.nm layers.now) (keepouts_in (tree.now ∷ [])))) }
+    ensures noted { OnOk result
+        (first.new ≡ noted first.old (flat_map (ban_refusals scale.nm layers.now) (keepouts_in (tree.now ∷ [])))) }
     ensures value { IfOk result (λ v. v ≡ map (ban_of scale.nm layers.now) (keepouts_in (tree.now ∷ []))) }
 {
     let image = Trees::one(alloc, tree)?;
@@ -111,7 +113,8 @@ pub(crate) fn read_images(
     scale: Scale,
     layers: &List<Layer>,
 ) -> Result<List<Image>, AllocError>
-    ensures noted { OnOk result (first.new ≡ noted first.old (images_refusals scale.nm layers.now stacks.now images.now)) }
+    ensures noted { OnOk result
+        (first.new ≡ noted first.old (images_refusals scale.nm layers.now stacks.now images.now)) }
     ensures value { IfOk result (λ v. v ≡ map (image_of scale.nm layers.now stacks.now) images.now) }
 {
     let names = NameIndex::new(alloc, images, 1)?;

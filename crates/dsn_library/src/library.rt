@@ -1,14 +1,17 @@
 //! The library of a design: the padstacks and the images of all its sections together.
 //! Source: SPECCTRA reference, library descriptor. Names may be defined after their use.
 
-ghost use Rattle.std.specs.Prelude.{◌≡◌, IfOk, OnOk};
+ghost use Rattle.std.specs.Prelude.{◌≡◌, ◌++◌, map, IfOk, OnOk};
 ghost use Rattle.dsn_shapes.specs.Lists.{capped};
+ghost use Rattle.dsn_shapes.specs.Names.{names_at};
 ghost use Rattle.dsn_shapes.specs.Refusals.{Reads, noted};
 ghost use Rattle.dsn_shapes.specs.Within.{IsLibraryWithin};
-ghost use Rattle.dsn_library.specs.Images.{keepouts_in};
-ghost use Rattle.dsn_library.specs.Padstacks.{shapes_in};
+ghost use Rattle.dsn_library.specs.Images.{image_of, images_refusals, keepouts_in};
+ghost use Rattle.dsn_library.specs.Padstacks.{shapes_in, stack_of, stacks_refusals};
 ghost use Rattle.dsn_library.specs.Sound.{IsLibrarySound};
-ghost use Rattle.dsn_library.specs.Whole.{forms_passed, images, libraries, library_left_out, library_notes, library_of, library_refusals, padstacks, parts_left_out, parts_passed, sections_left_out, sections_passed};
+ghost use Rattle.dsn_library.specs.Whole.{forms_passed, images, libraries, library_left_out, library_notes};
+ghost use Rattle.dsn_library.specs.Whole.{library_of, library_refusals, padstacks, parts_left_out, parts_passed};
+ghost use Rattle.dsn_library.specs.Whole.{sections_left_out, sections_passed};
 
 use crate::image::{keepouts_in, read_images};
 use crate::padstack::read_stacks;
@@ -34,9 +37,9 @@ fn sections_of<'a>(alloc: Global, pcb: &'a Tree) -> Result<Sections<'a>, AllocEr
     ensures padstacks { IfOk result (λ s. s.padstacks ≡ padstacks pcb.now) }
     ensures images { IfOk result (λ s. s.images ≡ images pcb.now) }
 {
-    let libraries = Trees::one(alloc, pcb)?.lists(alloc, &[b"library".as_slice()])?;
-    let padstacks = libraries.lists(alloc, &[b"padstack".as_slice()])?;
-    let images = libraries.lists(alloc, &[b"image".as_slice()])?;
+    let libraries = Trees::in_list(alloc, pcb, b"library")?;
+    let padstacks = libraries.headed(alloc, b"padstack")?;
+    let images = libraries.headed(alloc, b"image")?;
     Ok(Sections {
         libraries,
         padstacks,
@@ -71,7 +74,7 @@ fn pass_over_parts(first: &mut Option<Refusal>, pins: &Trees, padstacks: &Trees)
 fn forms_passed(alloc: Global, padstacks: &Trees, images: &Trees) -> Result<u64, AllocError>
     ensures { IfOk result (λ n. n ≡ capped (forms_passed (shapes_in padstacks.now) (keepouts_in images.now))) }
 {
-    let shapes = padstacks.lists(alloc, &[b"shape".as_slice()])?;
+    let shapes = padstacks.headed(alloc, b"shape")?;
     let keepouts = keepouts_in(alloc, images)?;
     Ok(shape_notes(&shapes).saturating_add(ban_notes(&keepouts)))
 }
@@ -82,14 +85,46 @@ fn pass_over_library(
     first: &mut Option<Refusal>,
     parts: &Sections,
 ) -> Result<u64, AllocError>
-    ensures noted { OnOk result (first.new ≡ noted first.old (library_left_out parts.now.libraries parts.now.images parts.now.padstacks)) }
-    ensures value { IfOk result (λ n. n ≡ capped (library_notes parts.now.libraries parts.now.images parts.now.padstacks)) }
+    ensures noted { OnOk result
+        (first.new ≡ noted first.old (library_left_out parts.now.libraries parts.now.images parts.now.padstacks)) }
+    ensures value { IfOk result
+        (λ n. n ≡ capped (library_notes parts.now.libraries parts.now.images parts.now.padstacks)) }
 {
-    let pins = parts.images.lists(alloc, &[b"pin".as_slice()])?;
+    let pins = parts.images.headed(alloc, b"pin")?;
     let in_sections = pass_over_sections(first, &parts.libraries, &parts.images);
     let in_parts = pass_over_parts(first, &pins, &parts.padstacks);
     let beside = forms_passed(alloc, &parts.padstacks, &parts.images)?;
     Ok(in_sections.saturating_add(in_parts).saturating_add(beside))
+}
+
+// The library of these sections.
+fn note_sections(
+    alloc: Global,
+    first: &mut Option<Refusal>,
+    parts: &Sections,
+    s: Scale,
+    layers: &List<Layer>,
+) -> Result<Library, AllocError>
+    ensures noted { OnOk result
+        (first.new ≡ noted first.old
+        (library_left_out parts.now.libraries parts.now.images parts.now.padstacks
+        ++ (stacks_refusals s.nm layers.now parts.now.padstacks
+        ++ images_refusals s.nm layers.now (names_at 1 parts.now.padstacks) parts.now.images))) }
+    ensures stacks { IfOk result (λ v. v.stacks ≡ map (stack_of s.nm layers.now) parts.now.padstacks) }
+    ensures images { IfOk result
+        (λ v. v.images ≡ map (image_of s.nm layers.now (names_at 1 parts.now.padstacks)) parts.now.images) }
+    ensures notes { IfOk result
+        (λ v. v.notes ≡ capped (library_notes parts.now.libraries parts.now.images parts.now.padstacks)) }
+{
+    let notes = pass_over_library(alloc, first, parts)?;
+    let names = NameIndex::new(alloc, &parts.padstacks, 1)?;
+    let stacks = read_stacks(alloc, first, &parts.padstacks, &names, s, layers)?;
+    let images = read_images(alloc, first, &parts.images, &names, s, layers)?;
+    Ok(Library {
+        stacks,
+        images,
+        notes,
+    })
 }
 
 fn note_library(
@@ -103,15 +138,7 @@ fn note_library(
     ensures value { IfOk result (λ v. v ≡ library_of s.nm layers.now pcb.now) }
 {
     let parts = sections_of(alloc, pcb)?;
-    let notes = pass_over_library(alloc, first, &parts)?;
-    let names = NameIndex::new(alloc, &parts.padstacks, 1)?;
-    let stacks = read_stacks(alloc, first, &parts.padstacks, &names, s, layers)?;
-    let images = read_images(alloc, first, &parts.images, &names, s, layers)?;
-    Ok(Library {
-        stacks,
-        images,
-        notes,
-    })
+    note_sections(alloc, first, &parts, s, layers)
 }
 
 /// The padstacks and images of all `library` sections of a design together.
@@ -127,7 +154,8 @@ pub fn read_library(
     s: Scale,
     layers: &List<Layer>,
 ) -> Result<Library, ReadFault>
-    ensures reads { Reads (library_refusals s.nm layers.now pcb.now) (λ v. v ≡ library_of s.nm layers.now pcb.now) result }
+    ensures reads { Reads (library_refusals s.nm layers.now pcb.now) (λ v. v ≡ library_of s.nm layers.now pcb.now)
+        result }
     ensures within { IfOk result IsLibraryWithin }
     ensures sound { IfOk result IsLibrarySound }
 {

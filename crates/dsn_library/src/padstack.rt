@@ -52,11 +52,12 @@ fn read_shapes(
     scale: Scale,
     layers: &List<Layer>,
 ) -> Result<List<LayerShape>, AllocError>
-    ensures noted { OnOk result (first.new ≡ noted first.old (flat_map (refusals_in (shape_refusals scale.nm layers.now)) (shapes_in (tree.now ∷ [])))) }
+    ensures noted { OnOk result
+        (first.new ≡ noted first.old
+        (flat_map (refusals_in (shape_refusals scale.nm layers.now)) (shapes_in (tree.now ∷ [])))) }
     ensures value { IfOk result (λ v. v ≡ map (held_shape scale.nm layers.now) (shapes_in (tree.now ∷ []))) }
 {
-    let padstack = Trees::one(alloc, tree)?;
-    let shapes = padstack.lists(alloc, &[b"shape".as_slice()])?;
+    let shapes = Trees::in_list(alloc, tree, b"shape")?;
     read_each(alloc, &Shapes { scale, layers }, first, &shapes)
 }
 

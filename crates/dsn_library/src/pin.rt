@@ -4,7 +4,8 @@
 ghost use Rattle.std.specs.Prelude.{◌≡◌};
 ghost use Rattle.dsn_shapes.specs.Refusals.{noted};
 ghost use Rattle.dsn_shapes.specs.Angles.{no_turn};
-ghost use Rattle.dsn_library.specs.Pins.{degrees_in, degrees_refusals, pin_place, pin_place_refusals, pin_stack, rotation_of, rotation_refusals, unknown_stack};
+ghost use Rattle.dsn_library.specs.Pins.{degrees_in, degrees_refusals, pin_place, pin_place_refusals, pin_stack};
+ghost use Rattle.dsn_library.specs.Pins.{rotation_of, rotation_refusals, unknown_stack};
 
 use dsn_shapes::{
     ImagePin, NameIndex, Part, Refusal, angle_in, at_of, coord_at, name_of, note, nth_word,

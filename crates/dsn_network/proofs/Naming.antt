@@ -1,5 +1,6 @@
 -- The last class list that names a net, with one more list behind.
-use Rattle.std.proofs.Common.{◌≡◌, ◌+◌, ◌<◌, ◌∙◌, ap, sym, ℕ, suc, List, [], ◌∷◌, ◌++◌, length, take, get_or, Bool, true, false, cond, arith}
+use Rattle.std.proofs.Common.{◌≡◌, ◌+◌, ◌<◌, ◌∙◌, ap, sym, ℕ, suc, List, [], ◌∷◌, ◌++◌, length, take, get_or, Bool}
+use Rattle.std.proofs.Common.{true, false, cond, arith}
 use Rattle.std.specs.Prelude.{Option, Some, None, map, if◌then◌else◌}
 use Rattle.std.specs.Option.{option_or}
 use Rattle.std.specs.List.{list_any}
@@ -10,21 +11,31 @@ use Rattle.dsn_shapes.specs.Lists.{text_of}
 use Rattle.dsn_network.specs.Words.{words_from}
 use Rattle.dsn_network.specs.Classes.{last_naming, names_net}
 
-one_behind : (b : Bool) (m n : ℕ) (p r x : Option ℕ) → p ≡ (if b then Some m else r) → m ≡ n → option_or p x ≡ (if b then Some n else option_or r x)
+one_behind : (b : Bool) (m n : ℕ) (p r x : Option ℕ) → p ≡ (if b then Some m else r) → m ≡ n
+    → option_or p x ≡ (if b then Some n else option_or r x)
 one_behind true m n p r x e f = cc
 one_behind false m n p r x e f = ap (λ z. option_or z x) e
 
-pub named_behind : (name : List ℕ) (k : ℕ) (ts : List Tree) (t : Tree) → last_naming name k (ts ++ t ∷ []) ≡ (if names_net name t then Some (k + length ts) else last_naming name k ts)
+pub named_behind : (name : List ℕ) (k : ℕ) (ts : List Tree) (t : Tree) → last_naming name k (ts ++ t ∷ [])
+    ≡ (if names_net name t then Some (k + length ts) else last_naming name k ts)
 named_behind name k [] t = let s : k ≡ k + 0 = omega arith in ap (λ m. cond (names_net name t) (Some m) None) s
-named_behind name k (u ∷ ts) t = one_behind (names_net name t) (k + 1 + length ts) (k + suc (length ts)) _ (last_naming name (k + 1) ts) _ (named_behind name (k + 1) ts t) (omega arith)
+named_behind name k (u ∷ ts) t =
+    one_behind (names_net name t) (k + 1 + length ts) (k + suc (length ts)) _ (last_naming name (k + 1) ts) _
+    (named_behind name (k + 1) ts t) (omega arith)
 
 -- one more class list
-pub class_behind : {N : Type 0} (f : N → Tree) (lists : List N) (k : ℕ) (x : N) (words : List Tree) (q : List ℕ) (old new : Option ℕ) → k < length lists → x ≡ get_or lists k x → words ≡ words_from 2 (f x) → old ≡ last_naming q 0 (map f (take k lists)) → new ≡ (if list_any (λ w. bytes_eq (text_of w) q) words then Some k else old) → new ≡ last_naming q 0 (map f (take (k + 1) lists))
+pub class_behind : {N : Type 0} (f : N → Tree) (lists : List N) (k : ℕ) (x : N) (words : List Tree) (q : List ℕ)
+    (old new : Option ℕ) → k < length lists → x ≡ get_or lists k x → words ≡ words_from 2 (f x)
+    → old ≡ last_naming q 0 (map f (take k lists))
+    → new ≡ (if list_any (λ w. bytes_eq (text_of w) q) words then Some k else old)
+    → new ≡ last_naming q 0 (map f (take (k + 1) lists))
 class_behind f lists k x words q old new h is e o n =
-    let k_is : k ≡ 0 + length (map f (take k lists)) = omega (arith, length-map (take k lists) f, length-take-le k lists (omega arith)) in
+    let k_is : k ≡ 0 + length (map f (take k lists)) =
+    omega (arith, length-map (take k lists) f, length-take-le k lists (omega arith)) in
     n
     ∙ ap (λ a. if list_any (λ w. bytes_eq (text_of w) q) words then Some k else a) o
     ∙ ap (λ ws. if list_any (λ w. bytes_eq (text_of w) q) ws then Some k else last_naming q 0 (map f (take k lists))) e
     ∙ ap (λ m. if names_net q (f x) then Some m else last_naming q 0 (map f (take k lists))) k_is
     ∙ sym (named_behind q 0 (map f (take k lists)) (f x))
-    ∙ ap (last_naming q 0) (sym (map-append f (take k lists) (x ∷ [])) ∙ ap (λ y. map f (take k lists ++ y ∷ [])) is ∙ sym (ap (map f) (take_more lists k x h)))
+    ∙ ap (last_naming q 0) (sym (map-append f (take k lists) (x ∷ [])) ∙ ap (λ y. map f (take k lists ++ y ∷ [])) is
+    ∙ sym (ap (map f) (take_more lists k x h)))

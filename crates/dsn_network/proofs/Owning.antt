@@ -1,5 +1,6 @@
 -- Maps of pins, with one more pin, or the pins of one more net.
-use Rattle.std.proofs.Common.{◌≡◌, ◌+◌, ◌<◌, ◌∙◌, ap, sym, ℕ, List, [], ◌∷◌, ◌++◌, length, take, get_or, Bool, true, false, cond, Ordering, refl, arith}
+use Rattle.std.proofs.Common.{◌≡◌, ◌+◌, ◌<◌, ◌∙◌, ap, sym, ℕ, List, [], ◌∷◌, ◌++◌, length, take, get_or, Bool, true}
+use Rattle.std.proofs.Common.{false, cond, Ordering, refl, arith}
 use Rattle.std.specs.Prelude.{Option, Some, None, is_some, map, ◌&&◌, ◌||◌, ◌==◌, if◌then◌else◌}
 use Rattle.std.specs.Option.{option_or}
 use Rattle.std.specs.Ordering.{is_eq, nat_cmp, ordering_then}
@@ -36,31 +37,40 @@ abbrev pub key_cmp : ℕ × ℕ → ℕ × ℕ → Ordering
 key_cmp x y = ordering_then (nat_cmp x.0 y.0) (nat_cmp x.1 y.1)
 
 -- what a map has for a pin after it was given a net for one
-pub given : (m n : BTreeMap (ℕ × ℕ) ℕ) (p q : PinRef) (net : ℕ) → Updates key_cmp m n (p.place, p.pin) (Some net) → net_by n q ≡ cond (is_pin q p) (Some net) (net_by m q)
-given m n p q net h = h.0 (q.place, q.pin) ∙ ap (λ b. cond b (Some net) (net_by m q)) (same_keys p.place p.pin q.place q.pin)
+pub given : (m n : BTreeMap (ℕ × ℕ) ℕ) (p q : PinRef) (net : ℕ) → Updates key_cmp m n (p.place, p.pin) (Some net)
+    → net_by n q ≡ cond (is_pin q p) (Some net) (net_by m q)
+given m n p q net h =
+    h.0 (q.place, q.pin) ∙ ap (λ b. cond b (Some net) (net_by m q)) (same_keys p.place p.pin q.place q.pin)
 
 -- a pin that has none gets it
-pub gets : (a b new : Option ℕ) (net : ℕ) (same : Bool) → (same ≡ true → a ≡ b) → b ≡ None → new ≡ cond same (Some net) a → new ≡ option_or a (if same then Some net else None)
+pub gets : (a b new : Option ℕ) (net : ℕ) (same : Bool) → (same ≡ true → a ≡ b) → b ≡ None
+    → new ≡ cond same (Some net) a → new ≡ option_or a (if same then Some net else None)
 gets None b new net true h e f = f
 gets None b new net false h e f = f
 gets (Some x) b new net true h e f = cc (h refl)
 gets (Some x) b new net false h e f = f
 
 -- one more of a net's pins
-pub one_more : (a : Option ℕ) (net : ℕ) (has is : Bool) → option_or (option_or a (if has then Some net else None)) (if is then Some net else None) ≡ option_or a (if has || is then Some net else None)
+pub one_more : (a : Option ℕ) (net : ℕ) (has is : Bool)
+    → option_or (option_or a (if has then Some net else None)) (if is then Some net else None)
+    ≡ option_or a (if has || is then Some net else None)
 one_more None net true is = refl
 one_more None net false is = refl
 one_more (Some x) net has is = refl
 
 -- the first net with a pin, with one more net behind
-pub next_net : (q : PinRef) (nets : List (List PinRef)) (pins : List PinRef) → first_net q (nets ++ pins ∷ []) ≡ option_or (first_net q nets) (if has_pin q pins then Some (length nets) else None)
+pub next_net : (q : PinRef) (nets : List (List PinRef)) (pins : List PinRef)
+    → first_net q (nets ++ pins ∷ [])
+    ≡ option_or (first_net q nets) (if has_pin q pins then Some (length nets) else None)
 unfolding first_net
 next_net q nets pins =
     push_place (has_pin q) nets pins 0
-    ∙ (let s : 0 + length nets ≡ length nets = omega arith in ap (λ m. option_or (first_net q nets) (cond (has_pin q pins) (Some m) None)) s)
+    ∙ (let s : 0 + length nets ≡ length nets = omega arith in
+    ap (λ m. option_or (first_net q nets) (cond (has_pin q pins) (Some m) None)) s)
 
 -- the pins that a map has, with one more
-pub seen_more : (a : Option ℕ) (net : ℕ) (is : Bool) → is_some (option_or a (if is then Some net else None)) ≡ (is_some a || is)
+pub seen_more : (a : Option ℕ) (net : ℕ) (is : Bool) → is_some (option_or a (if is then Some net else None))
+    ≡ (is_some a || is)
 seen_more None net true = refl
 seen_more None net false = refl
 seen_more (Some x) net is = refl
@@ -81,7 +91,9 @@ kept_of true once more e = refl
 kept_of false once more e = absurd (cc)
 
 -- one more pin of a list, which isn't there yet
-pub new_pin : (pins once more : List PinRef) (i : ℕ) (d : PinRef) → i < length pins → once ≡ each_once (take i pins) → has_pin (get_or pins i d) once ≡ false → more ≡ once ++ get_or pins i d ∷ [] → more ≡ each_once (take (i + 1) pins)
+pub new_pin : (pins once more : List PinRef) (i : ℕ) (d : PinRef) → i < length pins → once ≡ each_once (take i pins)
+    → has_pin (get_or pins i d) once ≡ false → more ≡ once ++ get_or pins i d ∷ []
+    → more ≡ each_once (take (i + 1) pins)
 new_pin pins once more i d h e f g =
     g
     ∙ left_of (has_pin (get_or pins i d) once) once (once ++ get_or pins i d ∷ []) f
@@ -90,7 +102,8 @@ new_pin pins once more i d h e f g =
     ∙ sym (ap each_once (take_more pins i d h))
 
 -- one that is there
-pub old_pin : (pins once : List PinRef) (i : ℕ) (d : PinRef) → i < length pins → once ≡ each_once (take i pins) → has_pin (get_or pins i d) once ≡ true → once ≡ each_once (take (i + 1) pins)
+pub old_pin : (pins once : List PinRef) (i : ℕ) (d : PinRef) → i < length pins → once ≡ each_once (take i pins)
+    → has_pin (get_or pins i d) once ≡ true → once ≡ each_once (take (i + 1) pins)
 old_pin pins once i d h e f =
     kept_of (has_pin (get_or pins i d) once) once (once ++ get_or pins i d ∷ []) f
     ∙ ap (λ o. with_pin o (get_or pins i d)) e
@@ -98,22 +111,31 @@ old_pin pins once i d h e f =
     ∙ sym (ap each_once (take_more pins i d h))
 
 -- what a set has with one more pin
-pub has_next : (q p : PinRef) (once more : List PinRef) (old new : Option ℕ) (net : ℕ) → is_some old ≡ has_pin q once → new ≡ option_or old (if is_pin q p then Some net else None) → more ≡ once ++ p ∷ [] → is_some new ≡ has_pin q more
-has_next q p once more old new net e f g = ap is_some f ∙ seen_more old net (is_pin q p) ∙ ap (λ b. b || is_pin q p) e ∙ sym (has_more q p once) ∙ sym (ap (has_pin q) g)
+pub has_next : (q p : PinRef) (once more : List PinRef) (old new : Option ℕ) (net : ℕ) → is_some old ≡ has_pin q once
+    → new ≡ option_or old (if is_pin q p then Some net else None) → more ≡ once ++ p ∷ [] → is_some new ≡ has_pin q more
+has_next q p once more old new net e f g = ap is_some f ∙ seen_more old net (is_pin q p) ∙ ap (λ b. b || is_pin q p) e
+    ∙ sym (has_more q p once) ∙ sym (ap (has_pin q) g)
 
 -- one more net of a list
-pub net_behind : {N : Type 0} (f : N → List PinRef) (nets : List N) (k : ℕ) (x : N) (pins : List PinRef) (q : PinRef) (old new : Option ℕ) → k < length nets → x ≡ get_or nets k x → pins ≡ f x → old ≡ first_net q (map f (take k nets)) → new ≡ option_or old (if has_pin q pins then Some k else None) → new ≡ first_net q (map f (take (k + 1) nets))
+pub net_behind : {N : Type 0} (f : N → List PinRef) (nets : List N) (k : ℕ) (x : N) (pins : List PinRef) (q : PinRef)
+    (old new : Option ℕ) → k < length nets → x ≡ get_or nets k x → pins ≡ f x → old ≡ first_net q (map f (take k nets))
+    → new ≡ option_or old (if has_pin q pins then Some k else None) → new ≡ first_net q (map f (take (k + 1) nets))
 net_behind f nets k x pins q old new h is e o n =
-    let n_is : k ≡ length (map f (take k nets)) = sym (length-map (take k nets) f ∙ length-take-le k nets (omega arith)) in
+    let n_is : k ≡ length (map f (take k nets)) =
+    sym (length-map (take k nets) f ∙ length-take-le k nets (omega arith)) in
     n
     ∙ ap (λ a. option_or a (if has_pin q pins then Some k else None)) o
     ∙ ap (λ m. option_or (first_net q (map f (take k nets))) (if has_pin q pins then Some m else None)) n_is
-    ∙ ap (λ ps. option_or (first_net q (map f (take k nets))) (if has_pin q ps then Some (length (map f (take k nets))) else None)) e
+    ∙ ap (λ ps. option_or (first_net q (map f (take k nets))) (if has_pin q ps then Some (length (map f (take k nets)))
+    else None)) e
     ∙ sym (next_net q (map f (take k nets)) (f x))
-    ∙ ap (first_net q) (sym (map-append f (take k nets) (x ∷ [])) ∙ ap (λ y. map f (take k nets ++ y ∷ [])) is ∙ sym (ap (map f) (take_more nets k x h)))
+    ∙ ap (first_net q) (sym (map-append f (take k nets) (x ∷ [])) ∙ ap (λ y. map f (take k nets ++ y ∷ [])) is
+    ∙ sym (ap (map f) (take_more nets k x h)))
 
 -- the pins of nets that were read
-pub read_pins : (nm : ℕ) (lib : Library) (placing : Placing) (classes ts : List Tree) → pins_of (map (net_of nm lib placing classes) ts) ≡ map (net_pins lib placing) ts
+pub read_pins : (nm : ℕ) (lib : Library) (placing : Placing) (classes ts : List Tree)
+    → pins_of (map (net_of nm lib placing classes) ts) ≡ map (net_pins lib placing) ts
 unfolding net_of
 read_pins nm lib placing classes [] = refl
-read_pins nm lib placing classes (t ∷ ts) = ap (λ rest. net_pins lib placing t ∷ rest) (read_pins nm lib placing classes ts)
+read_pins nm lib placing classes (t ∷ ts) =
+    ap (λ rest. net_pins lib placing t ∷ rest) (read_pins nm lib placing classes ts)

@@ -10,12 +10,16 @@ use Rattle.dsn_shapes.specs.declared.parts.Split.{Split}
 use Rattle.dsn_shapes.specs.declared.parts.Split.TheVariants.{Unknown, One, Many}
 use Rattle.dsn_shapes.specs.Lists.{at_of, text_of}
 use Rattle.dsn_shapes.specs.Names.{first_place, is_at, stack_names}
-use Rattle.dsn_shapes.proofs.Tabled.{AreTabled, all_left_out_tabled, both, each, names_tabled, none, one, passed, quoted_tabled, rules_tabled, where_fails}
+use Rattle.dsn_shapes.proofs.Tabled.{AreTabled, all_left_out_tabled, both, each, names_tabled, none, one, passed}
+use Rattle.dsn_shapes.proofs.Tabled.{quoted_tabled, rules_tabled, where_fails}
 use Rattle.dsn_network.specs.Words.{rules_in, words_in}
 use Rattle.dsn_network.specs.Splits.{split_of}
 use Rattle.dsn_network.specs.Classes.{circuits_in, class_refusals, unknown_via, via_lists, via_refusals}
-use Rattle.dsn_network.specs.Nets.{first_net, is_placed, net_past_limit, net_pins, net_refusals, nets_refusals, pins_taken, ref_refusals, ref_taken, refs_of, split_refusals, split_taken, taken_from}
-use Rattle.dsn_network.specs.Whole.{class_lists, classes_left_out, net_lists, nets_left_out, network_left_out, network_refusals, networks, refusals_of}
+use Rattle.dsn_network.specs.Nets.{first_net, is_placed, net_past_limit, net_pins, net_refusals, nets_refusals}
+use Rattle.dsn_network.specs.Nets.{pins_taken, ref_refusals, ref_taken, refs_of, split_refusals, split_taken}
+use Rattle.dsn_network.specs.Nets.{taken_from}
+use Rattle.dsn_network.specs.Whole.{class_lists, classes_left_out, net_lists, nets_left_out, network_left_out}
+use Rattle.dsn_network.specs.Whole.{network_refusals, networks, refusals_of}
 
 -- ---- references of pins
 split_tabled : (placing : Placing) (at : ℕ) (s : Split) → AreTabled (split_refusals placing at s)
@@ -32,13 +36,18 @@ split_taken_tabled nets k at Unknown = none
 split_taken_tabled nets k at (One p) = where_fails (is_at k (first_net p nets)) 18 at refl
 split_taken_tabled nets k at Many = none
 
-ref_taken_tabled : (lib : Library) (placing : Placing) (nets : List (List PinRef)) (k : ℕ) (w : Tree) → AreTabled (ref_taken lib placing nets k w)
+ref_taken_tabled : (lib : Library) (placing : Placing) (nets : List (List PinRef)) (k : ℕ) (w : Tree)
+    → AreTabled (ref_taken lib placing nets k w)
 unfolding ref_taken
 ref_taken_tabled lib placing nets k w = split_taken_tabled nets k (at_of w) (split_of lib placing (text_of w))
 
-taken_tabled : (lib : Library) (placing : Placing) (nets : List (List PinRef)) (k : ℕ) (ts : List Tree) → AreTabled (taken_from lib placing nets k ts)
+taken_tabled : (lib : Library) (placing : Placing) (nets : List (List PinRef)) (k : ℕ) (ts : List Tree)
+    → AreTabled (taken_from lib placing nets k ts)
 taken_tabled lib placing nets k [] = none
-taken_tabled lib placing nets k (t ∷ ts) = both _ (taken_from lib placing nets (k + 1) ts) (each (ref_taken lib placing nets k) (ref_taken_tabled lib placing nets k) (refs_of t)) (taken_tabled lib placing nets (k + 1) ts)
+taken_tabled lib placing nets k (t ∷ ts) =
+    both _ (taken_from lib placing nets (k + 1) ts)
+    (each (ref_taken lib placing nets k) (ref_taken_tabled lib placing nets k) (refs_of t))
+    (taken_tabled lib placing nets (k + 1) ts)
 
 pins_tabled : (lib : Library) (placing : Placing) (ts : List Tree) → AreTabled (pins_taken lib placing ts)
 unfolding pins_taken
@@ -47,13 +56,17 @@ pins_tabled lib placing ts = taken_tabled lib placing (map (net_pins lib placing
 -- ---- nets
 net_tabled : (nm : ℕ) (lib : Library) (placing : Placing) (t : Tree) → AreTabled (net_refusals nm lib placing t)
 unfolding net_refusals
-net_tabled nm lib placing t = both _ _ (quoted_tabled t 1) (both _ _ (each (ref_refusals lib placing) (ref_tabled lib placing) (refs_of t)) (rules_tabled nm (rules_in (t ∷ []))))
+net_tabled nm lib placing t =
+    both _ _ (quoted_tabled t 1)
+    (both _ _ (each (ref_refusals lib placing) (ref_tabled lib placing) (refs_of t))
+    (rules_tabled nm (rules_in (t ∷ []))))
 
 limit_tabled : (o : Option Tree) → AreTabled (net_past_limit o)
 limit_tabled None = none
 limit_tabled (Some t) = passed Nets (at_of t) (λ e. cc)
 
-nets_tabled : (nm : ℕ) (lib : Library) (placing : Placing) (ts : List Tree) → AreTabled (nets_refusals nm lib placing ts)
+nets_tabled : (nm : ℕ) (lib : Library) (placing : Placing) (ts : List Tree)
+    → AreTabled (nets_refusals nm lib placing ts)
 unfolding nets_refusals
 nets_tabled nm lib placing ts =
     both _ _ (names_tabled 1 ts)
@@ -63,7 +76,9 @@ nets_tabled nm lib placing ts =
 -- ---- classes
 vias_tabled : (stacks : List (List ℕ)) (ts : List Tree) → AreTabled (via_refusals stacks ts)
 unfolding via_refusals
-vias_tabled stacks ts = each (unknown_via stacks) (λ w. where_fails (is_some (first_place (text_of w) stacks)) 14 (at_of w) refl) (words_in 1 ts)
+vias_tabled stacks ts =
+    each (unknown_via stacks) (λ w. where_fails (is_some (first_place (text_of w) stacks)) 14 (at_of w) refl)
+    (words_in 1 ts)
 
 class_tabled : (nm : ℕ) (stacks : List (List ℕ)) (t : Tree) → AreTabled (class_refusals nm stacks t)
 unfolding class_refusals
@@ -76,11 +91,14 @@ left_out_tabled sections nets classes =
     both _ _ (both _ _ (all_left_out_tabled sections) (all_left_out_tabled nets))
     (both _ _ (all_left_out_tabled classes) (all_left_out_tabled (circuits_in classes)))
 
-parts_tabled : (nm : ℕ) (lib : Library) (placing : Placing) (sections nets classes : List Tree) → AreTabled (refusals_of nm lib placing sections nets classes)
+parts_tabled : (nm : ℕ) (lib : Library) (placing : Placing) (sections nets classes : List Tree)
+    → AreTabled (refusals_of nm lib placing sections nets classes)
 unfolding refusals_of
 parts_tabled nm lib placing sections nets classes =
     both _ _ (left_out_tabled sections nets classes)
-    (both _ _ (nets_tabled nm lib placing nets) (each (class_refusals nm (stack_names lib.stacks)) (class_tabled nm (stack_names lib.stacks)) classes))
+    (both _ _ (nets_tabled nm lib placing nets)
+    (each (class_refusals nm (stack_names lib.stacks)) (class_tabled nm (stack_names lib.stacks)) classes))
 
-pub network_tabled : (nm : ℕ) (lib : Library) (placing : Placing) (pcb : Tree) → AreTabled (network_refusals nm lib placing pcb)
+pub network_tabled : (nm : ℕ) (lib : Library) (placing : Placing) (pcb : Tree)
+    → AreTabled (network_refusals nm lib placing pcb)
 network_tabled nm lib placing pcb = parts_tabled nm lib placing (networks pcb) (net_lists pcb) (class_lists pcb)

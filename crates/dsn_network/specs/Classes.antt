@@ -1,5 +1,6 @@
 -- Classes of nets: the nets that they name, the padstacks of their vias, and their rules.
-use Rattle.std.specs.Prelude.{◌==◌, ◌+◌, ◌&&◌, ℕ, Bool, List, [], ◌∷◌, ◌++◌, Option, Some, None, codes, length, map, not, is_some, count_by, if◌then◌else◌}
+use Rattle.std.specs.Prelude.{◌==◌, ◌+◌, ◌&&◌, ℕ, Bool, List, [], ◌∷◌, ◌++◌, Option, Some, None, codes, length, map}
+use Rattle.std.specs.Prelude.{not, is_some, count_by, if◌then◌else◌}
 use Rattle.std.specs.List.{flat_map, list_any}
 use Rattle.std.specs.Option.{option_map, option_or}
 use Rattle.std.specs.Str.{bytes_eq}
@@ -61,7 +62,8 @@ vias_of stacks ts = if length ts == 0 then None else Some (map (via_stack stacks
 -- ---- the whole
 -- a class, where the padstacks have these names
 unfoldable pub read_class_of : ℕ → List (List ℕ) → Tree → ReadClass
-read_class_of nm stacks t = record { vias = vias_of stacks (via_lists (t ∷ [])); rules = rule_set nm (rules_in (t ∷ [])) }
+read_class_of nm stacks t =
+    record { vias = vias_of stacks (via_lists (t ∷ [])); rules = rule_set nm (rules_in (t ∷ [])) }
 
 unfoldable pub class_refusals : ℕ → List (List ℕ) → Tree → List Refusal
 class_refusals nm stacks t = via_refusals stacks (via_lists (t ∷ [])) ++ rule_refusals nm (rules_in (t ∷ []))

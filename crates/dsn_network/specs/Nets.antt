@@ -1,5 +1,6 @@
 -- Nets: their pins, each of which one net alone may name, and their rules.
-use Rattle.std.specs.Prelude.{◌==◌, ◌&&◌, ◌+◌, ℕ, Bool, false, List, [], ◌∷◌, ◌++◌, Option, Some, None, is_some, codes, map, fold, slice_get, if◌then◌else◌}
+use Rattle.std.specs.Prelude.{◌==◌, ◌&&◌, ◌+◌, ℕ, Bool, false, List, [], ◌∷◌, ◌++◌, Option, Some, None, is_some, codes}
+use Rattle.std.specs.Prelude.{map, fold, slice_get, if◌then◌else◌}
 use Rattle.std.specs.List.{flat_map, list_any, position_from}
 use Rattle.std.specs.Option.{option_map_or}
 use Rattle.dsn_tree.specs.declared.tree.Tree.{Tree}
@@ -80,7 +81,8 @@ ref_taken lib placing nets k w = split_taken nets k (at_of w) (split_of lib plac
 -- of these nets, the first of which is number k of all
 abbrev pub taken_from : Library → Placing → List (List PinRef) → ℕ → List Tree → List Refusal
 taken_from lib placing nets k [] = []
-taken_from lib placing nets k (t ∷ ts) = flat_map (ref_taken lib placing nets k) (refs_of t) ++ taken_from lib placing nets (k + 1) ts
+taken_from lib placing nets k (t ∷ ts) =
+    flat_map (ref_taken lib placing nets k) (refs_of t) ++ taken_from lib placing nets (k + 1) ts
 
 -- the references by which a second net names a pin
 unfoldable pub pins_taken : Library → Placing → List Tree → List Refusal
@@ -89,10 +91,17 @@ pins_taken lib placing ts = taken_from lib placing (map (net_pins lib placing) t
 -- ---- the whole
 -- a net, where the design has these class lists
 unfoldable pub net_of : ℕ → Library → Placing → List Tree → Tree → ReadNet
-net_of nm lib placing classes t = record { name = name_of t 1; pins = net_pins lib placing t; rules = rule_set nm (rules_in (t ∷ [])); class = class_of (name_of t 1) classes }
+net_of nm lib placing classes t =
+    record {
+      name = name_of t 1;
+      pins = net_pins lib placing t;
+      rules = rule_set nm (rules_in (t ∷ []));
+      class = class_of (name_of t 1) classes;
+    }
 
 unfoldable pub net_refusals : ℕ → Library → Placing → Tree → List Refusal
-net_refusals nm lib placing t = quoted_name t 1 ++ (flat_map (ref_refusals lib placing) (refs_of t) ++ rule_refusals nm (rules_in (t ∷ [])))
+net_refusals nm lib placing t =
+    quoted_name t 1 ++ (flat_map (ref_refusals lib placing) (refs_of t) ++ rule_refusals nm (rules_in (t ∷ [])))
 
 -- the first net past the limit
 abbrev pub net_past_limit : Option Tree → List Refusal
@@ -101,4 +110,6 @@ net_past_limit (Some t) = record { number = 23; at = at_of t; what = Nets; limit
 
 -- nets that are together the design's
 unfoldable pub nets_refusals : ℕ → Library → Placing → List Tree → List Refusal
-nets_refusals nm lib placing ts = same_names 1 ts ++ (net_past_limit (slice_get ts 65536) ++ (flat_map (net_refusals nm lib placing) ts ++ pins_taken lib placing ts))
+nets_refusals nm lib placing ts =
+    same_names 1 ts
+    ++ (net_past_limit (slice_get ts 65536) ++ (flat_map (net_refusals nm lib placing) ts ++ pins_taken lib placing ts))

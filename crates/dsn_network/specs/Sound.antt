@@ -1,5 +1,6 @@
 -- Sound networks: nets whose names and pins differ, and classes whose vias have their padstacks.
-use Rattle.std.specs.Prelude.{◌≡◌, ◌≢◌, ◌<◌, ◌≤◌, ◌^◌, ℕ, true, All, AllPairs, Contains, IfSome, is_some, length, slice_get}
+use Rattle.std.specs.Prelude.{◌≡◌, ◌≢◌, ◌<◌, ◌≤◌, ◌^◌, ℕ, true, All, AllPairs, Contains, IfSome, is_some, length}
+use Rattle.std.specs.Prelude.{slice_get}
 use Rattle.std.specs.Option.{IsSomeAnd}
 use Rattle.pcb_model.specs.Sound.{IsPrintable}
 use Rattle.dsn_shapes.specs.declared.parts.Image.{Image}
@@ -22,7 +23,8 @@ IsImagePin lib r p = IsSomeAnd (slice_get lib.images p.image) (λ (i : Image). r
 
 -- and the component is placed
 abbrev pub IsPlacedPin : Library → Placing → PinRef → Type 0
-IsPlacedPin lib placing r = IsSomeAnd (slice_get placing.places r.place) (λ (p : Place). (is_some p.at ≡ true) × IsImagePin lib r p)
+IsPlacedPin lib placing r =
+    IsSomeAnd (slice_get placing.places r.place) (λ (p : Place). (is_some p.at ≡ true) × IsImagePin lib r p)
 
 -- a net's name can be printed, its pins are of placed components and differ, and its class is one of so many
 pub record IsReadNetSound (lib : Library) (placing : Placing) (classes : ℕ) (n : ReadNet) : Type 0 where

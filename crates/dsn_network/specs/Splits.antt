@@ -43,13 +43,15 @@ pin_at lib places name (Some k) = pin_of_place lib k name (slice_get places k)
 
 -- the pin `name` of the component `component`
 unfoldable pub pin_named : Library → Placing → List ℕ → List ℕ → Option PinRef
-pin_named lib placing component name = pin_at lib placing.places name (first_place component (place_names placing.places))
+pin_named lib placing component name =
+    pin_at lib placing.places name (first_place component (place_names placing.places))
 
 -- ---- splits
 -- the pins that are named by the splits of a text at its hyphens, where `front` stands before it
 abbrev pub fits_from : (List ℕ → List ℕ → Option PinRef) → List ℕ → List ℕ → List PinRef
 fits_from named front [] = []
-fits_from named front (b ∷ text) = (if b == 45 then option_to_list (named front text) else []) ++ fits_from named (front ++ b ∷ []) text
+fits_from named front (b ∷ text) =
+    (if b == 45 then option_to_list (named front text) else []) ++ fits_from named (front ++ b ∷ []) text
 
 -- no split fits, one, or several
 abbrev pub split_by : List PinRef → Split

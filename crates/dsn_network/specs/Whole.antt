@@ -48,7 +48,8 @@ network_left_out sections nets classes = nets_left_out sections nets ++ classes_
 
 -- a class's name of no net is passed over too
 unfoldable pub network_passed : List Tree → List Tree → List Tree → ℕ
-network_passed sections nets classes = nets_passed sections nets + (classes_passed classes + stray_names (names_at 1 nets) classes)
+network_passed sections nets classes =
+    nets_passed sections nets + (classes_passed classes + stray_names (names_at 1 nets) classes)
 
 -- ---- the whole
 -- all refusals of a network with these sections, nets and classes

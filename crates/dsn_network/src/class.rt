@@ -8,7 +8,8 @@ ghost use Rattle.dsn_shapes.specs.Refusals.{noted};
 ghost use Rattle.dsn_shapes.specs.Rules.{rule_notes};
 ghost use Rattle.dsn_network.specs.Words.{rules_in};
 ghost use Rattle.dsn_network.specs.Whole.{rules_passed};
-ghost use Rattle.dsn_network.specs.Classes.{class_refusals, read_class_of, unknown_via, via_lists, via_refusals, via_stack, vias_of};
+ghost use Rattle.dsn_network.specs.Classes.{class_refusals, read_class_of, unknown_via, via_lists, via_refusals};
+ghost use Rattle.dsn_network.specs.Classes.{via_stack, vias_of};
 
 use crate::words::words_in;
 use dsn_shapes::{
@@ -122,7 +123,8 @@ fn read_each_class(
     stacks: &NameIndex,
     scale: Scale,
 ) -> Result<Classes, AllocError>
-    ensures noted { OnOk result (first.new ≡ noted first.old (flat_map (class_refusals scale.nm stacks.now) (trees_of trees.now))) }
+    ensures noted { OnOk result
+        (first.new ≡ noted first.old (flat_map (class_refusals scale.nm stacks.now) (trees_of trees.now))) }
     ensures classes { IfOk result (λ v. v.classes ≡ map (read_class_of scale.nm stacks.now) (trees_of trees.now)) }
     ensures notes { IfOk result (λ v. v.notes ≡ capped (rules_passed (trees_of trees.now))) }
 {
@@ -144,7 +146,8 @@ pub(crate) fn read_classes(
     stacks: &NameIndex,
     scale: Scale,
 ) -> Result<Classes, AllocError>
-    ensures noted { OnOk result (first.new ≡ noted first.old (flat_map (class_refusals scale.nm stacks.now) lists.now)) }
+    ensures noted { OnOk result
+        (first.new ≡ noted first.old (flat_map (class_refusals scale.nm stacks.now) lists.now)) }
     ensures classes { IfOk result (λ v. v.classes ≡ map (read_class_of scale.nm stacks.now) lists.now) }
     ensures notes { IfOk result (λ v. v.notes ≡ capped (rules_passed lists.now)) }
 {

@@ -17,14 +17,17 @@ use std::collections::BTreeMap;
 type NameMap<'a> = BTreeMap<&'a [u8], usize>;
 
 fn keep_last<'a>(map: &mut NameMap<'a>, name: &'a [u8], class: usize) -> Result<(), AllocError>
-    ensures { OnOk result ((q : List ℕ) → place_by map.new q ≡ cond (bytes_eq name.now q) (Some class) (place_by map.old q)) }
+    ensures { OnOk result ((q : List ℕ)
+        → place_by map.new q ≡ cond (bytes_eq name.now q) (Some class) (place_by map.old q)) }
 {
     map.insert(name, class)?;
     Ok(())
 }
 
 fn keep_names<'a>(map: &mut NameMap<'a>, words: &[&'a Tree], class: usize) -> Result<(), AllocError>
-    ensures { OnOk result ((q : List ℕ) → place_by map.new q ≡ (if list_any (λ w. bytes_eq (text_of w) q) (trees_of words.now) then Some class else place_by map.old q)) }
+    ensures { OnOk result ((q : List ℕ)
+        → place_by map.new q ≡ (if list_any (λ w. bytes_eq (text_of w) q) (trees_of words.now) then Some class
+        else place_by map.old q)) }
 {
     for word in words {
         keep_last(map, text_of(word), class)?;

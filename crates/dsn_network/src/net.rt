@@ -7,7 +7,8 @@ ghost use Rattle.dsn_shapes.specs.Lists.{capped, trees_of};
 ghost use Rattle.dsn_shapes.specs.Names.{names_at};
 ghost use Rattle.dsn_shapes.specs.Refusals.{noted};
 ghost use Rattle.dsn_shapes.specs.Rules.{rule_notes};
-ghost use Rattle.dsn_network.specs.Nets.{net_of, net_past_limit, net_pins, net_refusals, nets_refusals, pins_taken, ref_refusals, refs_of};
+ghost use Rattle.dsn_network.specs.Nets.{net_of, net_past_limit, net_pins, net_refusals, nets_refusals, pins_taken};
+ghost use Rattle.dsn_network.specs.Nets.{ref_refusals, refs_of};
 ghost use Rattle.dsn_network.specs.Owners.{pins_of};
 ghost use Rattle.dsn_network.specs.Whole.{rules_passed};
 ghost use Rattle.dsn_network.specs.Words.{rules_in};
@@ -32,7 +33,9 @@ fn read_pins(
     tree: &Tree,
     pins: &PinIndex,
 ) -> Result<List<PinRef>, AllocError>
-    ensures noted { OnOk result (first.new ≡ noted first.old (flat_map (ref_refusals pins.now.lib.now pins.now.placing.now) (refs_of tree.now))) }
+    ensures noted { OnOk result
+        (first.new ≡ noted first.old
+        (flat_map (ref_refusals pins.now.lib.now pins.now.placing.now) (refs_of tree.now))) }
     ensures value { IfOk result (λ v. v ≡ net_pins pins.now.lib.now pins.now.placing.now tree.now) }
 {
     let words = refs_of(alloc, tree)?;
@@ -56,8 +59,10 @@ fn read_net(
     pins: &PinIndex,
     classes: &ClassIndex,
 ) -> Result<Counted, AllocError>
-    ensures noted { OnOk result (first.new ≡ noted first.old (net_refusals scale.nm pins.now.lib.now pins.now.placing.now tree.now)) }
-    ensures net { IfOk result (λ v. v.net ≡ net_of scale.nm pins.now.lib.now pins.now.placing.now classes.now.lists.now tree.now) }
+    ensures noted { OnOk result
+        (first.new ≡ noted first.old (net_refusals scale.nm pins.now.lib.now pins.now.placing.now tree.now)) }
+    ensures net { IfOk result
+        (λ v. v.net ≡ net_of scale.nm pins.now.lib.now pins.now.placing.now classes.now.lists.now tree.now) }
     ensures notes { IfOk result (λ v. v.notes ≡ capped (rule_notes (rules_in (tree.now ∷ [])))) }
 {
     let rules = Trees::in_list(alloc, tree, b"rule")?;
@@ -92,8 +97,12 @@ fn read_each_net(
     pins: &PinIndex,
     classes: &ClassIndex,
 ) -> Result<Nets, AllocError>
-    ensures noted { OnOk result (first.new ≡ noted first.old (flat_map (net_refusals scale.nm pins.now.lib.now pins.now.placing.now) (trees_of trees.now))) }
-    ensures nets { IfOk result (λ v. v.nets ≡ map (net_of scale.nm pins.now.lib.now pins.now.placing.now classes.now.lists.now) (trees_of trees.now)) }
+    ensures noted { OnOk result
+        (first.new ≡ noted first.old
+        (flat_map (net_refusals scale.nm pins.now.lib.now pins.now.placing.now) (trees_of trees.now))) }
+    ensures nets { IfOk result
+        (λ v. v.nets ≡ map (net_of scale.nm pins.now.lib.now pins.now.placing.now classes.now.lists.now)
+        (trees_of trees.now)) }
     ensures notes { IfOk result (λ v. v.notes ≡ capped (rules_passed (trees_of trees.now))) }
 {
     let mut nets = List::new(alloc);
@@ -151,8 +160,11 @@ pub(crate) fn read_nets(
     classes: &ClassIndex,
 ) -> Result<Nets, AllocError>
     requires { names.now ≡ names_at 1 lists.now }
-    ensures noted { OnOk result (first.new ≡ noted first.old (nets_refusals scale.nm pins.now.lib.now pins.now.placing.now lists.now)) }
-    ensures nets { IfOk result (λ v. v.nets ≡ map (net_of scale.nm pins.now.lib.now pins.now.placing.now classes.now.lists.now) lists.now) }
+    ensures noted { OnOk result
+        (first.new ≡ noted first.old (nets_refusals scale.nm pins.now.lib.now pins.now.placing.now lists.now)) }
+    ensures nets { IfOk result
+        (λ v. v.nets ≡ map (net_of scale.nm pins.now.lib.now pins.now.placing.now classes.now.lists.now)
+        lists.now) }
     ensures notes { IfOk result (λ v. v.notes ≡ capped (rules_passed lists.now)) }
 {
     names.refuse_same(first, lists, 1);

@@ -9,7 +9,9 @@ ghost use Rattle.dsn_shapes.specs.Refusals.{Reads, noted};
 ghost use Rattle.dsn_network.specs.Classes.{class_refusals, read_class_of};
 ghost use Rattle.dsn_network.specs.Nets.{net_of, nets_refusals};
 ghost use Rattle.dsn_network.specs.Sound.{HasFewPlaces, IsNetworkSound};
-ghost use Rattle.dsn_network.specs.Whole.{class_lists, classes_left_out, classes_passed, net_lists, nets_left_out, nets_passed, network_left_out, network_of, network_passed, network_refusals, networks, refusals_of, rules_passed, value_of};
+ghost use Rattle.dsn_network.specs.Whole.{class_lists, classes_left_out, classes_passed, net_lists, nets_left_out};
+ghost use Rattle.dsn_network.specs.Whole.{nets_passed, network_left_out, network_of, network_passed};
+ghost use Rattle.dsn_network.specs.Whole.{network_refusals, networks, refusals_of, rules_passed, value_of};
 
 use crate::class::{Classes, read_classes};
 use crate::classes::{ClassIndex, stray_names};
@@ -81,7 +83,8 @@ fn pass_over_network(
     names: &NameIndex,
 ) -> Result<u64, AllocError>
     requires { names.now ≡ names_at 1 parts.now.nets }
-    ensures noted { OnOk result (first.new ≡ noted first.old (network_left_out parts.now.networks parts.now.nets parts.now.classes)) }
+    ensures noted { OnOk result
+        (first.new ≡ noted first.old (network_left_out parts.now.networks parts.now.nets parts.now.classes)) }
     ensures value { IfOk result (λ n. n ≡ capped (network_passed parts.now.networks parts.now.nets parts.now.classes)) }
 {
     let in_nets = pass_over_nets(first, &parts.networks, &parts.nets);
@@ -100,8 +103,10 @@ fn nets_of(
     placing: &Placing,
 ) -> Result<Nets, AllocError>
     requires { names.now ≡ names_at 1 parts.now.nets }
-    ensures noted { OnOk result (first.new ≡ noted first.old (nets_refusals scale.nm lib.now placing.now parts.now.nets)) }
-    ensures nets { IfOk result (λ v. v.nets ≡ map (net_of scale.nm lib.now placing.now parts.now.classes) parts.now.nets) }
+    ensures noted { OnOk result
+        (first.new ≡ noted first.old (nets_refusals scale.nm lib.now placing.now parts.now.nets)) }
+    ensures nets { IfOk result
+        (λ v. v.nets ≡ map (net_of scale.nm lib.now placing.now parts.now.classes) parts.now.nets) }
     ensures notes { IfOk result (λ v. v.notes ≡ capped (rules_passed parts.now.nets)) }
 {
     let pins = PinIndex::of(alloc, lib, placing)?;
@@ -116,8 +121,10 @@ fn classes_of(
     scale: Scale,
     lib: &Library,
 ) -> Result<Classes, AllocError>
-    ensures noted { OnOk result (first.new ≡ noted first.old (flat_map (class_refusals scale.nm (stack_names lib.now.stacks)) lists.now)) }
-    ensures classes { IfOk result (λ v. v.classes ≡ map (read_class_of scale.nm (stack_names lib.now.stacks)) lists.now) }
+    ensures noted { OnOk result
+        (first.new ≡ noted first.old (flat_map (class_refusals scale.nm (stack_names lib.now.stacks)) lists.now)) }
+    ensures classes { IfOk result
+        (λ v. v.classes ≡ map (read_class_of scale.nm (stack_names lib.now.stacks)) lists.now) }
     ensures notes { IfOk result (λ v. v.notes ≡ capped (rules_passed lists.now)) }
 {
     let stacks = names_of(alloc, lib.stacks.as_slice())?;
@@ -133,8 +140,11 @@ fn read_sections(
     lib: &Library,
     placing: &Placing,
 ) -> Result<Network, AllocError>
-    ensures noted { OnOk result (first.new ≡ noted first.old (refusals_of scale.nm lib.now placing.now parts.now.networks parts.now.nets parts.now.classes)) }
-    ensures value { IfOk result (λ v. v ≡ value_of scale.nm lib.now placing.now parts.now.networks parts.now.nets parts.now.classes) }
+    ensures noted { OnOk result
+        (first.new ≡ noted first.old
+        (refusals_of scale.nm lib.now placing.now parts.now.networks parts.now.nets parts.now.classes)) }
+    ensures value { IfOk result
+        (λ v. v ≡ value_of scale.nm lib.now placing.now parts.now.networks parts.now.nets parts.now.classes) }
 {
     let names = NameIndex::new(alloc, &parts.nets, 1)?;
     let beside = pass_over_network(alloc, first, parts, &names)?;
@@ -177,7 +187,8 @@ pub fn read_network(
     lib: &Library,
     placing: &Placing,
 ) -> Result<Network, ReadFault>
-    ensures reads { Reads (network_refusals s.nm lib.now placing.now pcb.now) (λ v. v ≡ network_of s.nm lib.now placing.now pcb.now) result }
+    ensures reads { Reads (network_refusals s.nm lib.now placing.now pcb.now)
+        (λ v. v ≡ network_of s.nm lib.now placing.now pcb.now) result }
     ensures sound { HasFewPlaces placing.now → IfOk result (IsNetworkSound lib.now placing.now) }
 {
     let mut first = None;

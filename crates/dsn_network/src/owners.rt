@@ -29,7 +29,8 @@ fn find_pin(map: &PinMap, pin: PinRef) -> Option<usize>
 
 // Keeps the net of a pin that has none yet.
 fn keep_pin(map: &mut PinMap, pin: PinRef, net: usize) -> Result<(), AllocError>
-    ensures { OnOk result ((q : ThePin) → net_by map.new q ≡ option_or (net_by map.old q) (if is_pin q pin then Some net else None)) }
+    ensures { OnOk result ((q : ThePin)
+        → net_by map.new q ≡ option_or (net_by map.old q) (if is_pin q pin then Some net else None)) }
 {
     if find_pin(map, pin).is_none() {
         map.insert((pin.place, pin.pin), net)?;
@@ -54,7 +55,8 @@ pub(crate) fn each_once(alloc: Global, pins: &[PinRef]) -> Result<List<PinRef>, 
 }
 
 fn keep_pins(map: &mut PinMap, pins: &[PinRef], net: usize) -> Result<(), AllocError>
-    ensures { OnOk result ((q : ThePin) → net_by map.new q ≡ option_or (net_by map.old q) (if has_pin q pins.now then Some net else None)) }
+    ensures { OnOk result ((q : ThePin)
+        → net_by map.new q ≡ option_or (net_by map.old q) (if has_pin q pins.now then Some net else None)) }
 {
     for pin in pins {
         keep_pin(map, *pin, net)?;
@@ -112,7 +114,8 @@ impl<'a> Owners<'a> {
 
 #[tactic(auto, unfolding(crate::specs::Nets::ref_taken))]
 fn refuse_ref(first: &mut Option<Refusal>, word: &Tree, k: usize, owners: &Owners, pins: &PinIndex)
-    ensures { first.new ≡ noted first.old (ref_taken pins.now.lib.now pins.now.placing.now (pins_of owners.now) k word.now) }
+    ensures { first.new
+        ≡ noted first.old (ref_taken pins.now.lib.now pins.now.placing.now (pins_of owners.now) k word.now) }
 {
     match split_at(word, pins) {
         Split::Unknown => {}
@@ -132,7 +135,9 @@ fn refuse_refs(
     owners: &Owners,
     pins: &PinIndex,
 )
-    ensures { first.new ≡ noted first.old (flat_map (ref_taken pins.now.lib.now pins.now.placing.now (pins_of owners.now) k) (trees_of words.now)) }
+    ensures { first.new
+        ≡ noted first.old
+        (flat_map (ref_taken pins.now.lib.now pins.now.placing.now (pins_of owners.now) k) (trees_of words.now)) }
 {
     for word in words {
         refuse_ref(first, word, k, owners, pins);
@@ -148,7 +153,9 @@ pub(crate) fn refuse_taken(
     owners: &Owners,
     pins: &PinIndex,
 ) -> Result<(), AllocError>
-    ensures { OnOk result (first.new ≡ noted first.old (taken_from pins.now.lib.now pins.now.placing.now (pins_of owners.now) 0 (trees_of nets.now))) }
+    ensures { OnOk result
+        (first.new ≡ noted first.old
+        (taken_from pins.now.lib.now pins.now.placing.now (pins_of owners.now) 0 (trees_of nets.now))) }
 {
     for (k, net) in nets.iter().enumerate() {
         let words = refs_of(alloc, net)?;

@@ -71,8 +71,11 @@ pub(crate) fn read_refs(
     words: &[&Tree],
     pins: &PinIndex,
 ) -> Result<List<PinRef>, AllocError>
-    ensures noted { OnOk result (first.new ≡ noted first.old (flat_map (ref_refusals pins.now.lib.now pins.now.placing.now) (trees_of words.now))) }
-    ensures value { IfOk result (λ v. v ≡ flat_map (ref_pins pins.now.lib.now pins.now.placing.now) (trees_of words.now)) }
+    ensures noted { OnOk result
+        (first.new ≡ noted first.old
+        (flat_map (ref_refusals pins.now.lib.now pins.now.placing.now) (trees_of words.now))) }
+    ensures value { IfOk result
+        (λ v. v ≡ flat_map (ref_pins pins.now.lib.now pins.now.placing.now) (trees_of words.now)) }
 {
     let mut named = List::new(alloc);
     for word in words {

@@ -1,5 +1,6 @@
 -- Placed copper fits where the copper of the library does.
-use Rattle.std.proofs.Common.{◌≡◌, ◌≤◌, ◌^◌, ◌∙◌, ap, sym, subst, ℕ, suc, cond, true, List, [], ◌∷◌, Option, Some, None, length, get_or, refl, arith}
+use Rattle.std.proofs.Common.{◌≡◌, ◌≤◌, ◌^◌, ◌∙◌, ap, sym, subst, ℕ, suc, cond, true, List, [], ◌∷◌, Option, Some, None}
+use Rattle.std.proofs.Common.{length, get_or, refl, arith}
 use Rattle.std.specs.Prelude.{All, IfSome, is_some, nat_le, slice_get, unsigned_abs}
 use Rattle.std.specs.List.{list_all}
 use Rattle.std.specs.Option.{IsSomeAnd, option_map, option_map_or}
@@ -23,7 +24,9 @@ use Rattle.dsn_shapes.specs.Fits.{IsPlainShape, IsShapeFit}
 use Rattle.dsn_placement.specs.declared.seat.Seat.{Seat}
 use Rattle.dsn_placement.specs.declared.seat.Stand.{Stand}
 use Rattle.dsn_placement.specs.Placed.{flipped, is_near}
-use Rattle.dsn_placement.specs.Copper.{all_or_none, ban_copper, bare_seat, in_image, is_image_placed, is_pin_placed, is_spine_placed, layers_at, on_layers, pin_centre, pin_copper, pin_seat, placed_shape, placed_spine, seat_point, stack_shapes, with_first}
+use Rattle.dsn_placement.specs.Copper.{all_or_none, ban_copper, bare_seat, in_image, is_image_placed, is_pin_placed}
+use Rattle.dsn_placement.specs.Copper.{is_spine_placed, layers_at, on_layers, pin_centre, pin_copper, pin_seat}
+use Rattle.dsn_placement.specs.Copper.{placed_shape, placed_spine, seat_point, stack_shapes, with_first}
 use Rattle.pcb_model.proofs.Within.{All-at}
 use Rattle.dsn_placement.proofs.Placed.{ban_there, pin_there}
 
@@ -38,16 +41,22 @@ record Firsts {X : Type 0} (o : Option X) (os : Option (List X)) (xs : List X) :
 firsts : {X : Type 0} (o : Option X) (os : Option (List X)) (xs : List X) → with_first o os ≡ Some xs → Firsts o os xs
 firsts None os xs e = absurd (cc)
 firsts (Some x) None xs e = absurd (cc)
-firsts (Some x) (Some rest) xs e = record { head = x; rest = rest; head_is = refl; rest_is = refl; whole_is = same_Some (x ∷ rest) xs e }
+firsts (Some x) (Some rest) xs e =
+    record { head = x; rest = rest; head_is = refl; rest_is = refl; whole_is = same_Some (x ∷ rest) xs e }
 
 -- what holds of each of some, and what it gives for each that is placed
-each_placed : {X Y : Type 0} (f : X → Option Y) (P : X → Type 0) (Q : Y → Type 0) → ((x : X) (y : Y) → P x → f x ≡ Some y → Q y) → (xs : List X) (ys : List Y) → All P xs → all_or_none f xs ≡ Some ys → All Q ys
+each_placed : {X Y : Type 0} (f : X → Option Y) (P : X → Type 0) (Q : Y → Type 0)
+    → ((x : X) (y : Y) → P x → f x ≡ Some y → Q y) → (xs : List X) (ys : List Y) → All P xs → all_or_none f xs ≡ Some ys
+    → All Q ys
 each_placed f P Q h [] ys a e = subst (All Q) (same_Some [] ys e) (All-nil Q)
 each_placed f P Q h (x ∷ xs) ys a e =
     let s = firsts (f x) (all_or_none f xs) ys e in
-    subst (All Q) s.whole_is (All-cons Q s.head s.rest (h x s.head (All-head P x xs a) s.head_is) (each_placed f P Q h xs s.rest (All-tail P x xs a) s.rest_is))
+    subst (All Q) s.whole_is
+    (All-cons Q s.head s.rest (h x s.head (All-head P x xs a) s.head_is)
+    (each_placed f P Q h xs s.rest (All-tail P x xs a) s.rest_is))
 
-same_count : {X Y : Type 0} (f : X → Option Y) (xs : List X) (ys : List Y) → all_or_none f xs ≡ Some ys → length ys ≡ length xs
+same_count : {X Y : Type 0} (f : X → Option Y) (xs : List X) (ys : List Y) → all_or_none f xs ≡ Some ys
+    → length ys ≡ length xs
 same_count f [] ys e = ap length (sym (same_Some [] ys e))
 same_count f (x ∷ xs) ys e =
     let s = firsts (f x) (all_or_none f xs) ys e in
@@ -62,7 +71,9 @@ near_within q p e =
 
 pub point_within : (seat : Seat) (p q : Point) → seat_point seat p ≡ Some q → IsWithin (2 ^ 29) q
 unfolding seat_point
-point_within seat p q e = near_within (moved seat.stand.at (flipped seat.stand.back seat.stand.flip_last seat.stand.angle (in_image seat.pin p))) q e
+point_within seat p q e =
+    near_within (moved seat.stand.at
+    (flipped seat.stand.back seat.stand.flip_last seat.stand.angle (in_image seat.pin p))) q e
 
 -- the place of a pin is within the plane
 pub centre_within : (stand : Stand) (pin : ImagePin) (q : Point) → pin_centre stand pin ≡ Some q → IsWithin (2 ^ 29) q
@@ -75,8 +86,10 @@ IsAny x = Unit {0}
 any_all : {X : Type 0} (xs : List X) → All IsAny xs
 any_all xs = λ k d l. tt
 
-points_within : (seat : Seat) (ps qs : List Point) → all_or_none (seat_point seat) ps ≡ Some qs → All (IsWithin (2 ^ 29)) qs
-points_within seat ps qs e = each_placed (seat_point seat) IsAny (IsWithin (2 ^ 29)) (λ p q h f. point_within seat p q f) ps qs (any_all ps) e
+points_within : (seat : Seat) (ps qs : List Point) → all_or_none (seat_point seat) ps ≡ Some qs
+    → All (IsWithin (2 ^ 29)) qs
+points_within seat ps qs e =
+    each_placed (seat_point seat) IsAny (IsWithin (2 ^ 29)) (λ p q h f. point_within seat p q f) ps qs (any_all ps) e
 
 -- ---- spines
 record IsSpineFit (s : Spine) : Type 0 where
@@ -92,26 +105,38 @@ mapped : {X Y : Type 0} (f : X → Y) (o : Option X) (y : Y) → option_map f o 
 mapped f None y e = absurd (cc)
 mapped f (Some x) y e = record { from = x; from_is = refl; to_is = same_Some (f x) y e }
 
-chain_fit : (seat : Seat) (ps qs : List Point) → IsWellFormed (Chain ps) → all_or_none (seat_point seat) ps ≡ Some qs → IsSpineFit (Chain qs)
-chain_fit seat ps qs w e = let n = same_count (seat_point seat) ps qs e in record { well_formed = omega arith; within = points_within seat ps qs e }
+chain_fit : (seat : Seat) (ps qs : List Point) → IsWellFormed (Chain ps) → all_or_none (seat_point seat) ps ≡ Some qs
+    → IsSpineFit (Chain qs)
+chain_fit seat ps qs w e = let n = same_count (seat_point seat) ps qs e in
+    record { well_formed = omega arith; within = points_within seat ps qs e }
 
-loop_fit : (seat : Seat) (ps qs : List Point) → 3 ≤ length ps → all_or_none (seat_point seat) ps ≡ Some qs → 3 ≤ length qs
+loop_fit : (seat : Seat) (ps qs : List Point) → 3 ≤ length ps → all_or_none (seat_point seat) ps ≡ Some qs
+    → 3 ≤ length qs
 loop_fit seat ps qs w e = let n = same_count (seat_point seat) ps qs e in omega arith
 
-area_fit : (seat : Seat) (loops placed : List (List Point)) → IsWellFormed (Area loops) → all_or_none (all_or_none (seat_point seat)) loops ≡ Some placed → IsSpineFit (Area placed)
+area_fit : (seat : Seat) (loops placed : List (List Point)) → IsWellFormed (Area loops)
+    → all_or_none (all_or_none (seat_point seat)) loops ≡ Some placed → IsSpineFit (Area placed)
 area_fit seat loops placed w e =
     let n = same_count (all_or_none (seat_point seat)) loops placed e in
     record {
-      well_formed = (omega arith, each_placed (all_or_none (seat_point seat)) (λ loop. 3 ≤ length loop) (λ loop. 3 ≤ length loop) (λ ps qs h f. loop_fit seat ps qs h f) loops placed w.1 e);
-      within = each_placed (all_or_none (seat_point seat)) IsAny (All (IsWithin (2 ^ 29))) (λ ps qs h f. points_within seat ps qs f) loops placed (any_all loops) e;
+      well_formed = (
+        omega arith,
+        each_placed (all_or_none (seat_point seat)) (λ loop. 3 ≤ length loop) (λ loop. 3 ≤ length loop)
+            (λ ps qs h f. loop_fit seat ps qs h f) loops placed w.1 e,
+      );
+      within = each_placed (all_or_none (seat_point seat)) IsAny (All (IsWithin (2 ^ 29)))
+          (λ ps qs h f. points_within seat ps qs f) loops placed (any_all loops) e;
     }
 
 spine_fit : (seat : Seat) (s t : Spine) → IsWellFormed s → placed_spine seat s ≡ Some t → IsSpineFit t
 unfolding placed_spine
-spine_fit seat (Chain ps) t w e = let m = mapped Chain (all_or_none (seat_point seat) ps) t e in subst IsSpineFit m.to_is (chain_fit seat ps m.from w m.from_is)
-spine_fit seat (Area loops) t w e = let m = mapped Area (all_or_none (all_or_none (seat_point seat)) loops) t e in subst IsSpineFit m.to_is (area_fit seat loops m.from w m.from_is)
+spine_fit seat (Chain ps) t w e = let m = mapped Chain (all_or_none (seat_point seat) ps) t e in
+    subst IsSpineFit m.to_is (chain_fit seat ps m.from w m.from_is)
+spine_fit seat (Area loops) t w e = let m = mapped Area (all_or_none (all_or_none (seat_point seat)) loops) t e in
+    subst IsSpineFit m.to_is (area_fit seat loops m.from w m.from_is)
 
-one_loop : (loops placed : List (List Point)) → length placed ≡ length loops → IsSimple (Area loops) → IsSimple (Area placed)
+one_loop : (loops placed : List (List Point)) → length placed ≡ length loops → IsSimple (Area loops)
+    → IsSimple (Area placed)
 one_loop [] placed n h = absurd h
 one_loop (a ∷ b ∷ loops) placed n h = absurd h
 one_loop (a ∷ []) [] n h = absurd (omega arith)
@@ -120,7 +145,8 @@ one_loop (a ∷ []) (b ∷ c ∷ placed) n h = absurd (omega arith)
 
 spine_simple : (seat : Seat) (s t : Spine) → IsSimple s → placed_spine seat s ≡ Some t → IsSimple t
 unfolding placed_spine
-spine_simple seat (Chain ps) t h e = let m = mapped Chain (all_or_none (seat_point seat) ps) t e in subst IsSimple m.to_is tt
+spine_simple seat (Chain ps) t h e = let m = mapped Chain (all_or_none (seat_point seat) ps) t e in
+    subst IsSimple m.to_is tt
 spine_simple seat (Area loops) t h e =
     let m = mapped Area (all_or_none (all_or_none (seat_point seat)) loops) t e in
     subst IsSimple m.to_is (one_loop loops m.from (same_count (all_or_none (seat_point seat)) loops m.from m.from_is) h)
@@ -133,35 +159,47 @@ shape_fit n seat s t h e =
     let f = spine_fit seat s.spine m.from h.well_formed m.from_is in
     subst IsShapeFit m.to_is (record { well_formed = f.well_formed; within = f.within; width_within = h.width_within })
 
-pub shape_plain : (n : ℕ) (seat : Seat) (s t : LayerShape) → IsPlainShape s → placed_shape n seat s ≡ Some t → IsPlainShape t
+pub shape_plain : (n : ℕ) (seat : Seat) (s t : LayerShape) → IsPlainShape s → placed_shape n seat s ≡ Some t
+    → IsPlainShape t
 unfolding placed_shape
 shape_plain n seat s t h e =
     let m = mapped (on_layers (layers_at n seat.stand.back s.layers) s.width) (placed_spine seat s.spine) t e in
     subst IsPlainShape m.to_is (spine_simple seat s.spine m.from h m.from_is)
 
 -- ---- pins and keepouts
-pub pin_fit : (n : ℕ) (stand : Stand) (stacks : List Stack) (pin : ImagePin) (shapes : List LayerShape) → All IsShapeFit (stack_shapes stacks pin) → pin_copper n stand stacks pin ≡ Some shapes → All IsShapeFit shapes
+pub pin_fit : (n : ℕ) (stand : Stand) (stacks : List Stack) (pin : ImagePin) (shapes : List LayerShape)
+    → All IsShapeFit (stack_shapes stacks pin) → pin_copper n stand stacks pin ≡ Some shapes → All IsShapeFit shapes
 unfolding pin_copper
-pin_fit n stand stacks pin shapes a e = each_placed (placed_shape n (pin_seat stand pin)) IsShapeFit IsShapeFit (λ s t h f. shape_fit n (pin_seat stand pin) s t h f) (stack_shapes stacks pin) shapes a e
+pin_fit n stand stacks pin shapes a e =
+    each_placed (placed_shape n (pin_seat stand pin)) IsShapeFit IsShapeFit
+    (λ s t h f. shape_fit n (pin_seat stand pin) s t h f) (stack_shapes stacks pin) shapes a e
 
-pub pin_plain : (n : ℕ) (stand : Stand) (stacks : List Stack) (pin : ImagePin) (shapes : List LayerShape) → All IsPlainShape (stack_shapes stacks pin) → pin_copper n stand stacks pin ≡ Some shapes → All IsPlainShape shapes
+pub pin_plain : (n : ℕ) (stand : Stand) (stacks : List Stack) (pin : ImagePin) (shapes : List LayerShape)
+    → All IsPlainShape (stack_shapes stacks pin) → pin_copper n stand stacks pin ≡ Some shapes → All IsPlainShape shapes
 unfolding pin_copper
-pin_plain n stand stacks pin shapes a e = each_placed (placed_shape n (pin_seat stand pin)) IsPlainShape IsPlainShape (λ s t h f. shape_plain n (pin_seat stand pin) s t h f) (stack_shapes stacks pin) shapes a e
+pin_plain n stand stacks pin shapes a e =
+    each_placed (placed_shape n (pin_seat stand pin)) IsPlainShape IsPlainShape
+    (λ s t h f. shape_plain n (pin_seat stand pin) s t h f) (stack_shapes stacks pin) shapes a e
 
-pub ban_fit : (n : ℕ) (stand : Stand) (ban : BanShape) (shape : LayerShape) → IsShapeFit ban.shape → ban_copper n stand ban ≡ Some shape → IsShapeFit shape
+pub ban_fit : (n : ℕ) (stand : Stand) (ban : BanShape) (shape : LayerShape) → IsShapeFit ban.shape
+    → ban_copper n stand ban ≡ Some shape → IsShapeFit shape
 unfolding ban_copper
 ban_fit n stand ban shape h e = shape_fit n (bare_seat stand) ban.shape shape h e
 
 -- what holds of the shapes of all padstacks holds of a pin's
-shapes_at : (P : LayerShape → Type 0) (o : Option Stack) → IfSome o (λ (s : Stack). All P s.shapes) → All P (option_map_or (λ (s : Stack). s.shapes) o [])
+shapes_at : (P : LayerShape → Type 0) (o : Option Stack) → IfSome o (λ (s : Stack). All P s.shapes)
+    → All P (option_map_or (λ (s : Stack). s.shapes) o [])
 shapes_at P None h = All-nil P
 shapes_at P (Some s) h = h
 
-pub stack_shapes_all : (P : LayerShape → Type 0) (stacks : List Stack) (pin : ImagePin) → All (λ (s : Stack). All P s.shapes) stacks → All P (stack_shapes stacks pin)
-stack_shapes_all P stacks pin a = shapes_at P (slice_get stacks pin.stack) (All-at (λ (s : Stack). All P s.shapes) stacks pin.stack a)
+pub stack_shapes_all : (P : LayerShape → Type 0) (stacks : List Stack) (pin : ImagePin)
+    → All (λ (s : Stack). All P s.shapes) stacks → All P (stack_shapes stacks pin)
+stack_shapes_all P stacks pin a =
+    shapes_at P (slice_get stacks pin.stack) (All-at (λ (s : Stack). All P s.shapes) stacks pin.stack a)
 
 -- ---- images that have their place on the board
-some_and : {X : Type 0} (o : Option X) (P : X → Type 0) → is_some o ≡ true → ((x : X) → o ≡ Some x → P x) → IsSomeAnd o P
+some_and : {X : Type 0} (o : Option X) (P : X → Type 0) → is_some o ≡ true → ((x : X) → o ≡ Some x → P x)
+    → IsSomeAnd o P
 some_and None P h k = absurd (cc)
 some_and (Some x) P h k = k x refl
 
@@ -171,28 +209,45 @@ pub record IsPinLaid (n : ℕ) (stand : Stand) (stacks : List Stack) (pin : Imag
   pub copper : IsSomeAnd (pin_copper n stand stacks pin) (All IsShapeFit)
   pub plain : IsSomeAnd (pin_copper n stand stacks pin) (All IsPlainShape)
 
-pin_laid : (n : ℕ) (stand : Stand) (stacks : List Stack) (pin : ImagePin) → All IsShapeFit (stack_shapes stacks pin) → All IsPlainShape (stack_shapes stacks pin) → is_pin_placed stand stacks pin ≡ true → IsPinLaid n stand stacks pin
+pin_laid : (n : ℕ) (stand : Stand) (stacks : List Stack) (pin : ImagePin) → All IsShapeFit (stack_shapes stacks pin)
+    → All IsPlainShape (stack_shapes stacks pin) → is_pin_placed stand stacks pin ≡ true → IsPinLaid n stand stacks pin
 pin_laid n stand stacks pin fit plain h =
-    let b = and_parts (is_some (pin_centre stand pin)) (is_some (pin_copper n stand stacks pin)) (sym (pin_there n stand stacks pin) ∙ h) in
+    let b = and_parts (is_some (pin_centre stand pin)) (is_some (pin_copper n stand stacks pin))
+    (sym (pin_there n stand stacks pin) ∙ h) in
     record {
       centre = some_and (pin_centre stand pin) (IsWithin (2 ^ 29)) b.0 (centre_within stand pin);
-      copper = some_and (pin_copper n stand stacks pin) (All IsShapeFit) b.1 (λ shapes e. pin_fit n stand stacks pin shapes fit e);
-      plain = some_and (pin_copper n stand stacks pin) (All IsPlainShape) b.1 (λ shapes e. pin_plain n stand stacks pin shapes plain e);
+      copper = some_and (pin_copper n stand stacks pin) (All IsShapeFit) b.1
+          (λ shapes e. pin_fit n stand stacks pin shapes fit e);
+      plain = some_and (pin_copper n stand stacks pin) (All IsPlainShape) b.1
+          (λ shapes e. pin_plain n stand stacks pin shapes plain e);
     }
 
-pub pins_laid : (n : ℕ) (stand : Stand) (stacks : List Stack) (image : Image) → All (λ (s : Stack). All IsShapeFit s.shapes) stacks → All (λ (s : Stack). All IsPlainShape s.shapes) stacks → is_image_placed stand stacks image ≡ true → All (IsPinLaid n stand stacks) image.pins
+pub pins_laid : (n : ℕ) (stand : Stand) (stacks : List Stack) (image : Image)
+    → All (λ (s : Stack). All IsShapeFit s.shapes) stacks → All (λ (s : Stack). All IsPlainShape s.shapes) stacks
+    → is_image_placed stand stacks image ≡ true → All (IsPinLaid n stand stacks) image.pins
 unfolding is_image_placed
 pins_laid n stand stacks image fit plain h =
-    let pins : list_all (is_pin_placed stand stacks) image.pins ≡ true = (and_parts (list_all (is_pin_placed stand stacks) image.pins) (list_all (λ (ban : BanShape). is_spine_placed (bare_seat stand) ban.shape.spine) image.bans) h).0 in
-    All-weaker (λ pin. is_pin_placed stand stacks pin ≡ true) (IsPinLaid n stand stacks) (λ pin e. pin_laid n stand stacks pin (stack_shapes_all IsShapeFit stacks pin fit) (stack_shapes_all IsPlainShape stacks pin plain) e) image.pins
+    let pins : list_all (is_pin_placed stand stacks) image.pins ≡ true =
+    (and_parts (list_all (is_pin_placed stand stacks) image.pins)
+    (list_all (λ (ban : BanShape). is_spine_placed (bare_seat stand) ban.shape.spine) image.bans) h).0 in
+    All-weaker (λ pin. is_pin_placed stand stacks pin ≡ true) (IsPinLaid n stand stacks)
+    (λ pin e. pin_laid n stand stacks pin (stack_shapes_all IsShapeFit stacks pin fit)
+    (stack_shapes_all IsPlainShape stacks pin plain) e) image.pins
     (AllPass-from_list_all (is_pin_placed stand stacks) image.pins pins)
 
-ban_laid : (n : ℕ) (stand : Stand) (ban : BanShape) → IsShapeFit ban.shape → is_spine_placed (bare_seat stand) ban.shape.spine ≡ true → IsSomeAnd (ban_copper n stand ban) IsShapeFit
-ban_laid n stand ban fit h = some_and (ban_copper n stand ban) IsShapeFit (sym (ban_there n stand ban) ∙ h) (λ shape e. ban_fit n stand ban shape fit e)
+ban_laid : (n : ℕ) (stand : Stand) (ban : BanShape) → IsShapeFit ban.shape
+    → is_spine_placed (bare_seat stand) ban.shape.spine ≡ true → IsSomeAnd (ban_copper n stand ban) IsShapeFit
+ban_laid n stand ban fit h =
+    some_and (ban_copper n stand ban) IsShapeFit (sym (ban_there n stand ban) ∙ h)
+    (λ shape e. ban_fit n stand ban shape fit e)
 
 -- and a keepout
-pub bans_laid : (n : ℕ) (stand : Stand) (stacks : List Stack) (image : Image) → All (λ (b : BanShape). IsShapeFit b.shape) image.bans → is_image_placed stand stacks image ≡ true → All (λ (b : BanShape). IsSomeAnd (ban_copper n stand b) IsShapeFit) image.bans
+pub bans_laid : (n : ℕ) (stand : Stand) (stacks : List Stack) (image : Image)
+    → All (λ (b : BanShape). IsShapeFit b.shape) image.bans → is_image_placed stand stacks image ≡ true
+    → All (λ (b : BanShape). IsSomeAnd (ban_copper n stand b) IsShapeFit) image.bans
 unfolding is_image_placed
 bans_laid n stand stacks image fit h =
-    let placed = AllPass-from_list_all (λ (ban : BanShape). is_spine_placed (bare_seat stand) ban.shape.spine) image.bans (and_parts (list_all (is_pin_placed stand stacks) image.pins) (list_all (λ (ban : BanShape). is_spine_placed (bare_seat stand) ban.shape.spine) image.bans) h).1 in
+    let placed = AllPass-from_list_all (λ (ban : BanShape). is_spine_placed (bare_seat stand) ban.shape.spine)
+    image.bans (and_parts (list_all (is_pin_placed stand stacks) image.pins)
+    (list_all (λ (ban : BanShape). is_spine_placed (bare_seat stand) ban.shape.spine) image.bans) h).1 in
     λ k d l. ban_laid n stand (get_or image.bans k d) (fit k d l) (placed k d l)

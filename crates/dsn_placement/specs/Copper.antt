@@ -1,5 +1,6 @@
 -- What a component puts on the board: placed points, spines and shapes, the copper of its pins and its keepouts.
-use Rattle.std.specs.Prelude.{◌+◌, ◌*◌, ◌/◌, ◌%◌, ◌^◌, ◌<◌, ◌&&◌, ℕ, zero, suc, Bool, List, [], ◌∷◌, Option, Some, None, IfSome, is_some, slice_get, unwrap_or, if◌then◌else◌}
+use Rattle.std.specs.Prelude.{◌+◌, ◌*◌, ◌/◌, ◌%◌, ◌^◌, ◌<◌, ◌&&◌, ℕ, zero, suc, Bool, List, [], ◌∷◌, Option, Some, None}
+use Rattle.std.specs.Prelude.{IfSome, is_some, slice_get, unwrap_or, if◌then◌else◌}
 use Rattle.std.specs.List.{list_all}
 use Rattle.std.specs.Option.{option_map, option_map_or}
 use Rattle.geo_kernel.specs.declared.point.Point.{Point}
@@ -66,7 +67,8 @@ on_layers layers width spine = record { layers = layers; spine = spine; width = 
 
 -- a shape where it is placed on a board of n layers
 unfoldable pub placed_shape : ℕ → Seat → LayerShape → Option LayerShape
-placed_shape n seat s = option_map (on_layers (layers_at n seat.stand.back s.layers) s.width) (placed_spine seat s.spine)
+placed_shape n seat s =
+    option_map (on_layers (layers_at n seat.stand.back s.layers) s.width) (placed_spine seat s.spine)
 
 -- ---- pins and keepouts
 -- where a pin's padstack stands, and where what is of the image itself stands
@@ -97,11 +99,14 @@ is_spine_placed seat spine = is_some (placed_spine seat spine)
 
 -- the pin's own place and each vertex of its padstack have a placed point
 unfoldable pub is_pin_placed : Stand → List Stack → ImagePin → Bool
-is_pin_placed stand stacks pin = is_some (pin_centre stand pin) && list_all (λ (s : LayerShape). is_spine_placed (pin_seat stand pin) s.spine) (stack_shapes stacks pin)
+is_pin_placed stand stacks pin =
+    is_some (pin_centre stand pin) && list_all (λ (s : LayerShape). is_spine_placed (pin_seat stand pin) s.spine)
+    (stack_shapes stacks pin)
 
 -- all of an image has its place on the board
 unfoldable pub is_image_placed : Stand → List Stack → Image → Bool
-is_image_placed stand stacks image = list_all (is_pin_placed stand stacks) image.pins && list_all (λ (ban : BanShape). is_spine_placed (bare_seat stand) ban.shape.spine) image.bans
+is_image_placed stand stacks image = list_all (is_pin_placed stand stacks) image.pins
+    && list_all (λ (ban : BanShape). is_spine_placed (bare_seat stand) ban.shape.spine) image.bans
 
 -- ---- components that are read
 -- where a component stands that is placed

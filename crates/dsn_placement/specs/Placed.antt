@@ -10,7 +10,8 @@ mirrored p = record { x = neg_ℤ p.x; y = p.y }
 
 -- turned by the angle, and on the back with x negated, before the turn or last
 abbrev pub flipped : Bool → Bool → Angle → Point → Point
-flipped back flip_last a p = if back then (if flip_last then mirrored (turned a p) else turned a (mirrored p)) else turned a p
+flipped back flip_last a p =
+    if back then (if flip_last then mirrored (turned a p) else turned a (mirrored p)) else turned a p
 
 abbrev pub is_near : Point → Bool
 is_near p = nat_le (unsigned_abs p.x) (2 ^ 29) && nat_le (unsigned_abs p.y) (2 ^ 29)

@@ -1,5 +1,6 @@
 -- Components, such as `(place R1 125000 -105000 front 0 (PN 10k))`: name, place, side and angle.
-use Rattle.std.specs.Prelude.{◌+◌, ℕ, ℤ, Bool, true, false, List, [], ◌∷◌, ◌++◌, Option, Some, None, codes, is_some, length, map, slice_get, if◌then◌else◌}
+use Rattle.std.specs.Prelude.{◌+◌, ℕ, ℤ, Bool, true, false, List, [], ◌∷◌, ◌++◌, Option, Some, None, codes, is_some}
+use Rattle.std.specs.Prelude.{length, map, slice_get, if◌then◌else◌}
 use Rattle.std.specs.List.{flat_map}
 use Rattle.std.specs.Option.{option_map_or}
 use Rattle.dsn_tree.specs.declared.tree.Tree.{Tree}
@@ -57,7 +58,8 @@ angle_refusal t = option_map_or word_angle_refusal (nth_word t 5) (refused 9 (at
 abbrev pub turn_by : Bool → Point → Option Bool → Option Angle → Option Stand
 turn_by flip_last at None angle = None
 turn_by flip_last at (Some back) None = None
-turn_by flip_last at (Some back) (Some angle) = Some (record { at = at; back = back; flip_last = flip_last; angle = angle })
+turn_by flip_last at (Some back) (Some angle) =
+    Some (record { at = at; back = back; flip_last = flip_last; angle = angle })
 
 abbrev pub stand_by : Bool → Option Point → Option Bool → Option Angle → Option Stand
 stand_by flip_last None back angle = None
@@ -114,7 +116,9 @@ far_refusal at stacks (Some image) None = []
 far_refusal at stacks (Some image) (Some stand) = if is_image_placed stand stacks image then [] else refused 10 at ∷ []
 
 unfoldable pub place_refusals : ℕ → Bool → Library → Option ℕ → Tree → List Refusal
-place_refusals nm flip_last lib image t = quoted_name t 1 ++ (stand_refusals nm t ++ far_refusal (at_of t) lib.stacks (image_at lib image) (stand_in nm flip_last t))
+place_refusals nm flip_last lib image t =
+    quoted_name t 1
+    ++ (stand_refusals nm t ++ far_refusal (at_of t) lib.stacks (image_at lib image) (stand_in nm flip_last t))
 
 abbrev pub place_by : List ℕ → ℕ → Option Stand → Place
 place_by name image None = record { name = name; image = image; at = None; back = false; angle = no_turn }
@@ -137,7 +141,8 @@ abbrev pub places_in : List Tree → List Tree
 places_in cs = lists (codes "place" ∷ []) cs
 
 unfoldable pub component_refusals : ℕ → Bool → Library → Tree → List Refusal
-component_refusals nm flip_last lib c = unknown_at (place_of c 1) (image_place lib c) ++ flat_map (place_refusals nm flip_last lib (image_place lib c)) (places_in (c ∷ []))
+component_refusals nm flip_last lib c = unknown_at (place_of c 1) (image_place lib c)
+    ++ flat_map (place_refusals nm flip_last lib (image_place lib c)) (places_in (c ∷ []))
 
 unfoldable pub component_laid : ℕ → Bool → Library → Tree → List Laid
 component_laid nm flip_last lib c = map (laid_of nm flip_last lib (image_place lib c)) (places_in (c ∷ []))

@@ -42,7 +42,9 @@ adds Vertices l = 0
 -- the component with which the count first passes the limit, where n were counted before these
 abbrev pub past_limit : What → ℕ → ℕ → List Laid → List Refusal
 past_limit what limit n [] = []
-past_limit what limit n (l ∷ ls) = if nat_lt limit (n + adds what l) then record { number = 23; at = l.at; what = what; limit = limit } ∷ [] else past_limit what limit (n + adds what l) ls
+past_limit what limit n (l ∷ ls) = if nat_lt limit (n + adds what l)
+    then record { number = 23; at = l.at; what = what; limit = limit } ∷ []
+    else past_limit what limit (n + adds what l) ls
 
 -- the items of the structure: its boundaries and its keepouts
 abbrev pub items_before : Structure → ℕ

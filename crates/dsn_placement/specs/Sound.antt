@@ -1,5 +1,6 @@
 -- Sound placings: components whose names differ and can be printed, and which stand whole on the board.
-use Rattle.std.specs.Prelude.{◌≡◌, ◌≢◌, ◌<◌, ◌≤◌, ◌^◌, ℕ, Bool, true, All, AllPairs, IfSome, is_some, length, slice_get, sum_by}
+use Rattle.std.specs.Prelude.{◌≡◌, ◌≢◌, ◌<◌, ◌≤◌, ◌^◌, ℕ, Bool, true, All, AllPairs, IfSome, is_some, length, slice_get}
+use Rattle.std.specs.Prelude.{sum_by}
 use Rattle.std.specs.Option.{IsSomeAnd}
 use Rattle.geo_kernel.specs.declared.point.Point.{Point}
 use Rattle.geo_kernel.specs.Plane.{IsWithin}
@@ -18,7 +19,8 @@ pub record HasFewImages (lib : Library) : Type 0 where
 
 -- all of the component's image has its place on the board
 abbrev pub StandsWhole : Bool → Library → Place → Type 0
-StandsWhole flip_last lib p = IsSomeAnd (slice_get lib.images p.image) (λ (i : Image). is_image_placed (stand_of flip_last p) lib.stacks i ≡ true)
+StandsWhole flip_last lib p =
+    IsSomeAnd (slice_get lib.images p.image) (λ (i : Image). is_image_placed (stand_of flip_last p) lib.stacks i ≡ true)
 
 -- its image is one of the library; its place is within 2 ^ 29, and its angle has no whole turns
 pub record IsPlaceSound (flip_last : Bool) (lib : Library) (p : Place) : Type 0 where

@@ -6,7 +6,9 @@ ghost use Rattle.geo_kernel.specs.Plane.{IsWithin};
 ghost use Rattle.geo_kernel.specs.Spine.{IsSpineWithin};
 ghost use Rattle.dsn_shapes.specs.declared.parts.LayerShape.{LayerShape as TheShape};
 ghost use Rattle.dsn_shapes.specs.Within.{IsPinWithin, IsStackWithin};
-ghost use Rattle.dsn_placement.specs.Copper.{IsSeatWithin, IsStandWithin, all_or_none, ban_copper, bare_seat, layers_at, pin_centre, pin_copper, pin_seat, placed_shape, placed_spine, seat_point, stack_shapes, turned_over};
+ghost use Rattle.dsn_placement.specs.Copper.{IsSeatWithin, IsStandWithin, all_or_none, ban_copper, bare_seat};
+ghost use Rattle.dsn_placement.specs.Copper.{layers_at, pin_centre, pin_copper, pin_seat, placed_shape};
+ghost use Rattle.dsn_placement.specs.Copper.{placed_spine, seat_point, stack_shapes, turned_over};
 
 use crate::seat::{Mount, Seat, Stand};
 use dsn_shapes::{BanShape, ImagePin, LayerShape, Stack};

@@ -11,7 +11,12 @@ ghost use Rattle.dsn_shapes.specs.Numbers.{coord_refusal};
 ghost use Rattle.dsn_shapes.specs.Refusals.{noted};
 ghost use Rattle.dsn_shapes.specs.Within.{IsImageWithin, IsLibraryWithin};
 ghost use Rattle.dsn_placement.specs.Copper.{IsStandWithin};
-ghost use Rattle.dsn_placement.specs.Places.{angle_in, angle_refusal, component_laid, component_refusals, coord_word, counted_by, far_refusal, has_coordinates, image_at, image_names, image_place, index_of, items_of, laid_of, pins_of, place_by, place_refusals, places_in, point_by, point_in, point_refusals, side_in, side_refusal, stand_by, stand_in, stand_refusals, turn_by, unknown_at, words_refusals, words_stand};
+ghost use Rattle.dsn_placement.specs.Places.{angle_in, angle_refusal, component_laid, component_refusals};
+ghost use Rattle.dsn_placement.specs.Places.{coord_word, counted_by, far_refusal, has_coordinates, image_at};
+ghost use Rattle.dsn_placement.specs.Places.{image_names, image_place, index_of, items_of, laid_of, pins_of};
+ghost use Rattle.dsn_placement.specs.Places.{place_by, place_refusals, places_in, point_by, point_in};
+ghost use Rattle.dsn_placement.specs.Places.{point_refusals, side_in, side_refusal, stand_by, stand_in};
+ghost use Rattle.dsn_placement.specs.Places.{stand_refusals, turn_by, unknown_at, words_refusals, words_stand};
 
 use crate::reach::is_image_placed;
 use crate::seat::Stand;
@@ -267,8 +272,11 @@ fn read_place(
     image: Option<usize>,
 ) -> Result<Laid, AllocError>
     requires { IsLibraryWithin around.library.now }
-    ensures noted { OnOk result (first.new ≡ noted first.old (place_refusals around.entry.scale.nm around.entry.flip_last around.entry.library.now image tree.now)) }
-    ensures value { IfOk result (λ l. l ≡ laid_of around.entry.scale.nm around.entry.flip_last around.entry.library.now image tree.now) }
+    ensures noted { OnOk result
+        (first.new ≡ noted first.old
+        (place_refusals around.entry.scale.nm around.entry.flip_last around.entry.library.now image tree.now)) }
+    ensures value { IfOk result
+        (λ l. l ≡ laid_of around.entry.scale.nm around.entry.flip_last around.entry.library.now image tree.now) }
 {
     refuse_quoted_name(first, tree, 1);
     let found = image_at(around.library, image);
@@ -294,8 +302,14 @@ fn push_places(
     image: Option<usize>,
 ) -> Result<(), AllocError>
     requires { IsLibraryWithin around.library.now }
-    ensures noted { OnOk result (first.new ≡ noted first.old (flat_map (place_refusals around.entry.scale.nm around.entry.flip_last around.entry.library.now image) (trees_of trees.now))) }
-    ensures value { OnOk result (laid.new ≡ laid.old ++ map (laid_of around.entry.scale.nm around.entry.flip_last around.entry.library.now image) (trees_of trees.now)) }
+    ensures noted { OnOk result
+        (first.new ≡ noted first.old
+        (flat_map (place_refusals around.entry.scale.nm around.entry.flip_last around.entry.library.now image)
+        (trees_of trees.now))) }
+    ensures value { OnOk result
+        (laid.new ≡ laid.old
+        ++ map (laid_of around.entry.scale.nm around.entry.flip_last around.entry.library.now image)
+        (trees_of trees.now)) }
 {
     for tree in trees {
         let place = read_place(alloc, first, tree, around, image)?;
@@ -324,8 +338,12 @@ fn push_component(
 ) -> Result<(), AllocError>
     requires library_within { IsLibraryWithin around.library.now }
     requires names_of { names.now ≡ image_names around.library.now }
-    ensures noted { OnOk result (first.new ≡ noted first.old (component_refusals around.entry.scale.nm around.entry.flip_last around.entry.library.now tree.now)) }
-    ensures value { OnOk result (laid.new ≡ laid.old ++ component_laid around.entry.scale.nm around.entry.flip_last around.entry.library.now tree.now) }
+    ensures noted { OnOk result
+        (first.new ≡ noted first.old
+        (component_refusals around.entry.scale.nm around.entry.flip_last around.entry.library.now tree.now)) }
+    ensures value { OnOk result
+        (laid.new ≡ laid.old
+        ++ component_laid around.entry.scale.nm around.entry.flip_last around.entry.library.now tree.now) }
 {
     let image = names.first_place(name_of(tree, 1));
     refuse_unknown(first, place_of(tree, 1), image);
@@ -343,8 +361,14 @@ pub(crate) fn read_components(
 ) -> Result<List<Laid>, AllocError>
     requires library_within { IsLibraryWithin around.library.now }
     requires names_of { names.now ≡ image_names around.library.now }
-    ensures noted { OnOk result (first.new ≡ noted first.old (flat_map (component_refusals around.entry.scale.nm around.entry.flip_last around.entry.library.now) (trees_of trees.now))) }
-    ensures value { IfOk result (λ ls. ls ≡ flat_map (component_laid around.entry.scale.nm around.entry.flip_last around.entry.library.now) (trees_of trees.now)) }
+    ensures noted { OnOk result
+        (first.new ≡ noted first.old
+        (flat_map (component_refusals around.entry.scale.nm around.entry.flip_last around.entry.library.now)
+        (trees_of trees.now))) }
+    ensures value { IfOk result
+        (λ ls. ls ≡ flat_map
+        (component_laid around.entry.scale.nm around.entry.flip_last around.entry.library.now)
+        (trees_of trees.now)) }
 {
     let mut laid = List::new(alloc);
     for tree in trees {

@@ -8,7 +8,9 @@ ghost use Rattle.dsn_shapes.specs.Within.{IsLibraryWithin};
 ghost use Rattle.dsn_placement.specs.declared.place.Laid.{Laid as TheLaid};
 ghost use Rattle.std.specs.List.{flat_map};
 ghost use Rattle.dsn_placement.specs.Places.{component_laid, component_refusals, image_names, places_in};
-ghost use Rattle.dsn_placement.specs.Placing.{adds, all_laid, components, items_before, limit_refusals, lists_left_out, lists_passed, past_limit, placement_refusals, placements, placing_of};
+ghost use Rattle.dsn_placement.specs.Placing.{adds, all_laid, components, items_before, limit_refusals};
+ghost use Rattle.dsn_placement.specs.Placing.{lists_left_out, lists_passed, past_limit, placement_refusals};
+ghost use Rattle.dsn_placement.specs.Placing.{placements, placing_of};
 ghost use Rattle.dsn_placement.specs.Sound.{HasFewImages, IsPlacingSound};
 
 use crate::place::{Around, Laid, read_components};
@@ -47,7 +49,8 @@ fn sections_of<'a>(alloc: Global, pcb: &'a Tree) -> Result<Sections<'a>, AllocEr
 // Passes over what stands directly in the sections, the component lists and the components.
 #[tactic(auto, unfolding(crate::specs::Placing::lists_left_out, crate::specs::Placing::lists_passed))]
 fn pass_over_lists(first: &mut Option<Refusal>, parts: &Sections) -> u64
-    ensures noted { first.new ≡ noted first.old (lists_left_out parts.now.placements parts.now.components parts.now.places) }
+    ensures noted { first.new
+        ≡ noted first.old (lists_left_out parts.now.placements parts.now.components parts.now.places) }
     ensures value { result ≡ capped (lists_passed parts.now.placements parts.now.components parts.now.places) }
 {
     let beside = pass_over(first, &parts.placements, ListKind::Placement);
@@ -112,8 +115,13 @@ fn read_laid(
     around: Around,
 ) -> Result<List<Laid>, AllocError>
     requires { IsLibraryWithin around.library.now }
-    ensures noted { OnOk result (first.new ≡ noted first.old (flat_map (component_refusals around.entry.scale.nm around.entry.flip_last around.entry.library.now) components.now)) }
-    ensures value { IfOk result (λ ls. ls ≡ flat_map (component_laid around.entry.scale.nm around.entry.flip_last around.entry.library.now) components.now) }
+    ensures noted { OnOk result
+        (first.new ≡ noted first.old
+        (flat_map (component_refusals around.entry.scale.nm around.entry.flip_last around.entry.library.now)
+        components.now)) }
+    ensures value { IfOk result
+        (λ ls. ls ≡ flat_map
+        (component_laid around.entry.scale.nm around.entry.flip_last around.entry.library.now) components.now) }
 {
     let names = names_of(alloc, around.library.images.as_slice())?;
     read_components(alloc, first, components.as_slice(), around, &names)
@@ -179,7 +187,9 @@ pub fn read_placement(
     lib: &Library,
 ) -> Result<Placing, ReadFault>
     requires { IsLibraryWithin lib.now }
-    ensures reads { Reads (placement_refusals s.nm st.now lib.now pcb.now) (λ v. v ≡ placing_of s.nm st.now lib.now pcb.now) result }
+    ensures reads { Reads (placement_refusals s.nm st.now lib.now pcb.now)
+        (λ v. v ≡ placing_of s.nm st.now lib.now pcb.now)
+        result }
     ensures sound { HasFewImages lib.now → IfOk result (IsPlacingSound st.now lib.now) }
 {
     let mut first = None;

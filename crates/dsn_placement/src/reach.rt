@@ -8,7 +8,8 @@ ghost use Rattle.geo_kernel.specs.Spine.{IsSpineWithin};
 ghost use Rattle.dsn_shapes.specs.declared.parts.BanShape.{BanShape as TheBan};
 ghost use Rattle.dsn_shapes.specs.declared.parts.LayerShape.{LayerShape as TheShape};
 ghost use Rattle.dsn_shapes.specs.Within.{IsImageWithin, IsPinWithin, IsStackWithin};
-ghost use Rattle.dsn_placement.specs.Copper.{IsSeatWithin, IsStandWithin, all_or_none, bare_seat, is_image_placed, is_pin_placed, is_spine_placed, placed_spine, seat_point};
+ghost use Rattle.dsn_placement.specs.Copper.{IsSeatWithin, IsStandWithin, all_or_none, bare_seat, is_image_placed};
+ghost use Rattle.dsn_placement.specs.Copper.{is_pin_placed, is_spine_placed, placed_spine, seat_point};
 
 use crate::copper::{bare_seat, pin_centre, pin_seat, stack_shapes};
 use crate::seat::{Seat, Stand};

@@ -1,5 +1,6 @@
 -- The layers of a shape are few, and so are the parts of a list that isn't past its limit.
-use Rattle.std.proofs.Common.{◌≡◌, ◌<◌, ◌≤◌, ◌^◌, ℕ, zero, suc, Bool, true, false, cond, List, [], ◌∷◌, ◌++◌, Option, Some, None, length, map, arith}
+use Rattle.std.proofs.Common.{◌≡◌, ◌<◌, ◌≤◌, ◌^◌, ℕ, zero, suc, Bool, true, false, cond, List, [], ◌∷◌, ◌++◌, Option}
+use Rattle.std.proofs.Common.{Some, None, length, map, arith}
 use Rattle.std.specs.Prelude.{slice_get}
 use Rattle.std.specs.List.{list_any}
 use Rattle.std.specs.Option.{option_map_or}
@@ -19,7 +20,8 @@ use Rattle.dsn_shapes.proofs.Fits.{front_nil, layers_few, no_form_left, test_hol
 
 -- ---- limits
 -- no refusal of the first part past a limit
-pub few_left : {X Y : Type 0} (f : X → List Y) → ((x : X) → f x ≡ [] → ⊥) → (xs : List X) (limit : ℕ) → option_map_or f (slice_get xs limit) [] ≡ [] → length xs ≤ limit
+pub few_left : {X Y : Type 0} (f : X → List Y) → ((x : X) → f x ≡ [] → ⊥) → (xs : List X) (limit : ℕ)
+    → option_map_or f (slice_get xs limit) [] ≡ [] → length xs ≤ limit
 few_left f some [] limit e = omega arith
 few_left f some (x ∷ xs) zero e = absurd (some x e)
 few_left f some (x ∷ xs) (suc limit) e = let h = few_left f some xs limit e in omega arith
@@ -29,15 +31,22 @@ layers_if : (b : Bool) (o p : Outline) (n : ℕ) → o.layers < n → p.layers <
 layers_if true o p n h k = h
 layers_if false o p n h k = k
 
-outline_layers : (nm : ℕ) (layers : List Layer) (form : Form) (t : Tree) → (outline_of nm layers form t).layers < 2 ^ length layers
+outline_layers : (nm : ℕ) (layers : List Layer) (form : Form) (t : Tree) → (outline_of nm layers form t).layers
+    < 2 ^ length layers
 unfolding outline_of
 outline_layers nm layers form t =
-    let read : Outline = record { layers = layers_of layers (name_of t 1); width = width_of nm form t; coords = vertices_of form (map (word_coord nm) (coord_words form t)) } in
+    let read : Outline =
+    record {
+      layers = layers_of layers (name_of t 1);
+      width = width_of nm form t;
+      coords = vertices_of form (map (word_coord nm) (coord_words form t));
+    } in
     let none : Outline = record { layers = 0; width = 0; coords = [] } in
     layers_if (has_count form (length (words_of t))) read none (2 ^ length layers) (layers_few layers (name_of t 1))
     (pow_pos (length layers))
 
-layers_at : (nm : ℕ) (layers : List Layer) (t : Tree) (o : Option Form) → (option_map_or (λ form. shaped form (outline_of nm layers form t)) o empty_shape).layers < 2 ^ length layers
+layers_at : (nm : ℕ) (layers : List Layer) (t : Tree) (o : Option Form)
+    → (option_map_or (λ form. shaped form (outline_of nm layers form t)) o empty_shape).layers < 2 ^ length layers
 layers_at nm layers t None = pow_pos (length layers)
 layers_at nm layers t (Some form) = outline_layers nm layers form t
 
@@ -59,14 +68,17 @@ beside : (b : Bool) (xs : List Refusal) (x : Refusal) → cond b xs (x ∷ []) �
 beside true xs x e = e
 beside false xs x e = cc
 
-outline_layered : (nm : ℕ) (layers : List Layer) (form : Form) (t : Tree) → outline_refusals nm layers form t ≡ [] → 1 ≤ length layers
+outline_layered : (nm : ℕ) (layers : List Layer) (form : Form) (t : Tree) → outline_refusals nm layers form t ≡ []
+    → 1 ≤ length layers
 unfolding outline_refusals
 outline_layered nm layers form t e =
     let read = beside (has_count form (length (words_of t))) _ (refused 22 (at_of t)) e in
     named_layer layers (name_of t 1)
     (test_holds (names_some layers (name_of t 1)) (refused 12 (place_of t 1)) [] [] (front_nil _ _ read))
 
-layered_at : (nm : ℕ) (layers : List Layer) (t : Tree) (o : Option Form) → option_map_or (λ form. outline_refusals nm layers form t ++ spine_refusals form t (outline_of nm layers form t)) o (no_form t) ≡ [] → 1 ≤ length layers
+layered_at : (nm : ℕ) (layers : List Layer) (t : Tree) (o : Option Form)
+    → option_map_or (λ form. outline_refusals nm layers form t ++ spine_refusals form t (outline_of nm layers form t)) o
+    (no_form t) ≡ [] → 1 ≤ length layers
 layered_at nm layers t None e = absurd (no_form_left _ _ _ e)
 layered_at nm layers t (Some form) e = outline_layered nm layers form t (front_nil _ _ e)
 

@@ -1,5 +1,6 @@
 -- The refusal that is held after some is the first of them.
-use Rattle.std.proofs.Common.{◌≡◌, ◌⊎◌, inl, inr, suc, Bool, true, false, cond, ◌∷◌, List, [], Some, None, refl, sym, subst, arith}
+use Rattle.std.proofs.Common.{◌≡◌, ◌⊎◌, inl, inr, suc, Bool, true, false, cond, ◌∷◌, List, [], Some, None, refl, sym}
+use Rattle.std.proofs.Common.{subst, arith}
 use Rattle.std.specs.Prelude.{All, Contains}
 use Rattle.std.proofs.lemmas.Bool.Decides.{nat_tests}
 use Rattle.std.proofs.lemmas.List.Elements.{All-cons, All-nil}
@@ -11,7 +12,8 @@ use Rattle.dsn_shapes.proofs.Fits.{none_left}
 
 -- ---- the order
 same_first : (a r : Refusal) → a ≡ r → IsNoLater r a
-same_first a r e = subst (λ (x : Refusal). IsNoLater r x) (sym e) (record { place = omega arith; number = λ _. omega arith })
+same_first a r e =
+    subst (λ (x : Refusal). IsNoLater r x) (sym e) (record { place = omega arith; number = λ _. omega arith })
 
 before_first : (b a : Refusal) → is_before b a ≡ true → IsNoLater b a
 before_first b a e = record { place = grind (arith, nat_tests); number = λ h. grind (arith, nat_tests) }
@@ -20,7 +22,11 @@ not_before : (b a : Refusal) → is_before b a ≡ false → IsNoLater a b
 not_before b a e = record { place = grind (arith, nat_tests); number = λ h. grind (arith, nat_tests) }
 
 no_later_than : (r b a : Refusal) → IsNoLater r b → IsNoLater b a → IsNoLater r a
-no_later_than r b a h k = record { place = omega (arith, h.place, k.place); number = λ e. omega (arith, h.place, h.number, k.place, k.number) }
+no_later_than r b a h k =
+    record {
+      place = omega (arith, h.place, k.place);
+      number = λ e. omega (arith, h.place, h.number, k.place, k.number);
+    }
 
 -- ---- lists
 here : {X : Type 0} (x y : X) (xs : List X) → y ≡ x → Contains (y ∷ xs) x
@@ -49,12 +55,15 @@ left a b rs r before h = record {
   among = elim h.among [ inl e ↦ inl e | inr k ↦ inr (there r b rs k) ];
 }
 
-chosen : (a b : Refusal) (rs : List Refusal) (r : Refusal) (t : Bool) → is_before b a ≡ t → (noted (Some b) rs ≡ Some r → IsHeld b rs r) → (noted (Some a) rs ≡ Some r → IsHeld a rs r) → noted (cond t (Some b) (Some a)) rs ≡ Some r → IsHeld a (b ∷ rs) r
+chosen : (a b : Refusal) (rs : List Refusal) (r : Refusal) (t : Bool) → is_before b a ≡ t
+    → (noted (Some b) rs ≡ Some r → IsHeld b rs r) → (noted (Some a) rs ≡ Some r → IsHeld a rs r)
+    → noted (cond t (Some b) (Some a)) rs ≡ Some r → IsHeld a (b ∷ rs) r
 chosen a b rs r true t h k e = taken a b rs r (before_first b a t) (h e)
 chosen a b rs r false t h k e = left a b rs r (not_before b a t) (k e)
 
 held : (a : Refusal) (rs : List Refusal) (r : Refusal) → noted (Some a) rs ≡ Some r → IsHeld a rs r
-held a [] r e = let s : a ≡ r = same_Some a r e in record { first = same_first a r s; all = All-nil (IsNoLater r); among = inl s }
+held a [] r e = let s : a ≡ r = same_Some a r e in
+    record { first = same_first a r s; all = All-nil (IsNoLater r); among = inl s }
 held a (b ∷ rs) r e = chosen a b rs r (is_before b a) refl (held b rs r) (held a rs r) e
 
 -- ---- the law
@@ -62,7 +71,10 @@ pub first_of : (rs : List Refusal) (r : Refusal) → least rs ≡ Some r → IsF
 first_of [] r e = cc
 first_of (a ∷ rs) r e =
     let h = held a rs r e in
-    record { among = elim h.among [ inl s ↦ here r a rs s | inr k ↦ there r a rs k ]; no_later = All-cons (IsNoLater r) a rs h.first h.all }
+    record {
+      among = elim h.among [ inl s ↦ here r a rs s | inr k ↦ there r a rs k ];
+      no_later = All-cons (IsNoLater r) a rs h.first h.all;
+    }
 
 none_of : (rs : List Refusal) → rs ≡ [] → least rs ≡ None
 none_of [] e = refl

@@ -1,5 +1,6 @@
 -- Coordinates, vertices and angles that are read are within bounds, whatever the text.
-use Rattle.std.proofs.Common.{◌≡◌, ◌<◌, ◌≤◌, ◌*◌, ◌-◌, ◌^◌, ℕ, ℤ, Bool, true, false, cond, pos, negsuc, List, [], ◌∷◌, Option, Some, None, length, take, map, refl, arith}
+use Rattle.std.proofs.Common.{◌≡◌, ◌<◌, ◌≤◌, ◌*◌, ◌-◌, ◌^◌, ℕ, ℤ, Bool, true, false, cond, pos, negsuc, List, [], ◌∷◌}
+use Rattle.std.proofs.Common.{Option, Some, None, length, take, map, refl, arith}
 use Rattle.std.specs.Prelude.{◌==◌, All, IfSome, unsigned_abs, unwrap_or, nat_le}
 use Rattle.std.specs.Int.{int_rem_euclid}
 use Rattle.std.specs.Option.{option_map_or}
@@ -23,8 +24,11 @@ use Rattle.dsn_shapes.specs.Lists.{name_of, nth_word, text_of, words_of}
 use Rattle.dsn_shapes.specs.Numbers.{coord_at, number_by, word_coord}
 use Rattle.dsn_shapes.specs.Angles.{word_angle}
 use Rattle.dsn_shapes.specs.Layers.{layers_of}
-use Rattle.dsn_shapes.specs.Forms.{coord_words, form_of, has_count, is_closed, outline_of, points_of, ring_of, vertices_of, width_of}
-use Rattle.dsn_shapes.specs.Shapes.{area_of, ban_of, ban_shape, bound_forms, bound_of, empty_rim, empty_shape, form_in, held_loop, held_shape, is_circle, loop_of, rim, rim_of, shape_of, shaped, spine_of, windows_of}
+use Rattle.dsn_shapes.specs.Forms.{coord_words, form_of, has_count, is_closed, outline_of, points_of, ring_of}
+use Rattle.dsn_shapes.specs.Forms.{vertices_of, width_of}
+use Rattle.dsn_shapes.specs.Shapes.{area_of, ban_of, ban_shape, bound_forms, bound_of, empty_rim, empty_shape, form_in}
+use Rattle.dsn_shapes.specs.Shapes.{held_loop, held_shape, is_circle, loop_of, rim, rim_of, shape_of, shaped, spine_of}
+use Rattle.dsn_shapes.specs.Shapes.{windows_of}
 
 -- ---- coordinates
 abbrev pub IsNear : ℤ → Type 0
@@ -73,7 +77,10 @@ reduced_if true a h = h
 reduced_if false a h = tt
 
 angle_reduced : (d : Decimal) → IfSome (angle_of d) IsReduced
-angle_reduced d = reduced_if (nat_le (top d 1000000) (1000000000000 * bottom d)) (record { microdegrees = unsigned_abs (int_rem_euclid (rounded d 1000000) (pos 360000000)) }) (rest_small (rounded d 1000000))
+angle_reduced d =
+    reduced_if (nat_le (top d 1000000) (1000000000000 * bottom d))
+    (record { microdegrees = unsigned_abs (int_rem_euclid (rounded d 1000000) (pos 360000000)) })
+    (rest_small (rounded d 1000000))
 
 number_reduced : (o : Option Decimal) → IfSome (number_by angle_of o) IsReduced
 number_reduced None = tt
@@ -111,7 +118,9 @@ corners_near a b c d h =
     let nb = All-head IsNearIfRead b (c ∷ d ∷ []) t1 in
     let nc = All-head IsNearIfRead c (d ∷ []) t2 in
     let nd = All-head IsNearIfRead d [] t3 in
-    two_near a b (c ∷ b ∷ c ∷ d ∷ a ∷ d ∷ []) na nb (two_near c b (c ∷ d ∷ a ∷ d ∷ []) nc nb (two_near c d (a ∷ d ∷ []) nc nd (two_near a d [] na nd (All-nil IsNearIfRead))))
+    two_near a b (c ∷ b ∷ c ∷ d ∷ a ∷ d ∷ []) na nb
+    (two_near c b (c ∷ d ∷ a ∷ d ∷ []) nc nb
+    (two_near c d (a ∷ d ∷ []) nc nd (two_near a d [] na nd (All-nil IsNearIfRead))))
 
 vertices_near : (form : Form) (cs : List (Option ℤ)) → AreNear cs → AreNear (vertices_of form cs)
 vertices_near Circle [] h = two_near (Some (pos 0)) (Some (pos 0)) [] zero_near zero_near (All-nil IsNearIfRead)
@@ -144,9 +153,16 @@ outline_if false o p h k = k
 outline_near : (nm : ℕ) (layers : List Layer) (form : Form) (t : Tree) → HasNear (outline_of nm layers form t)
 unfolding outline_of
 outline_near nm layers form t =
-    let read : Outline = record { layers = layers_of layers (name_of t 1); width = width_of nm form t; coords = vertices_of form (map (word_coord nm) (coord_words form t)) } in
+    let read : Outline =
+    record {
+      layers = layers_of layers (name_of t 1);
+      width = width_of nm form t;
+      coords = vertices_of form (map (word_coord nm) (coord_words form t));
+    } in
     let none : Outline = record { layers = 0; width = 0; coords = [] } in
-    outline_if (has_count form (length (words_of t))) read none (vertices_near form (map (word_coord nm) (coord_words form t)) (All-map IsNearIfRead (word_coord nm) (coord_words form t) (λ k d l. word_near nm _))) (All-nil IsNearIfRead)
+    outline_if (has_count form (length (words_of t))) read none
+    (vertices_near form (map (word_coord nm) (coord_words form t))
+    (All-map IsNearIfRead (word_coord nm) (coord_words form t) (λ k d l. word_near nm _))) (All-nil IsNearIfRead)
 
 loop_near : (ps : List Point) → All (IsWithin (2 ^ 29)) ps → All (All (IsWithin (2 ^ 29))) (ps ∷ [])
 loop_near ps h = All-cons (All (IsWithin (2 ^ 29))) ps [] h (All-nil (All (IsWithin (2 ^ 29))))
@@ -154,7 +170,8 @@ loop_near ps h = All-cons (All (IsWithin (2 ^ 29))) ps [] h (All-nil (All (IsWit
 spine_near : (form : Form) (o : Outline) → HasNear o → IsSpineWithin (2 ^ 29) (spine_of form o)
 spine_near Circle o h = points_near o.coords h
 spine_near Rect o h = loop_near (points_of (ring_of o.coords)) (points_near (ring_of o.coords) (ring_near o.coords h))
-spine_near Polygon o h = loop_near (points_of (ring_of o.coords)) (points_near (ring_of o.coords) (ring_near o.coords h))
+spine_near Polygon o h =
+    loop_near (points_of (ring_of o.coords)) (points_near (ring_of o.coords) (ring_near o.coords h))
 spine_near Path o h = points_near o.coords h
 
 -- ---- shapes
@@ -164,7 +181,8 @@ IsShapeNear s = IsSpineWithin (2 ^ 29) s.spine
 empty_near : IsShapeNear empty_shape
 empty_near = All-nil (IsWithin (2 ^ 29))
 
-shape_at : (nm : ℕ) (layers : List Layer) (t : Tree) (o : Option Form) → IsShapeNear (option_map_or (λ form. shaped form (outline_of nm layers form t)) o empty_shape)
+shape_at : (nm : ℕ) (layers : List Layer) (t : Tree) (o : Option Form)
+    → IsShapeNear (option_map_or (λ form. shaped form (outline_of nm layers form t)) o empty_shape)
 shape_at nm layers t None = empty_near
 shape_at nm layers t (Some form) = spine_near form (outline_of nm layers form t) (outline_near nm layers form t)
 
@@ -172,7 +190,8 @@ pub shape_near : (nm : ℕ) (layers : List Layer) (t : Tree) → IsShapeNear (sh
 unfolding shape_of
 shape_near nm layers t = shape_at nm layers t (form_of t)
 
-held_at : (nm : ℕ) (layers : List Layer) (o : Option Tree) → IsShapeNear (option_map_or (shape_of nm layers) o empty_shape)
+held_at : (nm : ℕ) (layers : List Layer) (o : Option Tree)
+    → IsShapeNear (option_map_or (shape_of nm layers) o empty_shape)
 held_at nm layers None = empty_near
 held_at nm layers (Some t) = shape_near nm layers t
 
@@ -194,9 +213,11 @@ no_rim_near = All-nil (IsWithin (2 ^ 29))
 rim_near : (nm : ℕ) (layers : List Layer) (form : Form) (t : Tree) → IsRimNear (rim_of nm layers form t)
 rim_near nm layers form t =
     let o = outline_of nm layers form t in
-    rim_if (is_circle form) empty_rim (rim o) no_rim_near (points_near (ring_of o.coords) (ring_near o.coords (outline_near nm layers form t)))
+    rim_if (is_circle form) empty_rim (rim o) no_rim_near
+    (points_near (ring_of o.coords) (ring_near o.coords (outline_near nm layers form t)))
 
-rim_at : (nm : ℕ) (layers : List Layer) (t : Tree) (o : Option Form) → IsRimNear (option_map_or (λ form. rim_of nm layers form t) o empty_rim)
+rim_at : (nm : ℕ) (layers : List Layer) (t : Tree) (o : Option Form)
+    → IsRimNear (option_map_or (λ form. rim_of nm layers form t) o empty_rim)
 rim_at nm layers t None = no_rim_near
 rim_at nm layers t (Some form) = rim_near nm layers form t
 
@@ -204,7 +225,8 @@ loop_is_near : (nm : ℕ) (layers : List Layer) (t : Tree) → IsRimNear (loop_o
 unfolding loop_of
 loop_is_near nm layers t = rim_at nm layers t (form_of t)
 
-held_loop_at : (nm : ℕ) (layers : List Layer) (o : Option Tree) → IsRimNear (option_map_or (loop_of nm layers) o empty_rim)
+held_loop_at : (nm : ℕ) (layers : List Layer) (o : Option Tree)
+    → IsRimNear (option_map_or (loop_of nm layers) o empty_rim)
 held_loop_at nm layers None = no_rim_near
 held_loop_at nm layers (Some t) = loop_is_near nm layers t
 
@@ -223,9 +245,15 @@ shape_if false s t h k = k
 
 pub ban_near : (nm : ℕ) (layers : List Layer) (t : Tree) → IsShapeNear (ban_of nm layers t).shape
 unfolding ban_of ban_shape
-ban_near nm layers t = shape_if (length (windows_of t) == 0) (held_shape nm layers t) (area_of (map (held_loop nm layers) (t ∷ windows_of t))) (held_near nm layers t) (area_near (map (held_loop nm layers) (t ∷ windows_of t)) (All-map IsRimNear (held_loop nm layers) (t ∷ windows_of t) (λ k d l. held_loop_near nm layers _)))
+ban_near nm layers t =
+    shape_if (length (windows_of t) == 0) (held_shape nm layers t)
+    (area_of (map (held_loop nm layers) (t ∷ windows_of t))) (held_near nm layers t)
+    (area_near (map (held_loop nm layers) (t ∷ windows_of t))
+    (All-map IsRimNear (held_loop nm layers) (t ∷ windows_of t) (λ k d l. held_loop_near nm layers _)))
 
 -- ---- boundaries
 pub bound_near : (nm : ℕ) (layers : List Layer) (t : Tree) → IsShapeNear (bound_of nm layers t)
 unfolding bound_of
-bound_near nm layers t = area_near (map (loop_of nm layers) (bound_forms t)) (All-map IsRimNear (loop_of nm layers) (bound_forms t) (λ k d l. loop_is_near nm layers _))
+bound_near nm layers t =
+    area_near (map (loop_of nm layers) (bound_forms t))
+    (All-map IsRimNear (loop_of nm layers) (bound_forms t) (λ k d l. loop_is_near nm layers _))

@@ -1,5 +1,7 @@
 -- The forms of a shape, their numbers and their vertices.
-use Rattle.std.specs.Prelude.{◌==◌, ◌&&◌, ◌||◌, ◌+◌, ◌-◌, ◌%◌, nat_le, nat_lt, ℕ, ℤ, pos, Bool, false, List, [], ◌∷◌, ◌++◌, Option, Some, None, codes, length, take, drop, map, slice_get, unwrap_or, if◌then◌else◌}
+use Rattle.std.specs.Prelude.{◌==◌, ◌&&◌, ◌||◌, ◌+◌, ◌-◌, ◌%◌, nat_le, nat_lt, ℕ, ℤ, pos, Bool, false, List, [], ◌∷◌}
+use Rattle.std.specs.Prelude.{◌++◌, Option, Some, None, codes, length, take, drop, map, slice_get, unwrap_or}
+use Rattle.std.specs.Prelude.{if◌then◌else◌}
 use Rattle.std.specs.Ordering.{int_eq}
 use Rattle.std.specs.List.{flat_map}
 use Rattle.dsn_tree.specs.declared.tree.Tree.{Tree}
@@ -66,7 +68,11 @@ vertices_of Path cs = cs
 -- what a form says: its layers, its width and its vertices' coordinates; nothing where its count of words is wrong
 unfoldable pub outline_of : ℕ → List Layer → Form → Tree → Outline
 outline_of nm layers form t = if has_count form (length (words_of t))
-    then record { layers = layers_of layers (name_of t 1); width = width_of nm form t; coords = vertices_of form (map (word_coord nm) (coord_words form t)) }
+    then record {
+      layers = layers_of layers (name_of t 1);
+      width = width_of nm form t;
+      coords = vertices_of form (map (word_coord nm) (coord_words form t));
+    }
     else record { layers = 0; width = 0; coords = [] }
 
 -- a wrong count of words is refused alone
@@ -93,7 +99,10 @@ nth_coord cs i = unwrap_or (slice_get cs i) None
 
 -- the last vertex is another than the first and equal to it
 abbrev pub is_closed : List (Option ℤ) → Bool
-is_closed cs = nat_le 4 (length cs) && (is_same (nth_coord cs 0) (nth_coord cs (length cs - 2)) && is_same (nth_coord cs 1) (nth_coord cs (length cs - 1)))
+is_closed cs =
+    nat_le 4 (length cs)
+    && (is_same (nth_coord cs 0) (nth_coord cs (length cs - 2))
+    && is_same (nth_coord cs 1) (nth_coord cs (length cs - 1)))
 
 -- a loop loses such a vertex
 unfoldable pub ring_of : List (Option ℤ) → List (Option ℤ)
@@ -101,7 +110,8 @@ ring_of cs = if is_closed cs then take (length cs - 2) cs else cs
 
 -- more than 4,096 vertices are refused at the first that is too many
 abbrev pub vertex_limit : Form → Tree → ℕ → List Refusal
-vertex_limit form t count = if nat_lt 4096 count then record { number = 23; at = place_of t (first_coord form + 8192); what = Vertices; limit = 4096 } ∷ [] else []
+vertex_limit form t count = if nat_lt 4096 count
+    then record { number = 23; at = place_of t (first_coord form + 8192); what = Vertices; limit = 4096 } ∷ [] else []
 
 abbrev pub ring_refusals : Form → Tree → ℕ → List Refusal
 ring_refusals form t count = (if nat_lt count 3 then refused 22 (at_of t) ∷ [] else []) ++ vertex_limit form t count

@@ -1,5 +1,6 @@
 -- Lists of a tree: their words, names and places, lists that are left out, and notes.
-use Rattle.std.specs.Prelude.{◌==◌, ◌&&◌, ◌||◌, map, ℕ, Bool, true, false, List, [], ◌∷◌, Option, Some, codes, filter, slice_get, not, min, ◌^◌, ◌-◌, count_by, sum_by, if◌then◌else◌}
+use Rattle.std.specs.Prelude.{◌==◌, ◌&&◌, ◌||◌, map, ℕ, Bool, true, false, List, [], ◌∷◌, Option, Some, codes, filter}
+use Rattle.std.specs.Prelude.{slice_get, not, min, ◌^◌, ◌-◌, count_by, sum_by, if◌then◌else◌}
 use Rattle.std.specs.List.{list_any, flat_map}
 use Rattle.std.specs.Option.{option_map_or}
 use Rattle.std.specs.Borrow.{Bor}

@@ -1,5 +1,6 @@
 -- Names that lists give, where each is first given, and names that are given twice.
-use Rattle.std.specs.Prelude.{◌==◌, ◌+◌, ◌-◌, ◌^◌, min, ℕ, Bool, false, List, [], ◌∷◌, ◌++◌, Option, Some, None, map, if◌then◌else◌}
+use Rattle.std.specs.Prelude.{◌==◌, ◌+◌, ◌-◌, ◌^◌, min, ℕ, Bool, false, List, [], ◌∷◌, ◌++◌, Option, Some, None, map}
+use Rattle.std.specs.Prelude.{if◌then◌else◌}
 use Rattle.std.specs.List.{position_from}
 use Rattle.std.specs.Str.{bytes_eq}
 use Rattle.dsn_tree.specs.declared.tree.Tree.{Tree}
@@ -30,7 +31,9 @@ is_at k (Some n) = k == n
 -- of these lists, the first of which is number k of all that give the names, those whose name an earlier one gives
 abbrev pub given_again : ℕ → List (List ℕ) → ℕ → List Tree → List Refusal
 given_again i names k [] = []
-given_again i names k (t ∷ ts) = (if is_at k (first_place (name_of t i) names) then [] else refused 13 (place_of t i) ∷ []) ++ given_again i names (k + 1) ts
+given_again i names k (t ∷ ts) =
+    (if is_at k (first_place (name_of t i) names) then [] else refused 13 (place_of t i) ∷ [])
+    ++ given_again i names (k + 1) ts
 
 -- names that word i of these lists gives twice
 abbrev pub same_names : ℕ → List Tree → List Refusal

@@ -35,7 +35,8 @@ word_extent nm w = number_by (λ d. extent_of d nm) (decimal_of (text_of w))
 abbrev pub word_extent_refusal : ℕ → Tree → List Refusal
 word_extent_refusal nm w = refusal_by (λ d. extent_of d nm) (at_of w) (decimal_of (text_of w))
 
--- the same of word i, which is wanted: one that isn't there is refused at the list. A number that is refused counts as 0
+-- the same of word i, which is wanted: one that isn't there is refused at the list. A number that is refused counts as
+-- 0
 abbrev pub coord_at : ℕ → Tree → ℕ → ℤ
 coord_at nm t i = unwrap_or (option_map_or (word_coord nm) (nth_word t i) None) (pos 0)
 

@@ -1,5 +1,6 @@
 -- Refusals: the one that counts, and what a reader answers.
-use Rattle.std.specs.Prelude.{◌≡◌, ◌==◌, ◌&&◌, ◌||◌, nat_lt, ℕ, Bool, List, Option, Some, None, Result, Ok, Err, fold, if◌then◌else◌}
+use Rattle.std.specs.Prelude.{◌≡◌, ◌==◌, ◌&&◌, ◌||◌, nat_lt, ℕ, Bool, List, Option, Some, None, Result, Ok, Err, fold}
+use Rattle.std.specs.Prelude.{if◌then◌else◌}
 use Rattle.dsn_shapes.specs.declared.refusal.Refusal.{Refusal}
 use Rattle.dsn_shapes.specs.declared.refusal.What.TheVariants.{Nothing}
 use Rattle.dsn_shapes.specs.declared.refusal.ReadFault.{ReadFault}

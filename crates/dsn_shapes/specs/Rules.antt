@@ -1,5 +1,6 @@
 -- Rule sets: widths, plain clearances and clearances of pairs of kinds.
-use Rattle.std.specs.Prelude.{◌==◌, ◌+◌, ◌-◌, ℕ, Bool, true, false, List, [], ◌∷◌, ◌++◌, Option, Some, None, codes, length, take, drop, map, position, slice_get, count_by, if◌then◌else◌}
+use Rattle.std.specs.Prelude.{◌==◌, ◌+◌, ◌-◌, ℕ, Bool, true, false, List, [], ◌∷◌, ◌++◌, Option, Some, None, codes}
+use Rattle.std.specs.Prelude.{length, take, drop, map, position, slice_get, count_by, if◌then◌else◌}
 use Rattle.std.specs.List.{flat_map}
 use Rattle.std.specs.Option.{option_map_or}
 use Rattle.std.specs.Str.{str_eq_ignore_ascii_case}
@@ -38,7 +39,8 @@ split_pair text None = Unknown
 split_pair text (Some i) = both (kind_of (take i text)) (kind_of (drop (i + 1) text))
 
 abbrev pub pair_of : List ℕ → Pairing
-pair_of text = if str_eq_ignore_ascii_case text (codes "default_smd") then Known Smd None else split_pair text (position (λ b. b == 95) text)
+pair_of text = if str_eq_ignore_ascii_case text (codes "default_smd") then Known Smd None
+    else split_pair text (position (λ b. b == 95) text)
 
 -- a clearance without a type is plain; else the first word of its first type counts
 unfoldable pub pairing_of : Tree → Pairing
@@ -77,7 +79,12 @@ clearances_in rules = lists (codes "clearance" ∷ []) rules
 
 -- of several widths, and of several plain clearances, the last counts
 unfoldable pub set_of : ℕ → List Tree → List Tree → RuleSet
-set_of nm widths clearances = record { width = last_of (map (λ t. extent_at nm t 1) widths); plain = last_of (flat_map (plain_at nm) clearances); typed = flat_map (typed_at nm) clearances }
+set_of nm widths clearances =
+    record {
+      width = last_of (map (λ t. extent_at nm t 1) widths);
+      plain = last_of (flat_map (plain_at nm) clearances);
+      typed = flat_map (typed_at nm) clearances;
+    }
 
 -- the rule set of these rules
 abbrev pub rule_set : ℕ → List Tree → RuleSet
@@ -90,19 +97,22 @@ is_zero (Some n) = n == 0
 
 -- a width of 0 is no width
 abbrev pub zero_width : ℕ → Tree → List Refusal
-zero_width nm t = if is_zero (option_map_or (word_extent nm) (nth_word t 1) None) then refused 9 (place_of t 1) ∷ [] else []
+zero_width nm t = if is_zero (option_map_or (word_extent nm) (nth_word t 1) None) then refused 9 (place_of t 1) ∷ []
+    else []
 
 abbrev pub width_refusals : ℕ → Tree → List Refusal
 width_refusals nm t = extent_refusal nm t 1 ++ zero_width nm t
 
 unfoldable pub set_refusals : ℕ → List Tree → List Tree → List Refusal
-set_refusals nm widths clearances = flat_map (width_refusals nm) widths ++ flat_map (λ t. extent_refusal nm t 1) clearances
+set_refusals nm widths clearances =
+    flat_map (width_refusals nm) widths ++ flat_map (λ t. extent_refusal nm t 1) clearances
 
 unfoldable pub rules_left_out : List Tree → List Tree → List Refusal
 rules_left_out rules clearances = left_out_in rules ++ left_out_in clearances
 
 abbrev pub rule_refusals : ℕ → List Tree → List Refusal
-rule_refusals nm rules = rules_left_out rules (clearances_in rules) ++ set_refusals nm (widths_in rules) (clearances_in rules)
+rule_refusals nm rules =
+    rules_left_out rules (clearances_in rules) ++ set_refusals nm (widths_in rules) (clearances_in rules)
 
 -- a clearance of an unknown type is passed over
 unfoldable pub notes_with : List Tree → List Tree → ℕ

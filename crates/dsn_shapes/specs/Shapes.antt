@@ -1,5 +1,6 @@
 -- Shapes: a form read as it stands or as a loop, the form that stands in a list, keepouts and boundaries.
-use Rattle.std.specs.Prelude.{◌==◌, slice_get, ◌||◌, ◌&&◌, ◌+◌, ◌-◌, max, ℕ, Bool, true, false, not, List, [], ◌∷◌, ◌++◌, Option, codes, length, map, filter, fold, count_by, sum_by, if◌then◌else◌}
+use Rattle.std.specs.Prelude.{◌==◌, slice_get, ◌||◌, ◌&&◌, ◌+◌, ◌-◌, max, ℕ, Bool, true, false, not, List, [], ◌∷◌}
+use Rattle.std.specs.Prelude.{◌++◌, Option, codes, length, map, filter, fold, count_by, sum_by, if◌then◌else◌}
 use Rattle.std.specs.List.{flat_map, find}
 use Rattle.std.specs.Option.{option_map_or}
 use Rattle.dsn_tree.specs.declared.tree.Tree.{Tree}
@@ -17,12 +18,14 @@ use Rattle.dsn_shapes.specs.declared.refusal.Refusal.{Refusal}
 use Rattle.dsn_shapes.specs.Known.{form_heads}
 use Rattle.dsn_shapes.specs.Refusals.{refused}
 use Rattle.dsn_shapes.specs.Lists.{at_of, is_word, place_of, has_head}
-use Rattle.dsn_shapes.specs.Forms.{form_of, outline_of, outline_refusals, points_of, ring_of, ring_refusals, vertex_limit}
+use Rattle.dsn_shapes.specs.Forms.{form_of, outline_of, outline_refusals, points_of, ring_of, ring_refusals}
+use Rattle.dsn_shapes.specs.Forms.{vertex_limit}
 
 -- ---- one form
 -- a list that is no form: two are left out by name
 abbrev pub no_form : Tree → List Refusal
-no_form t = if is_headed (codes "qarc") t || is_headed (codes "polyline_path") t then refused 21 (place_of t 0) ∷ [] else refused 22 (at_of t) ∷ []
+no_form t = if is_headed (codes "qarc") t || is_headed (codes "polyline_path") t then refused 21 (place_of t 0) ∷ []
+    else refused 22 (at_of t) ∷ []
 
 -- the vertices of a form as it stands
 abbrev pub spine_of : Form → Outline → Spine
@@ -48,7 +51,9 @@ unfoldable pub shape_of : ℕ → List Layer → Tree → LayerShape
 shape_of nm layers t = option_map_or (λ form. shaped form (outline_of nm layers form t)) (form_of t) empty_shape
 
 unfoldable pub shape_refusals : ℕ → List Layer → Tree → List Refusal
-shape_refusals nm layers t = option_map_or (λ form. outline_refusals nm layers form t ++ spine_refusals form t (outline_of nm layers form t)) (form_of t) (no_form t)
+shape_refusals nm layers t =
+    option_map_or (λ form. outline_refusals nm layers form t ++ spine_refusals form t (outline_of nm layers form t))
+    (form_of t) (no_form t)
 
 -- a form as a loop of an area, which a circle is not
 abbrev pub rim : Outline → Rim
@@ -68,7 +73,8 @@ rim_of nm layers form t = if is_circle form then empty_rim else rim (outline_of 
 
 abbrev pub rim_refusals : ℕ → List Layer → Form → Tree → List Refusal
 rim_refusals nm layers form t = if is_circle form then refused 22 (at_of t) ∷ []
-    else outline_refusals nm layers form t ++ ring_refusals form t (length (points_of (ring_of (outline_of nm layers form t).coords)))
+    else outline_refusals nm layers form t
+    ++ ring_refusals form t (length (points_of (ring_of (outline_of nm layers form t).coords)))
 
 unfoldable pub loop_of : ℕ → List Layer → Tree → Rim
 loop_of nm layers t = option_map_or (λ form. rim_of nm layers form t) (form_of t) empty_rim
@@ -81,7 +87,12 @@ abbrev pub first_layers : List Rim → ℕ
 first_layers rs = option_map_or (λ (r : Rim). r.layers) (slice_get rs 0) 0
 
 unfoldable pub area_of : List Rim → LayerShape
-area_of rs = record { layers = first_layers rs; spine = Area (map (λ (r : Rim). r.points) rs); width = fold (λ w (r : Rim). max w r.width) 0 rs }
+area_of rs =
+    record {
+      layers = first_layers rs;
+      spine = Area (map (λ (r : Rim). r.points) rs);
+      width = fold (λ w (r : Rim). max w r.width) 0 rs;
+    }
 
 -- ---- forms that stand in a list
 -- the form in a list is the first, and where there is none the list is refused
@@ -108,14 +119,21 @@ windows_of t = filter (is_headed (codes "window")) (items_of t)
 
 -- a keepout with windows is one area: its own loop and those of its windows
 unfoldable pub ban_shape : ℕ → List Layer → Tree → LayerShape
-ban_shape nm layers t = if length (windows_of t) == 0 then held_shape nm layers t else area_of (map (held_loop nm layers) (t ∷ windows_of t))
+ban_shape nm layers t = if length (windows_of t) == 0 then held_shape nm layers t
+    else area_of (map (held_loop nm layers) (t ∷ windows_of t))
 
 unfoldable pub ban_refusals : ℕ → List Layer → Tree → List Refusal
-ban_refusals nm layers t = if length (windows_of t) == 0 then refusals_in (shape_refusals nm layers) t else flat_map (refusals_in (loop_refusals nm layers)) (t ∷ windows_of t)
+ban_refusals nm layers t = if length (windows_of t) == 0 then refusals_in (shape_refusals nm layers) t
+    else flat_map (refusals_in (loop_refusals nm layers)) (t ∷ windows_of t)
 
 -- a `keepout` bans wires and vias, the other two one of them
 unfoldable pub ban_of : ℕ → List Layer → Tree → BanShape
-ban_of nm layers t = record { shape = ban_shape nm layers t; wires = not (is_headed (codes "via_keepout") t); vias = not (is_headed (codes "wire_keepout") t) }
+ban_of nm layers t =
+    record {
+      shape = ban_shape nm layers t;
+      wires = not (is_headed (codes "via_keepout") t);
+      vias = not (is_headed (codes "wire_keepout") t);
+    }
 
 -- the other lists in a keepout and in its windows are passed over
 abbrev pub is_beside : Tree → Bool
@@ -132,4 +150,5 @@ unfoldable pub bound_of : ℕ → List Layer → Tree → LayerShape
 bound_of nm layers t = area_of (map (loop_of nm layers) (bound_forms t))
 
 unfoldable pub bound_refusals : ℕ → List Layer → Tree → List Refusal
-bound_refusals nm layers t = (if length (bound_forms t) == 0 then refused 22 (at_of t) ∷ [] else []) ++ flat_map (loop_refusals nm layers) (bound_forms t)
+bound_refusals nm layers t = (if length (bound_forms t) == 0 then refused 22 (at_of t) ∷ [] else [])
+    ++ flat_map (loop_refusals nm layers) (bound_forms t)

@@ -13,7 +13,8 @@ most_of Pins = 262144
 most_of Items = 1048576
 most_of Vertices = 4096
 
--- the numbers of a tree's sections are 7 to 24; number 23 alone counts something, and its limit is that of what it counts
+-- the numbers of a tree's sections are 7 to 24; number 23 alone counts something, and its limit is that of what it
+-- counts
 pub record IsTabled (r : Refusal) : Type 0 where
   pub from : 7 ≤ r.number
   pub to : r.number ≤ 24

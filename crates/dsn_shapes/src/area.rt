@@ -7,7 +7,9 @@ ghost use Rattle.dsn_tree.specs.Heads.{is_headed, items_of};
 ghost use Rattle.dsn_shapes.specs.declared.shape.Rim.{Rim as TheRim};
 ghost use Rattle.dsn_shapes.specs.Lists.{capped, has_head, trees_of};
 ghost use Rattle.dsn_shapes.specs.Refusals.{noted};
-ghost use Rattle.dsn_shapes.specs.Shapes.{area_of, ban_notes, ban_of, ban_refusals, ban_shape, bound_forms, bound_of, bound_refusals, first_layers, is_beside, notes_beside, windows_of};
+ghost use Rattle.dsn_shapes.specs.Shapes.{area_of, ban_notes, ban_of, ban_refusals, ban_shape, bound_forms};
+ghost use Rattle.dsn_shapes.specs.Shapes.{bound_of, bound_refusals, first_layers, is_beside, notes_beside};
+ghost use Rattle.dsn_shapes.specs.Shapes.{windows_of};
 
 use crate::known::form_heads;
 use crate::lists::{at_of, is_word};

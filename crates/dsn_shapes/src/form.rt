@@ -3,7 +3,9 @@
 
 ghost use Rattle.std.specs.Prelude.{◌≡◌, ◌++◌, ◌≤◌, drop, length, map, IfOk, OnOk};
 ghost use Rattle.std.specs.List.{flat_map};
-ghost use Rattle.dsn_shapes.specs.Forms.{coord_words, first_coord, form_of, has_count, is_closed, is_same, nth_coord, outline_of, outline_refusals, points_of, ring_of, ring_refusals, vertex_limit, vertices_of, width_of, width_refusal};
+ghost use Rattle.dsn_shapes.specs.Forms.{coord_words, first_coord, form_of, has_count, is_closed, is_same};
+ghost use Rattle.dsn_shapes.specs.Forms.{nth_coord, outline_of, outline_refusals, points_of, ring_of};
+ghost use Rattle.dsn_shapes.specs.Forms.{ring_refusals, vertex_limit, vertices_of, width_of, width_refusal};
 ghost use Rattle.dsn_shapes.specs.Lists.{trees_of, words_of};
 ghost use Rattle.dsn_shapes.specs.Numbers.{word_coord, word_coord_refusal};
 ghost use Rattle.dsn_shapes.specs.Refusals.{noted};
@@ -92,7 +94,8 @@ fn read_coords(
     words: &[&Tree],
     s: Scale,
 ) -> Result<List<Option<i64>>, AllocError>
-    ensures noted { OnOk result (first.new ≡ noted first.old (flat_map (word_coord_refusal s.nm) (trees_of words.now))) }
+    ensures noted { OnOk result
+        (first.new ≡ noted first.old (flat_map (word_coord_refusal s.nm) (trees_of words.now))) }
     ensures value { IfOk result (λ cs. cs ≡ map (word_coord s.nm) (trees_of words.now)) }
 {
     let mut coords = List::new(alloc);
@@ -112,7 +115,8 @@ fn read_coords_from(
     s: Scale,
 ) -> Result<List<Option<i64>>, AllocError>
     requires { from ≤ length words.now }
-    ensures noted { OnOk result (first.new ≡ noted first.old (flat_map (word_coord_refusal s.nm) (drop from words.now))) }
+    ensures noted { OnOk result
+        (first.new ≡ noted first.old (flat_map (word_coord_refusal s.nm) (drop from words.now))) }
     ensures value { IfOk result (λ cs. cs ≡ map (word_coord s.nm) (drop from words.now)) }
 {
     let (_, rest) = words.as_slice().split_at(from);

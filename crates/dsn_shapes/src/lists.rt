@@ -5,7 +5,8 @@ ghost use Rattle.std.specs.Prelude.{◌≡◌, ◌∷◌, ◌==◌, ◌||◌, co
 ghost use Rattle.std.specs.Option.{option_copied};
 ghost use Rattle.std.specs.List.{flat_map, list_any};
 ghost use Rattle.dsn_tree.specs.Heads.{is_headed, items_of};
-ghost use Rattle.dsn_shapes.specs.Lists.{at_of, has_quote, is_left_out, is_word, left_out, name_of, nth_word, place_of, quoted_name, says, text_of};
+ghost use Rattle.dsn_shapes.specs.Lists.{at_of, has_quote, is_left_out, is_word, left_out, name_of, nth_word};
+ghost use Rattle.dsn_shapes.specs.Lists.{place_of, quoted_name, says, text_of};
 ghost use Rattle.dsn_shapes.specs.Refusals.{noted};
 
 use crate::refusal::{Refusal, note, refused};

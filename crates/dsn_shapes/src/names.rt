@@ -49,7 +49,10 @@ fn keep_place<'a>(
     name: &'a [u8],
     place: usize,
 ) -> Result<(), AllocError>
-    ensures { OnOk result ((q : List ℕ) → place_by places.new q ≡ (if is_some (place_by places.old name.now) then place_by places.old q else cond (bytes_eq name.now q) (Some place) (place_by places.old q))) }
+    ensures { OnOk result ((q : List ℕ)
+        → place_by places.new q
+        ≡ (if is_some (place_by places.old name.now) then place_by places.old q
+        else cond (bytes_eq name.now q) (Some place) (place_by places.old q))) }
 {
     if !places.contains_key(name) {
         places.insert(name, place)?;

@@ -2,7 +2,8 @@
 //! A word that is no decimal, or an absent one, is refused with 9, and one beyond its limit with 10.
 
 ghost use Rattle.std.specs.Prelude.{◌≡◌};
-ghost use Rattle.dsn_shapes.specs.Numbers.{coord_at, coord_refusal, extent_at, extent_refusal, word_coord, word_coord_refusal, word_extent, word_extent_refusal};
+ghost use Rattle.dsn_shapes.specs.Numbers.{coord_at, coord_refusal, extent_at, extent_refusal, word_coord};
+ghost use Rattle.dsn_shapes.specs.Numbers.{word_coord_refusal, word_extent, word_extent_refusal};
 ghost use Rattle.dsn_shapes.specs.Refusals.{noted};
 
 use crate::lists::{at_of, nth_word, text_of};

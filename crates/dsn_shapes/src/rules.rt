@@ -1,14 +1,18 @@
 //! Rule sets of a structure, a class or a net: widths and clearances in nm.
 //! Source: SPECCTRA reference, rule, width and clearance descriptors.
 
-ghost use Rattle.std.specs.Prelude.{◌==◌, ◌<◌, length, position, IfSome, ◌≡◌, ◌++◌, ◌∷◌, [], map, codes, count_by, IfOk, OnOk, None, if◌then◌else◌};
+ghost use Rattle.std.specs.Prelude.{◌==◌, ◌<◌, length, position, IfSome, ◌≡◌, ◌++◌, ◌∷◌, [], map, codes, count_by};
+ghost use Rattle.std.specs.Prelude.{IfOk, OnOk, None, if◌then◌else◌};
 ghost use Rattle.std.specs.List.{flat_map};
 ghost use Rattle.std.specs.Option.{option_map_or};
 ghost use Rattle.std.specs.Str.{str_eq_ignore_ascii_case};
 ghost use Rattle.dsn_shapes.specs.Lists.{capped, left_out_in, nth_word, trees_of};
 ghost use Rattle.dsn_shapes.specs.Numbers.{extent_at, extent_refusal, word_extent};
 ghost use Rattle.dsn_shapes.specs.Refusals.{noted};
-ghost use Rattle.dsn_shapes.specs.Rules.{both, clearances_in, is_plain, is_unknown, is_zero, kind_of, last_of, pair_of, pairing_of, plain_at, notes_with, rule_notes, rule_refusals, rule_set, rules_left_out, set_of, set_refusals, split_pair, typed_at, typed_by, width_refusals, widths_in, zero_width};
+ghost use Rattle.dsn_shapes.specs.Rules.{both, clearances_in, is_plain, is_unknown, is_zero, kind_of, last_of};
+ghost use Rattle.dsn_shapes.specs.Rules.{pair_of, pairing_of, plain_at, notes_with, rule_notes, rule_refusals};
+ghost use Rattle.dsn_shapes.specs.Rules.{rule_set, rules_left_out, set_of, set_refusals, split_pair, typed_at};
+ghost use Rattle.dsn_shapes.specs.Rules.{typed_by, width_refusals, widths_in, zero_width};
 
 use crate::known::ListKind;
 use crate::lists::{name_of, nth_word, place_of};
@@ -175,7 +179,9 @@ struct Clearances {
 }
 
 fn add_clearance(clearances: &mut Clearances, tree: &Tree, value: u64) -> Result<(), AllocError>
-    ensures plain { OnOk result (clearances.new.plain ≡ clearances.old.plain ++ (if is_plain (pairing_of tree.now) then value ∷ [] else [])) }
+    ensures plain { OnOk result
+        (clearances.new.plain ≡ clearances.old.plain
+        ++ (if is_plain (pairing_of tree.now) then value ∷ [] else [])) }
     ensures typed { OnOk result (clearances.new.typed ≡ clearances.old.typed ++ typed_by value (pairing_of tree.now)) }
 {
     match pairing_of(tree) {
@@ -192,7 +198,8 @@ fn read_clearances(
     trees: &[&Tree],
     s: Scale,
 ) -> Result<Clearances, AllocError>
-    ensures noted { OnOk result (first.new ≡ noted first.old (flat_map (λ t. extent_refusal s.nm t 1) (trees_of trees.now))) }
+    ensures noted { OnOk result
+        (first.new ≡ noted first.old (flat_map (λ t. extent_refusal s.nm t 1) (trees_of trees.now))) }
     ensures plain { IfOk result (λ v. v.plain ≡ flat_map (plain_at s.nm) (trees_of trees.now)) }
     ensures typed { IfOk result (λ v. v.typed ≡ flat_map (typed_at s.nm) (trees_of trees.now)) }
 {

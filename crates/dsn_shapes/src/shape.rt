@@ -8,7 +8,9 @@ ghost use Rattle.dsn_shapes.specs.Known.{form_heads};
 ghost use Rattle.dsn_shapes.specs.Lists.{has_head};
 ghost use Rattle.dsn_shapes.specs.Forms.{points_of, ring_of, ring_refusals};
 ghost use Rattle.dsn_shapes.specs.Refusals.{Reads, noted};
-ghost use Rattle.dsn_shapes.specs.Shapes.{empty_rim, empty_shape, form_in, held_loop, is_circle, held_shape, loop_of, loop_refusals, no_form, refusals_in, rim_of, rim_refusals, shape_of, shape_refusals, spine_of, spine_refusals};
+ghost use Rattle.dsn_shapes.specs.Shapes.{empty_rim, empty_shape, form_in, held_loop, is_circle, held_shape};
+ghost use Rattle.dsn_shapes.specs.Shapes.{loop_of, loop_refusals, no_form, refusals_in, rim_of, rim_refusals};
+ghost use Rattle.dsn_shapes.specs.Shapes.{shape_of, shape_refusals, spine_of, spine_refusals};
 
 use crate::form::{
     Form, Outline, form_of, points_of, read_outline, refuse_many, refuse_ring, ring_of,
@@ -70,7 +72,9 @@ fn ring(
     form: Form,
     outline: &Outline,
 ) -> Result<List<Point>, AllocError>
-    ensures noted { OnOk result (first.new ≡ noted first.old (ring_refusals form tree.now (length (points_of (ring_of outline.now.coords))))) }
+    ensures noted { OnOk result
+        (first.new ≡ noted first.old
+        (ring_refusals form tree.now (length (points_of (ring_of outline.now.coords))))) }
     ensures value { IfOk result (λ ps. ps ≡ points_of (ring_of outline.now.coords)) }
 {
     let points = points_of(alloc, ring_of(outline.coords.as_slice()))?;

@@ -1,11 +1,13 @@
 //! Lists of a tree that are picked out by their heads, and passes over such lists.
 //! Each call costs what it goes over; the lists stay where they are in the tree.
 
-ghost use Rattle.std.specs.Prelude.{◌≡◌, [], ◌∷◌, ◌++◌, ◌<◌, length, map, filter, slice_get, IfOk, OnErr, OnOk, count_by};
+ghost use Rattle.std.specs.Prelude.{◌≡◌, [], ◌∷◌, ◌++◌, ◌<◌, length, map, filter, slice_get, IfOk, OnErr, OnOk};
+ghost use Rattle.std.specs.Prelude.{count_by};
 ghost use Rattle.std.specs.Option.{option_copied};
 ghost use Rattle.std.specs.List.{list_any, flat_map};
 ghost use Rattle.dsn_tree.specs.Heads.{is_headed, items_of};
-ghost use Rattle.dsn_shapes.specs.Lists.{capped, has_head, heads_of, is_known, is_note, left_out, left_out_in, lists, notes_in, trees_of, words_of};
+ghost use Rattle.dsn_shapes.specs.Lists.{capped, has_head, heads_of, is_known, is_note, left_out, left_out_in};
+ghost use Rattle.dsn_shapes.specs.Lists.{lists, notes_in, trees_of, words_of};
 ghost use Rattle.dsn_shapes.specs.Refusals.{noted};
 
 use crate::known::{ListKind, idle_in, read_in};

@@ -10,9 +10,15 @@ use Rattle.dsn_shapes.specs.Lists.{at_of, name_of, place_of, quoted_name, text_o
 use Rattle.dsn_shapes.specs.Names.{first_place, names_at}
 use Rattle.dsn_shapes.specs.Shapes.{ban_refusals, bound_refusals}
 use Rattle.dsn_shapes.specs.Tabled.{most_of}
-use Rattle.dsn_shapes.proofs.Tabled.{AreTabled, all_left_out_tabled, ban_tabled, both, bound_tabled, each, names_tabled, none, of_some, one, passed, quoted_tabled, rules_tabled, where_fails, where_holds}
-use Rattle.dsn_structure.specs.Header.{count_of, count_refusal, first_of, head_refusals, header_left_out, host_refusal, hosts, not_pcb, parsers, resolution_refusals, resolutions, scale_refusals, unit_of, unit_refusal, units}
-use Rattle.dsn_structure.specs.Layout.{area_refusals, boundaries, controls, frame_layers, frame_refusals, is_unknown, keepouts, layer_lists, layer_refusals, lists_left_out, missing, no_boundary, padstacks, past_limit, refusals_of, rule_lists, structure_refusals, structures, via_lists, via_refusal, via_refusals, via_words}
+use Rattle.dsn_shapes.proofs.Tabled.{AreTabled, all_left_out_tabled, ban_tabled, both, bound_tabled, each, names_tabled}
+use Rattle.dsn_shapes.proofs.Tabled.{none, of_some, one, passed, quoted_tabled, rules_tabled, where_fails, where_holds}
+use Rattle.dsn_structure.specs.Header.{count_of, count_refusal, first_of, head_refusals, header_left_out, host_refusal}
+use Rattle.dsn_structure.specs.Header.{hosts, not_pcb, parsers, resolution_refusals, resolutions, scale_refusals}
+use Rattle.dsn_structure.specs.Header.{unit_of, unit_refusal, units}
+use Rattle.dsn_structure.specs.Layout.{area_refusals, boundaries, controls, frame_layers, frame_refusals, is_unknown}
+use Rattle.dsn_structure.specs.Layout.{keepouts, layer_lists, layer_refusals, lists_left_out, missing, no_boundary}
+use Rattle.dsn_structure.specs.Layout.{padstacks, past_limit, refusals_of, rule_lists, structure_refusals, structures}
+use Rattle.dsn_structure.specs.Layout.{via_lists, via_refusal, via_refusals, via_words}
 
 -- ---- the head
 unit_tabled : (t : Tree) → AreTabled (unit_refusal t)
@@ -20,11 +26,13 @@ unit_tabled t = where_fails (is_some (unit_of (name_of t 1))) 11 (place_of t 1) 
 
 resolution_tabled : (pcb : Tree) (o : Option Tree) → AreTabled (resolution_refusals pcb o)
 resolution_tabled pcb None = one 8 (at_of pcb) refl
-resolution_tabled pcb (Some t) = both (unit_refusal t) (count_refusal t) (unit_tabled t) (where_fails (is_some (count_of t)) 9 (place_of t 2) refl)
+resolution_tabled pcb (Some t) =
+    both (unit_refusal t) (count_refusal t) (unit_tabled t) (where_fails (is_some (count_of t)) 9 (place_of t 2) refl)
 
 scale_tabled : (pcb : Tree) (ts us : List Tree) → AreTabled (scale_refusals pcb ts us)
 unfolding scale_refusals
-scale_tabled pcb ts us = both _ _ (resolution_tabled pcb (first_of ts)) (of_some unit_refusal (first_of us) [] unit_tabled none)
+scale_tabled pcb ts us =
+    both _ _ (resolution_tabled pcb (first_of ts)) (of_some unit_refusal (first_of us) [] unit_tabled none)
 
 host_tabled : (ts : List Tree) → AreTabled (host_refusal ts)
 unfolding host_refusal
@@ -36,27 +44,35 @@ head_tabled pcb =
     (both (quoted_name pcb 1) _ (quoted_tabled pcb 1)
     (both (scale_refusals pcb (resolutions pcb) (units pcb)) _ (scale_tabled pcb (resolutions pcb) (units pcb))
     (both (host_refusal (hosts (codes "host_cad") pcb)) _ (host_tabled (hosts (codes "host_cad") pcb))
-    (both (host_refusal (hosts (codes "host_version") pcb)) (header_left_out pcb) (host_tabled (hosts (codes "host_version") pcb))
+    (both (host_refusal (hosts (codes "host_version") pcb)) (header_left_out pcb)
+    (host_tabled (hosts (codes "host_version") pcb))
     (both _ _ (all_left_out_tabled (pcb ∷ [])) (all_left_out_tabled (parsers pcb)))))))
 
 -- ---- the structure
 limit_tabled : (what : What) → what ≢ Nothing → (ts : List Tree) → AreTabled (past_limit what (most_of what) ts)
-limit_tabled what some ts = of_some (λ t. record { number = 23; at = at_of t; what = what; limit = most_of what } ∷ []) (slice_get ts (most_of what)) [] (λ t. passed what (at_of t) some) none
+limit_tabled what some ts =
+    of_some (λ t. record { number = 23; at = at_of t; what = what; limit = most_of what } ∷ [])
+    (slice_get ts (most_of what)) [] (λ t. passed what (at_of t) some) none
 
 layers_tabled : (ts : List Tree) → AreTabled (layer_refusals ts)
 unfolding layer_refusals
-layers_tabled ts = both _ _ (each (λ t. quoted_name t 1) (λ t. quoted_tabled t 1) ts) (both _ _ (names_tabled 1 ts) (limit_tabled Layers (λ e. cc) ts))
+layers_tabled ts =
+    both _ _ (each (λ t. quoted_name t 1) (λ t. quoted_tabled t 1) ts)
+    (both _ _ (names_tabled 1 ts) (limit_tabled Layers (λ e. cc) ts))
 
 boundary_tabled : (bounds : List Tree) (o : Option Tree) → AreTabled (no_boundary bounds o)
 boundary_tabled bounds None = none
 boundary_tabled bounds (Some t) = where_holds (length bounds == 0) 24 (at_of t) refl
 
 missing_tabled : (pcb : Tree) (structs ls bounds : List Tree) → AreTabled (missing pcb structs ls bounds)
-missing_tabled pcb structs ls bounds = both _ _ (where_holds (length structs == 0 || length ls == 0) 8 (at_of pcb) refl) (boundary_tabled bounds (slice_get structs 0))
+missing_tabled pcb structs ls bounds =
+    both _ _ (where_holds (length structs == 0 || length ls == 0) 8 (at_of pcb) refl)
+    (boundary_tabled bounds (slice_get structs 0))
 
 sections_tabled : (structs ls ctrls : List Tree) → AreTabled (lists_left_out structs ls ctrls)
 unfolding lists_left_out
-sections_tabled structs ls ctrls = both _ _ (all_left_out_tabled structs) (both _ _ (all_left_out_tabled ls) (all_left_out_tabled ctrls))
+sections_tabled structs ls ctrls =
+    both _ _ (all_left_out_tabled structs) (both _ _ (all_left_out_tabled ls) (all_left_out_tabled ctrls))
 
 frame_tabled : (pcb : Tree) (structs bounds : List Tree) → AreTabled (frame_refusals pcb structs bounds)
 unfolding frame_refusals
@@ -64,17 +80,22 @@ frame_tabled pcb structs bounds =
     both (missing pcb structs (layer_lists structs) bounds) _ (missing_tabled pcb structs (layer_lists structs) bounds)
     (both _ _ (sections_tabled structs (layer_lists structs) (controls structs)) (layers_tabled (layer_lists structs)))
 
-areas_tabled : (nm : ℕ) (layers : List Layer) (bounds bans : List Tree) → AreTabled (area_refusals nm layers bounds bans)
+areas_tabled : (nm : ℕ) (layers : List Layer) (bounds bans : List Tree)
+    → AreTabled (area_refusals nm layers bounds bans)
 unfolding area_refusals
 areas_tabled nm layers bounds bans =
     both _ _ (each (bound_refusals nm layers) (bound_tabled nm layers) bounds)
-    (both _ _ (each (ban_refusals nm layers) (ban_tabled nm layers) bans) (limit_tabled Items (λ e. cc) (bounds ++ bans)))
+    (both _ _ (each (ban_refusals nm layers) (ban_tabled nm layers) bans)
+    (limit_tabled Items (λ e. cc) (bounds ++ bans)))
 
 vias_tabled : (known : List (List ℕ)) (ts : List Tree) → AreTabled (via_refusals known ts)
 unfolding via_refusals
-vias_tabled known ts = each (via_refusal known) (λ w. where_holds (is_unknown (first_place (text_of w) known)) 14 (at_of w) refl) (via_words ts)
+vias_tabled known ts =
+    each (via_refusal known) (λ w. where_holds (is_unknown (first_place (text_of w) known)) 14 (at_of w) refl)
+    (via_words ts)
 
-parts_tabled : (nm : ℕ) (pcb : Tree) (structs bounds bans rules : List Tree) → AreTabled (refusals_of nm pcb structs bounds bans rules)
+parts_tabled : (nm : ℕ) (pcb : Tree) (structs bounds bans rules : List Tree)
+    → AreTabled (refusals_of nm pcb structs bounds bans rules)
 unfolding refusals_of
 parts_tabled nm pcb structs bounds bans rules =
     both _ _ (frame_tabled pcb structs bounds)
@@ -83,4 +104,6 @@ parts_tabled nm pcb structs bounds bans rules =
 
 pub structure_tabled : (nm : ℕ) (pcb : Tree) → AreTabled (structure_refusals nm pcb)
 unfolding structure_refusals
-structure_tabled nm pcb = parts_tabled nm pcb (structures pcb) (boundaries (structures pcb)) (keepouts (structures pcb)) (rule_lists (structures pcb))
+structure_tabled nm pcb =
+    parts_tabled nm pcb (structures pcb) (boundaries (structures pcb)) (keepouts (structures pcb))
+    (rule_lists (structures pcb))

@@ -1,5 +1,6 @@
 -- What stands before the sections: the design's name, its resolution and unit, and what wrote it.
-use Rattle.std.specs.Prelude.{◌==◌, ◌&&◌, ◌+◌, ℕ, List, [], ◌∷◌, ◌++◌, Option, Some, None, codes, is_some, slice_get, unwrap_or, if◌then◌else◌}
+use Rattle.std.specs.Prelude.{◌==◌, ◌&&◌, ◌+◌, ℕ, List, [], ◌∷◌, ◌++◌, Option, Some, None, codes, is_some, slice_get}
+use Rattle.std.specs.Prelude.{unwrap_or, if◌then◌else◌}
 use Rattle.std.specs.Option.{option_map, option_map_or}
 use Rattle.std.specs.Str.{str_eq_ignore_ascii_case}
 use Rattle.dsn_tree.specs.declared.tree.Tree.{Tree}
@@ -15,7 +16,8 @@ use Rattle.dsn_shapes.specs.declared.known.ListKind.TheVariants as list
 use Rattle.dsn_shapes.specs.declared.refusal.Refusal.{Refusal}
 use Rattle.dsn_shapes.specs.declared.parts.Head.{Head}
 use Rattle.dsn_shapes.specs.Refusals.{refused}
-use Rattle.dsn_shapes.specs.Lists.{at_of, text_of, lists, name_of, nth_word, place_of, quoted_name, capped, notes_in, left_out_in}
+use Rattle.dsn_shapes.specs.Lists.{at_of, text_of, lists, name_of, nth_word, place_of, quoted_name, capped, notes_in}
+use Rattle.dsn_shapes.specs.Lists.{left_out_in}
 
 -- ---- lists
 abbrev pub resolutions : Tree → List Tree

@@ -1,5 +1,6 @@
 -- The structure: layers, boundaries, keepouts, via padstacks and rules.
-use Rattle.std.specs.Prelude.{◌==◌, ◌||◌, ◌+◌, ℕ, Bool, true, false, List, [], ◌∷◌, ◌++◌, Option, Some, None, codes, length, map, filter, drop, slice_get, sum_by, if◌then◌else◌}
+use Rattle.std.specs.Prelude.{◌==◌, ◌||◌, ◌+◌, ℕ, Bool, true, false, List, [], ◌∷◌, ◌++◌, Option, Some, None, codes}
+use Rattle.std.specs.Prelude.{length, map, filter, drop, slice_get, sum_by, if◌then◌else◌}
 use Rattle.std.specs.List.{flat_map, list_any}
 use Rattle.std.specs.Option.{option_map_or}
 use Rattle.dsn_tree.specs.declared.tree.Tree.{Tree}
@@ -12,7 +13,8 @@ use Rattle.dsn_shapes.specs.declared.parts.Layer.{Layer}
 use Rattle.dsn_shapes.specs.declared.parts.Structure.{Structure}
 use Rattle.dsn_shapes.specs.Refusals.{refused}
 use Rattle.dsn_shapes.specs.Known.{keepout_heads}
-use Rattle.dsn_shapes.specs.Lists.{at_of, text_of, is_word, lists, name_of, says, quoted_name, capped, notes_in, left_out_in}
+use Rattle.dsn_shapes.specs.Lists.{at_of, text_of, is_word, lists, name_of, says, quoted_name, capped, notes_in}
+use Rattle.dsn_shapes.specs.Lists.{left_out_in}
 use Rattle.dsn_shapes.specs.Names.{names_at, first_place, same_names}
 use Rattle.dsn_shapes.specs.Shapes.{ban_of, ban_refusals, ban_notes, bound_of, bound_refusals}
 use Rattle.dsn_shapes.specs.Rules.{rule_set, rule_refusals, rule_notes}
@@ -46,7 +48,8 @@ padstacks pcb = lists (codes "padstack" ∷ []) (lists (codes "library" ∷ []) 
 -- ---- limits
 -- the first list past a limit
 abbrev pub past_limit : What → ℕ → List Tree → List Refusal
-past_limit what limit ts = option_map_or (λ t. record { number = 23; at = at_of t; what = what; limit = limit } ∷ []) (slice_get ts limit) []
+past_limit what limit ts =
+    option_map_or (λ t. record { number = 23; at = at_of t; what = what; limit = limit } ∷ []) (slice_get ts limit) []
 
 -- ---- layers
 -- a layer of type `power` is a power layer
@@ -69,11 +72,13 @@ no_boundary bounds None = []
 no_boundary bounds (Some t) = if length bounds == 0 then refused 24 (at_of t) ∷ [] else []
 
 abbrev pub missing : Tree → List Tree → List Tree → List Tree → List Refusal
-missing pcb structs ls bounds = (if length structs == 0 || length ls == 0 then refused 8 (at_of pcb) ∷ [] else []) ++ no_boundary bounds (slice_get structs 0)
+missing pcb structs ls bounds = (if length structs == 0 || length ls == 0 then refused 8 (at_of pcb) ∷ [] else [])
+    ++ no_boundary bounds (slice_get structs 0)
 
 -- ---- boundaries and keepouts
 unfoldable pub area_refusals : ℕ → List Layer → List Tree → List Tree → List Refusal
-area_refusals nm layers bounds bans = flat_map (bound_refusals nm layers) bounds ++ (flat_map (ban_refusals nm layers) bans ++ past_limit Items 1048576 (bounds ++ bans))
+area_refusals nm layers bounds bans = flat_map (bound_refusals nm layers) bounds
+    ++ (flat_map (ban_refusals nm layers) bans ++ past_limit Items 1048576 (bounds ++ bans))
 
 -- ---- via padstacks, each of which the library has
 -- the words behind the head of a list
@@ -107,9 +112,13 @@ via_at_smd ctrls = any_says (codes "on") (lists (codes "via_at_smd" ∷ []) ctrl
 
 -- `(place_control (flip_style rotate_first))` in the structure or the placement
 unfoldable pub flip_last : Tree → Bool
-flip_last pcb = any_says (codes "rotate_first") (lists (codes "flip_style" ∷ []) (lists (codes "place_control" ∷ []) (lists (codes "structure" ∷ codes "placement" ∷ []) (pcb ∷ []))))
+flip_last pcb =
+    any_says (codes "rotate_first")
+    (lists (codes "flip_style" ∷ [])
+    (lists (codes "place_control" ∷ []) (lists (codes "structure" ∷ codes "placement" ∷ []) (pcb ∷ []))))
 
--- ---- lists that are left out or passed over, beside those of the table `read_in` and `idle_in`; a plane is passed over
+-- ---- lists that are left out or passed over, beside those of the table `read_in` and `idle_in`; a plane is passed
+-- over
 unfoldable pub lists_left_out : List Tree → List Tree → List Tree → List Refusal
 lists_left_out structs ls ctrls = left_out_in structs ++ (left_out_in ls ++ left_out_in ctrls)
 
@@ -123,7 +132,8 @@ unfoldable pub frame_layers : List Tree → List Layer
 frame_layers structs = layers_in (layer_lists structs)
 
 unfoldable pub frame_refusals : Tree → List Tree → List Tree → List Refusal
-frame_refusals pcb structs bounds = missing pcb structs (layer_lists structs) bounds ++ (lists_left_out structs (layer_lists structs) (controls structs) ++ layer_refusals (layer_lists structs))
+frame_refusals pcb structs bounds = missing pcb structs (layer_lists structs) bounds
+    ++ (lists_left_out structs (layer_lists structs) (controls structs) ++ layer_refusals (layer_lists structs))
 
 unfoldable pub frame_notes : List Tree → ℕ
 frame_notes structs = lists_passed structs (layer_lists structs) (controls structs)
@@ -150,7 +160,11 @@ value_of nm pcb structs bounds bans rules = record {
 
 -- the same of a design, whose sections of that head count together
 unfoldable pub structure_refusals : ℕ → Tree → List Refusal
-structure_refusals nm pcb = refusals_of nm pcb (structures pcb) (boundaries (structures pcb)) (keepouts (structures pcb)) (rule_lists (structures pcb))
+structure_refusals nm pcb =
+    refusals_of nm pcb (structures pcb) (boundaries (structures pcb)) (keepouts (structures pcb))
+    (rule_lists (structures pcb))
 
 unfoldable pub structure_of : ℕ → Tree → Structure
-structure_of nm pcb = value_of nm pcb (structures pcb) (boundaries (structures pcb)) (keepouts (structures pcb)) (rule_lists (structures pcb))
+structure_of nm pcb =
+    value_of nm pcb (structures pcb) (boundaries (structures pcb)) (keepouts (structures pcb))
+    (rule_lists (structures pcb))

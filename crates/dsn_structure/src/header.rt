@@ -4,7 +4,11 @@
 ghost use Rattle.std.specs.Prelude.{◌≡◌, ◌∷◌, [], IfOk, OnOk};
 ghost use Rattle.dsn_shapes.specs.Refusals.{Reads, noted};
 ghost use Rattle.dsn_shapes.specs.Lists.{name_of};
-ghost use Rattle.dsn_structure.specs.Header.{count_of, count_refusal, first_of, head_of, head_refusals, header_left_out, header_notes, host_in, host_of, host_refusal, hosts, not_pcb, parsers, resolution_count, resolution_refusals, resolution_unit, resolutions, scale_of, scale_refusals, some_count, unit_in, unit_of, unit_refusal, units};
+ghost use Rattle.dsn_structure.specs.Header.{count_of, count_refusal, first_of, head_of, head_refusals};
+ghost use Rattle.dsn_structure.specs.Header.{header_left_out, header_notes, host_in, host_of, host_refusal, hosts};
+ghost use Rattle.dsn_structure.specs.Header.{not_pcb, parsers, resolution_count, resolution_refusals};
+ghost use Rattle.dsn_structure.specs.Header.{resolution_unit, resolutions, scale_of, scale_refusals, some_count};
+ghost use Rattle.dsn_structure.specs.Header.{unit_in, unit_of, unit_refusal, units};
 ghost use Rattle.dsn_structure.specs.Sound.{IsHeadSound};
 ghost use Rattle.std.specs.Option.{option_map_or};
 ghost use Rattle.std.specs.Prelude.{codes, unwrap_or};
@@ -165,7 +169,8 @@ fn read_resolution(
     first: &mut Option<Refusal>,
     pcb: &Tree,
 ) -> Result<Resolution, AllocError>
-    ensures noted { OnOk result (first.new ≡ noted first.old (scale_refusals pcb.now (resolutions pcb.now) (units pcb.now))) }
+    ensures noted { OnOk result
+        (first.new ≡ noted first.old (scale_refusals pcb.now (resolutions pcb.now) (units pcb.now))) }
     ensures unit { IfOk result (λ r. r.unit ≡ resolution_unit (resolutions pcb.now)) }
     ensures per { IfOk result (λ r. r.per ≡ resolution_count (resolutions pcb.now)) }
     ensures scale { IfOk result (λ r. r.scale ≡ scale_of (units pcb.now) (resolutions pcb.now)) }

@@ -4,7 +4,9 @@
 ghost use Rattle.std.specs.Prelude.{◌≡◌, slice_get, IfOk, OnOk};
 ghost use Rattle.dsn_shapes.specs.Lists.{capped};
 ghost use Rattle.dsn_shapes.specs.Refusals.{noted};
-ghost use Rattle.dsn_structure.specs.Layout.{frame_layers, frame_notes, frame_refusals, is_power, layer_refusals, layers_in, lists_left_out, lists_passed, missing, no_boundary, past_limit};
+ghost use Rattle.dsn_structure.specs.Layout.{frame_layers, frame_notes, frame_refusals, is_power, layer_refusals};
+ghost use Rattle.dsn_structure.specs.Layout.{layers_in, lists_left_out, lists_passed, missing, no_boundary};
+ghost use Rattle.dsn_structure.specs.Layout.{past_limit};
 
 use dsn_shapes::{
     Layer, ListKind, NameIndex, Part, Refusal, Trees, What, at_of, name_of, note, pass_over,

@@ -3,7 +3,8 @@
 
 ghost use Rattle.std.specs.Prelude.{◌≡◌, IfOk, OnOk};
 ghost use Rattle.dsn_shapes.specs.Refusals.{Reads, noted};
-ghost use Rattle.dsn_structure.specs.Layout.{boundaries, keepouts, refusals_of, rule_lists, structure_of, structure_refusals, structures, value_of};
+ghost use Rattle.dsn_structure.specs.Layout.{boundaries, keepouts, refusals_of, rule_lists, structure_of};
+ghost use Rattle.dsn_structure.specs.Layout.{structure_refusals, structures, value_of};
 ghost use Rattle.dsn_structure.specs.Sound.{IsStructureSound};
 
 use crate::areas::{keepouts, read_areas};
@@ -23,8 +24,11 @@ fn note_parts(
     lists: &Lists,
     s: Scale,
 ) -> Result<Structure, AllocError>
-    ensures noted { OnOk result (first.new ≡ noted first.old (refusals_of s.nm pcb.now lists.now.structs lists.now.bounds lists.now.bans lists.now.rules)) }
-    ensures value { IfOk result (λ v. v ≡ value_of s.nm pcb.now lists.now.structs lists.now.bounds lists.now.bans lists.now.rules) }
+    ensures noted { OnOk result
+        (first.new ≡ noted first.old
+        (refusals_of s.nm pcb.now lists.now.structs lists.now.bounds lists.now.bans lists.now.rules)) }
+    ensures value { IfOk result
+        (λ v. v ≡ value_of s.nm pcb.now lists.now.structs lists.now.bounds lists.now.bans lists.now.rules) }
 {
     let frame = read_frame(alloc, first, pcb, &lists.structs, &lists.bounds)?;
     let areas = read_areas(alloc, first, &lists.bounds, &lists.bans, s, &frame.layers)?;

@@ -6,7 +6,8 @@ ghost use Rattle.std.specs.List.{flat_map};
 ghost use Rattle.dsn_shapes.specs.Lists.{is_word, text_of, trees_of};
 ghost use Rattle.dsn_shapes.specs.Names.{names_at};
 ghost use Rattle.dsn_shapes.specs.Refusals.{noted};
-ghost use Rattle.dsn_structure.specs.Layout.{any_says, controls, flip_last, names_in, padstacks, via_at_smd, via_lists, via_names, via_refusal, via_refusals, via_words};
+ghost use Rattle.dsn_structure.specs.Layout.{any_says, controls, flip_last, names_in, padstacks, via_at_smd};
+ghost use Rattle.dsn_structure.specs.Layout.{via_lists, via_names, via_refusal, via_refusals, via_words};
 
 use dsn_shapes::{NameIndex, Refusal, Trees, at_of, is_word, note, refused, says, text_of};
 use dsn_tree::{Tree, items};
@@ -90,7 +91,8 @@ fn read_vias(
     pcb: &Tree,
     lists: &Trees,
 ) -> Result<List<Name>, AllocError>
-    ensures noted { OnOk result (first.new ≡ noted first.old (via_refusals (names_at 1 (padstacks pcb.now)) lists.now)) }
+    ensures noted { OnOk result
+        (first.new ≡ noted first.old (via_refusals (names_at 1 (padstacks pcb.now)) lists.now)) }
     ensures value { IfOk result (λ ns. ns ≡ via_names lists.now) }
 {
     let libraries = Trees::in_list(alloc, pcb, b"library")?;
@@ -147,7 +149,8 @@ pub(crate) fn read_switches(
     pcb: &Tree,
     structs: &Trees,
 ) -> Result<Vias, AllocError>
-    ensures noted { OnOk result (first.new ≡ noted first.old (via_refusals (names_at 1 (padstacks pcb.now)) (via_lists structs.now))) }
+    ensures noted { OnOk result
+        (first.new ≡ noted first.old (via_refusals (names_at 1 (padstacks pcb.now)) (via_lists structs.now))) }
     ensures names { IfOk result (λ v. v.names ≡ via_names (via_lists structs.now)) }
     ensures at_smd { IfOk result (λ v. v.at_smd ≡ via_at_smd (controls structs.now)) }
     ensures flip_last { IfOk result (λ v. v.flip_last ≡ flip_last pcb.now) }

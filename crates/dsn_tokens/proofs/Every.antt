@@ -1,5 +1,6 @@
 -- Every text has a reading.
-use Rattle.std.proofs.Common.{◌≡◌, ◌≢◌, ◌<◌, ◌≤◌, ◌+◌, ◌-◌, ◌==◌, ◌∙◌, ap, sym, ℕ, Bool, true, false, List, [], ◌∷◌, length, arith, refl, zero, suc, inl, inr, length-append}
+use Rattle.std.proofs.Common.{◌≡◌, ◌≢◌, ◌<◌, ◌≤◌, ◌+◌, ◌-◌, ◌==◌, ◌∙◌, ap, sym, ℕ, Bool, true, false, List, [], ◌∷◌}
+use Rattle.std.proofs.Common.{length, arith, refl, zero, suc, inl, inr, length-append}
 use Rattle.std.specs.Prelude.{Some, None, Option}
 use Rattle.std.specs.List.{flat_map}
 use Rattle.std.proofs.lemmas.Bool.Decides.{nat_tests}
@@ -34,7 +35,8 @@ data Outcome (line : Line) (c : Context) (bytes : List ℕ) (last : ℕ) : Type 
 minus : (last n : ℕ) → n ≤ last → last - n + n ≡ last
 minus last n h = omega arith
 
-quoting : (c : Context) (b : ℕ) (rest : List ℕ) (last : ℕ) (k : Bool) → can_quote b ≡ k → c.line ≡ Quoting → length (b ∷ rest) ≤ last → Outcome Quoting c (b ∷ rest) last
+quoting : (c : Context) (b : ℕ) (rest : List ℕ) (last : ℕ) (k : Bool) → can_quote b ≡ k → c.line ≡ Quoting
+    → length (b ∷ rest) ≤ last → Outcome Quoting c (b ∷ rest) last
 quoting c b rest last true e l h = token (record {
   mark = Word (b ∷ []);
   rest = rest;
@@ -43,20 +45,41 @@ quoting c b rest last true e l h = token (record {
   short = omega arith;
 })
 quoting c b rest last false e l h =
-    fault (BadQuoteByte (last - length (b ∷ rest))) (record { byte = b; rest = rest; due = l; here = refl; other = e }, minus last _ h)
+    fault (BadQuoteByte (last - length (b ∷ rest))) (
+      record { byte = b; rest = rest; due = l; here = refl; other = e },
+      minus last _ h,
+    )
 
-word_short : (q : ℕ) (pieces : List Piece) (bytes rest : List ℕ) → 0 < length pieces → bytes ≡ pieces_then q pieces rest → length rest < length bytes
-word_short q pieces bytes rest some e = omega (arith, ap length (e ∙ pieces_split q pieces rest), length-append (pieces_then q pieces []) rest, long_pieces q pieces some)
+word_short : (q : ℕ) (pieces : List Piece) (bytes rest : List ℕ) → 0 < length pieces → bytes ≡ pieces_then q pieces rest
+    → length rest < length bytes
+word_short q pieces bytes rest some e =
+    omega (
+      arith,
+      ap length (e ∙ pieces_split q pieces rest),
+      length-append (pieces_then q pieces []) rest,
+      long_pieces q pieces some,
+    )
 
-word : (line : Line) (c : Context) (bytes : List ℕ) (last : ℕ) (w : List ℕ × ℕ) → line ≡ c.line → line ≢ Quoting → (EndsWord bytes → ⊥) → length bytes ≤ last → Worded c.quote bytes w → Outcome line c bytes last
+word : (line : Line) (c : Context) (bytes : List ℕ) (last : ℕ) (w : List ℕ × ℕ) → line ≡ c.line → line ≢ Quoting
+    → (EndsWord bytes → ⊥) → length bytes ≤ last → Worded c.quote bytes w → Outcome line c bytes last
 word line c bytes last w l nq ne h f = elim f.left [
-  | inl x ↦ let some : 0 < length f.pieces = some_pieces c.quote f.pieces bytes f.behind f.text ne x.1 in token (record {
-    mark = Word (flat_map piece_text f.pieces);
-    rest = f.behind;
-    context = behind_word c (pieces_then c.quote f.pieces []);
-    is = mark_token line (Word (flat_map piece_text f.pieces)) c bytes f.behind _ nq (record { pieces = f.pieces; some = some; each = f.each; spelled = f.text; ends = x.1; joined = refl; context = refl });
-    short = word_short c.quote f.pieces bytes f.behind some f.text;
-  })
+  | inl x ↦ let some : 0 < length f.pieces = some_pieces c.quote f.pieces bytes f.behind f.text ne x.1 in
+      token (record {
+        mark = Word (flat_map piece_text f.pieces);
+        rest = f.behind;
+        context = behind_word c (pieces_then c.quote f.pieces []);
+        is = mark_token line (Word (flat_map piece_text f.pieces)) c bytes f.behind _ nq
+            (record {
+              pieces = f.pieces;
+              some = some;
+              each = f.each;
+              spelled = f.text;
+              ends = x.1;
+              joined = refl;
+              context = refl;
+            });
+        short = word_short c.quote f.pieces bytes f.behind some f.text;
+      })
   | inr x ↦ fault (QuoteOpen (last - length (c.quote ∷ x.0))) (record {
     pieces = f.pieces;
     inside = x.0;
@@ -64,7 +87,13 @@ word line c bytes last w l nq ne h f = elim f.left [
     each = f.each;
     unclosed = x.2;
     spelled = rw (← x.1) f.text;
-    opened_at = minus last _ (omega (arith, ap length (f.text ∙ pieces_split c.quote f.pieces f.behind), length-append (pieces_then c.quote f.pieces []) f.behind, ap length x.1));
+    opened_at = minus last _
+        (omega (
+          arith,
+          ap length (f.text ∙ pieces_split c.quote f.pieces f.behind),
+          length-append (pieces_then c.quote f.pieces []) f.behind,
+          ap length x.1,
+        ));
   })
 ]
 
@@ -74,25 +103,34 @@ is_byte a b e = grind (arith, nat_tests)
 is_other : (a b : ℕ) → (a == b) ≡ false → a ≢ b
 is_other a b e = grind (arith, nat_tests)
 
-bracket : (line : Line) (m : Mark) (c : Context) (b : ℕ) (rest : List ℕ) (d : Context) (last : ℕ) → IsTokenAt line m c (b ∷ rest) rest d → Outcome line c (b ∷ rest) last
+bracket : (line : Line) (m : Mark) (c : Context) (b : ℕ) (rest : List ℕ) (d : Context) (last : ℕ)
+    → IsTokenAt line m c (b ∷ rest) rest d → Outcome line c (b ∷ rest) last
 bracket line m c b rest d last is = token (record { mark = m; rest = rest; context = d; is = is; short = omega arith })
 
-plain : (line : Line) (c : Context) (b : ℕ) (rest : List ℕ) (last : ℕ) (left right : Bool) → line ≡ c.line → line ≢ Quoting → StartsToken Begun (b ∷ rest) → length (b ∷ rest) ≤ last → (b == 40) ≡ left → (b == 41) ≡ right → Outcome line c (b ∷ rest) last
+plain : (line : Line) (c : Context) (b : ℕ) (rest : List ℕ) (last : ℕ) (left right : Bool) → line ≡ c.line
+    → line ≢ Quoting → StartsToken Begun (b ∷ rest) → length (b ∷ rest) ≤ last → (b == 40) ≡ left → (b == 41) ≡ right
+    → Outcome line c (b ∷ rest) last
 plain line c b rest last true right l nq s h e f =
-    bracket line Left c b rest (behind_token true c.quote) last (mark_token line Left c (b ∷ rest) rest _ nq (ap (λ x. x ∷ rest) (is_byte b 40 e), refl))
+    bracket line Left c b rest (behind_token true c.quote) last
+    (mark_token line Left c (b ∷ rest) rest _ nq (ap (λ x. x ∷ rest) (is_byte b 40 e), refl))
 plain line c b rest last false true l nq s h e f =
-    bracket line Right c b rest (behind_token false c.quote) last (mark_token line Right c (b ∷ rest) rest _ nq (ap (λ x. x ∷ rest) (is_byte b 41 f), refl))
+    bracket line Right c b rest (behind_token false c.quote) last
+    (mark_token line Right c (b ∷ rest) rest _ nq (ap (λ x. x ∷ rest) (is_byte b 41 f), refl))
 plain line c b rest last false false l nq s h e f =
-    word line c (b ∷ rest) last _ l nq (ends_word_at (b ∷ rest) (omega arith) s.0 (is_other b 40 e) (is_other b 41 f)) h (worded c.quote (b ∷ rest))
+    word line c (b ∷ rest) last _ l nq (ends_word_at (b ∷ rest) (omega arith) s.0 (is_other b 40 e) (is_other b 41 f)) h
+    (worded c.quote (b ∷ rest))
 
 unskipped : (b : ℕ) (line : Line) (rest : List ℕ) → StartsToken line (b ∷ rest) → StartsToken Begun (b ∷ rest)
 unskipped b line rest s = (s.0, λ e. let f : Begun ≡ Fresh = e in cc)
 
-outcome : (line behind : Line) (c : Context) (bytes : List ℕ) (last : ℕ) → line ≡ c.line → StartsToken behind bytes → length bytes ≤ last → Outcome line c bytes last
+outcome : (line behind : Line) (c : Context) (bytes : List ℕ) (last : ℕ) → line ≡ c.line → StartsToken behind bytes
+    → length bytes ≤ last → Outcome line c bytes last
 outcome line behind c [] last l s h = absurd s
 outcome Quoting behind c (b ∷ rest) last l s h = quoting c b rest last (can_quote b) refl (sym l) h
-outcome Fresh behind c (b ∷ rest) last l s h = plain Fresh c b rest last (b == 40) (b == 41) l (λ e. cc) (unskipped b behind rest s) h refl refl
-outcome Begun behind c (b ∷ rest) last l s h = plain Begun c b rest last (b == 40) (b == 41) l (λ e. cc) (unskipped b behind rest s) h refl refl
+outcome Fresh behind c (b ∷ rest) last l s h =
+    plain Fresh c b rest last (b == 40) (b == 41) l (λ e. cc) (unskipped b behind rest s) h refl refl
+outcome Begun behind c (b ∷ rest) last l s h =
+    plain Begun c b rest last (b == 40) (b == 41) l (λ e. cc) (unskipped b behind rest s) h refl refl
 
 record Read (p : Place) : Type 0 where
   ts : List Token
@@ -102,27 +140,47 @@ record Read (p : Place) : Type 0 where
 spaces_short : (spaces : List Space) (rest : List ℕ) → length rest ≤ length (spaces_then spaces rest)
 spaces_short [] rest = omega arith
 spaces_short (blank b ∷ spaces) rest = omega (arith, spaces_short spaces rest)
-spaces_short (skipped inside ∷ spaces) rest = omega (arith, spaces_short spaces rest, length-append inside (10 ∷ spaces_then spaces rest))
+spaces_short (skipped inside ∷ spaces) rest =
+    omega (arith, spaces_short spaces rest, length-append inside (10 ∷ spaces_then spaces rest))
 
 gap_short : (p : Place) (bytes : List ℕ) → IsBehindGap p bytes → length bytes ≤ length p.rest
 gap_short p bytes g = omega (arith, ap length g.text, spaces_short g.spaces bytes)
 
-read_on : (p : Place) (bytes : List ℕ) → IsBehindGap p bytes → ((q : Place) → length q.rest < length p.rest → Read q) → Outcome p.context.line p.context bytes (end_of p) → Read p
-read_on p bytes g more (fault f x) = record { ts = []; end = Some f; reading = record { bytes = bytes; gap = g; fault = x } }
+read_on : (p : Place) (bytes : List ℕ) → IsBehindGap p bytes → ((q : Place) → length q.rest < length p.rest → Read q)
+    → Outcome p.context.line p.context bytes (end_of p) → Read p
+read_on p bytes g more (fault f x) =
+    record { ts = []; end = Some f; reading = record { bytes = bytes; gap = g; fault = x } }
 read_on p bytes g more (token x) =
     let short : length bytes ≤ length p.rest = gap_short p bytes g in
     let q : Place = record { at = end_of p - length x.rest; rest = x.rest; context = x.context } in
     let r = more q (omega (arith, x.short)) in record {
       ts = record { at = end_of p - length bytes; mark = x.mark } ∷ r.ts;
       end = r.end;
-      reading = (q, record { bytes = bytes; gap = g; token = x.is; token_at = minus (end_of p) _ (omega arith); same_end = minus (end_of p) _ (omega (arith, x.short)) }, r.reading);
+      reading = (
+        q,
+        record {
+          bytes = bytes;
+          gap = g;
+          token = x.is;
+          token_at = minus (end_of p) _ (omega arith);
+          same_end = minus (end_of p) _ (omega (arith, x.short));
+        },
+        r.reading,
+      );
     }
 
-read_gap : (p : Place) (rest : List ℕ) → ((q : Place) → length q.rest < length p.rest → Read q) → Gapped p.context.line p.rest rest → Read p
+read_gap : (p : Place) (rest : List ℕ) → ((q : Place) → length q.rest < length p.rest → Read q)
+    → Gapped p.context.line p.rest rest → Read p
 read_gap p rest more g = elim g.left [
-  | inl x ↦ let k : IsBehindGap p g.behind = record { spaces = g.spaces; is_gap = g.is_gap; text = g.text; starts = x.1 } in
-      read_on p g.behind k more (outcome p.context.line _ p.context g.behind (end_of p) refl x.1 (omega (arith, gap_short p g.behind k)))
-  | inr x ↦ record { ts = []; end = None; reading = record { spaces = g.spaces; last = g.behind; is_gap = g.is_gap; text = g.text; ends = x.1 } }
+  | inl x ↦ let k : IsBehindGap p g.behind =
+      record { spaces = g.spaces; is_gap = g.is_gap; text = g.text; starts = x.1 } in
+      read_on p g.behind k more
+      (outcome p.context.line _ p.context g.behind (end_of p) refl x.1 (omega (arith, gap_short p g.behind k)))
+  | inr x ↦ record {
+    ts = [];
+    end = None;
+    reading = record { spaces = g.spaces; last = g.behind; is_gap = g.is_gap; text = g.text; ends = x.1 };
+  }
 ]
 
 every : (fuel : ℕ) (p : Place) → length p.rest < fuel → Read p

@@ -1,5 +1,7 @@
 -- What stands in front of some bytes: a word's pieces, and then its end or a quoted piece that has none.
-use Rattle.std.proofs.Common.{◌⊎◌, ◌||◌, ◌≡◌, ◌≢◌, ◌==◌, ◌+◌, ◌≤◌, ◌∙◌, ap, sym, ℕ, Bool, true, false, List, [], ◌∷◌, ◌++◌, arith, refl, suc, length, drop, take, inl, inr, if◌then◌else◌, append_assoc, length-append, length-drop}
+use Rattle.std.proofs.Common.{◌⊎◌, ◌||◌, ◌≡◌, ◌≢◌, ◌==◌, ◌+◌, ◌≤◌, ◌∙◌, ap, sym, ℕ, Bool, true, false, List, [], ◌∷◌}
+use Rattle.std.proofs.Common.{◌++◌, arith, refl, suc, length, drop, take, inl, inr, if◌then◌else◌, append_assoc}
+use Rattle.std.proofs.Common.{length-append, length-drop}
 use Rattle.std.specs.Prelude.{filter, not}
 use Rattle.std.specs.List.{AllByRecursion, flat_map, list_any}
 use Rattle.std.proofs.lemmas.List.Elements.{filter-append}
@@ -16,13 +18,15 @@ pub record Worded (q : ℕ) (bytes : List ℕ) (w : List ℕ × ℕ) : Type 0 wh
   pub behind : List ℕ
   pub each : AllByRecursion (IsPiece q) pieces
   pub text : bytes ≡ pieces_then q pieces behind
-  pub left : ((w ≡ (behind, 0)) × EndsWord behind) ⊎ ((inside : List ℕ) × (behind ≡ q ∷ inside) × Lacks q inside × (w ≡ ([], suc (length inside))))
+  pub left : ((w ≡ (behind, 0)) × EndsWord behind)
+      ⊎ ((inside : List ℕ) × (behind ≡ q ∷ inside) × Lacks q inside × (w ≡ ([], suc (length inside))))
 
 -- the bytes inside a quoted piece
 record Inside (q k : ℕ) (bytes : List ℕ) (w : List ℕ × ℕ) : Type 0 where
   inside : List ℕ
   lacks : Lacks q inside
-  left : ((bytes ≡ inside) × (w ≡ ([], k + length inside))) ⊎ ((more : List ℕ) × (bytes ≡ inside ++ q ∷ more) × Worded q more w)
+  left : ((bytes ≡ inside) × (w ≡ ([], k + length inside)))
+      ⊎ ((more : List ℕ) × (bytes ≡ inside ++ q ∷ more) × Worded q more w)
 
 record Both (q : ℕ) (bytes : List ℕ) : Type 0 where
   word : Worded q bytes (word_rest q 0 bytes)
@@ -37,7 +41,8 @@ is_other a b e = grind (arith, nat_tests)
 longer : (k n : ℕ) → suc (suc k) + n ≡ suc k + suc n
 longer k n = omega arith
 
-inside_more : (q k b : ℕ) (bytes : List ℕ) (w : List ℕ × ℕ) → b ≢ q → Inside q (suc (suc k)) bytes w → Inside q (suc k) (b ∷ bytes) w
+inside_more : (q k b : ℕ) (bytes : List ℕ) (w : List ℕ × ℕ) → b ≢ q → Inside q (suc (suc k)) bytes w
+    → Inside q (suc k) (b ∷ bytes) w
 inside_more q k b bytes w n s = record {
   inside = b ∷ s.inside;
   lacks = (n, s.lacks);
@@ -47,8 +52,10 @@ inside_more q k b bytes w n s = record {
   ];
 }
 
-inside_step : (q k b : ℕ) (bytes : List ℕ) (c : Bool) → (b == q) ≡ c → Both q bytes → Inside q (suc k) (b ∷ bytes) (if c then word_rest q 0 bytes else word_rest q (suc (suc k)) bytes)
-inside_step q k b bytes true e r = record { inside = []; lacks = tt; left = inr (bytes, ap (λ x. x ∷ bytes) (is_byte b q e), r.word) }
+inside_step : (q k b : ℕ) (bytes : List ℕ) (c : Bool) → (b == q) ≡ c → Both q bytes
+    → Inside q (suc k) (b ∷ bytes) (if c then word_rest q 0 bytes else word_rest q (suc (suc k)) bytes)
+inside_step q k b bytes true e r =
+    record { inside = []; lacks = tt; left = inr (bytes, ap (λ x. x ∷ bytes) (is_byte b q e), r.word) }
 inside_step q k b bytes false e r = inside_more q k b bytes _ (is_other b q e) (r.quote (suc k))
 
 begin_quote : (q b : ℕ) (bytes : List ℕ) (w : List ℕ × ℕ) → b ≡ q → Inside q 1 bytes w → Worded q (b ∷ bytes) w
@@ -72,9 +79,11 @@ begin_quote q b bytes w e s = elim s.left [
     one_more : (n : ℕ) → 1 + n ≡ suc n
     one_more n = omega arith
 
-word_step : (q b : ℕ) (bytes : List ℕ) (c d : Bool) → (b == q) ≡ c → ends_word b ≡ d → Both q bytes → Worded q (b ∷ bytes) (if c then word_rest q 1 bytes else (if d then (b ∷ bytes, 0) else word_rest q 0 bytes))
+word_step : (q b : ℕ) (bytes : List ℕ) (c d : Bool) → (b == q) ≡ c → ends_word b ≡ d → Both q bytes
+    → Worded q (b ∷ bytes) (if c then word_rest q 1 bytes else (if d then (b ∷ bytes, 0) else word_rest q 0 bytes))
 word_step q b bytes true d e f r = begin_quote q b bytes _ (is_byte b q e) (r.quote 0)
-word_step q b bytes false true e f r = record { pieces = []; behind = b ∷ bytes; each = tt; text = refl; left = inl (refl, f) }
+word_step q b bytes false true e f r =
+    record { pieces = []; behind = b ∷ bytes; each = tt; text = refl; left = inl (refl, f) }
 word_step q b bytes false false e f r = let w = r.word in record {
   pieces = bare b ∷ w.pieces;
   behind = w.behind;
@@ -100,11 +109,13 @@ pub worded : (q : ℕ) (bytes : List ℕ) → Worded q bytes (word_rest q 0 byte
 worded q bytes = (both q bytes).word
 
 -- pieces and the rest are the pieces' bytes and the rest
-pub pieces_split : (q : ℕ) (pieces : List Piece) (rest : List ℕ) → pieces_then q pieces rest ≡ pieces_then q pieces [] ++ rest
+pub pieces_split : (q : ℕ) (pieces : List Piece) (rest : List ℕ) → pieces_then q pieces rest ≡ pieces_then q pieces []
+    ++ rest
 pieces_split q [] rest = refl
 pieces_split q (bare b ∷ pieces) rest = ap (λ xs. b ∷ xs) (pieces_split q pieces rest)
 pieces_split q (quoted inside ∷ pieces) rest =
-    ap (λ xs. q ∷ (inside ++ q ∷ xs)) (pieces_split q pieces rest) ∙ ap (λ xs. q ∷ xs) (sym (append_assoc inside (q ∷ pieces_then q pieces []) rest))
+    ap (λ xs. q ∷ (inside ++ q ∷ xs)) (pieces_split q pieces rest)
+    ∙ ap (λ xs. q ∷ xs) (sym (append_assoc inside (q ∷ pieces_then q pieces []) rest))
 
 differs : (b q : ℕ) → b ≢ q → (b == q) ≡ false
 differs b q n = grind (arith, nat_tests)
@@ -121,7 +132,8 @@ keep_all q [] l = refl
 keep_all q (b ∷ bytes) l = rw (differs b q l.0) (ap (λ xs. b ∷ xs) (keep_all q bytes l.1))
 
 -- the pieces' bytes but for the quoting bytes are their texts
-pub pieces_text : (q : ℕ) (pieces : List Piece) → AllByRecursion (IsPiece q) pieces → filter (λ b. not (b == q)) (pieces_then q pieces []) ≡ flat_map piece_text pieces
+pub pieces_text : (q : ℕ) (pieces : List Piece) → AllByRecursion (IsPiece q) pieces
+    → filter (λ b. not (b == q)) (pieces_then q pieces []) ≡ flat_map piece_text pieces
 unfolding keep
 pieces_text q [] each = refl
 pieces_text q (bare b ∷ pieces) each = rw (differs b q each.0.0) (ap (λ xs. b ∷ xs) (pieces_text q pieces each.1))
@@ -131,16 +143,19 @@ pieces_text q (quoted inside ∷ pieces) each = rw (same q) (
     ∙ ap (λ xs. inside ++ xs) (rw (same q) (pieces_text q pieces each.1)))
 
 -- a front of so many bytes, from what is left behind it
-pub front_is : (n : ℕ) (bytes front behind : List ℕ) → n ≤ length bytes → bytes ≡ front ++ behind → drop n bytes ≡ behind → take n bytes ≡ front
+pub front_is : (n : ℕ) (bytes front behind : List ℕ) → n ≤ length bytes → bytes ≡ front ++ behind
+    → drop n bytes ≡ behind → take n bytes ≡ front
 front_is n bytes front behind within e d = rw (e, n_is) (take-append_seam front behind)
   where
     n_is : n ≡ length front
     n_is = omega (arith, ap length e, ap length d, length-append front behind, length-drop n bytes)
 
 -- bytes without a quoting byte are their text
-pub unquoted_same : (q : ℕ) (bytes : List ℕ) → list_any (λ b. b == q) bytes ≡ false → filter (λ b. not (b == q)) bytes ≡ bytes
+pub unquoted_same : (q : ℕ) (bytes : List ℕ) → list_any (λ b. b == q) bytes ≡ false → filter (λ b. not (b == q)) bytes
+    ≡ bytes
 unquoted_same q [] e = refl
-unquoted_same q (b ∷ bytes) e = let n = both_false (b == q) _ e in rw n.0 (ap (λ xs. b ∷ xs) (unquoted_same q bytes n.1))
+unquoted_same q (b ∷ bytes) e = let n = both_false (b == q) _ e in
+    rw n.0 (ap (λ xs. b ∷ xs) (unquoted_same q bytes n.1))
   where
     both_false : (x y : Bool) → (x || y) ≡ false → (x ≡ false) × (y ≡ false)
     both_false true y h = absurd (false≢true (sym h))

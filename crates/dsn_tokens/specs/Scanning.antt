@@ -16,10 +16,13 @@ abbrev pub gap_rest : Bool → Line → List ℕ → List ℕ
 gap_rest skips line [] = []
 gap_rest true line (b ∷ bytes) = gap_rest (if b == 10 then false else true) line bytes
 gap_rest false line (b ∷ bytes) =
-    if b == 35 && is_fresh line then gap_rest true line bytes else (if is_blank b then gap_rest false (behind_space line (blank b)) bytes else b ∷ bytes)
+    if b == 35 && is_fresh line then gap_rest true line bytes
+    else (if is_blank b then gap_rest false (behind_space line (blank b)) bytes else b ∷ bytes)
 
 -- what is left behind a word, and how many bytes the piece that is open there has, with its quoting byte
 abbrev pub word_rest : ℕ → ℕ → List ℕ → List ℕ × ℕ
 word_rest quote open_bytes [] = ([], open_bytes)
-word_rest quote zero (b ∷ bytes) = if b == quote then word_rest quote 1 bytes else (if ends_word b then (b ∷ bytes, 0) else word_rest quote 0 bytes)
-word_rest quote (suc k) (b ∷ bytes) = if b == quote then word_rest quote 0 bytes else word_rest quote (suc (suc k)) bytes
+word_rest quote zero (b ∷ bytes) =
+    if b == quote then word_rest quote 1 bytes else (if ends_word b then (b ∷ bytes, 0) else word_rest quote 0 bytes)
+word_rest quote (suc k) (b ∷ bytes) =
+    if b == quote then word_rest quote 0 bytes else word_rest quote (suc (suc k)) bytes

@@ -1,5 +1,6 @@
 -- How a text spells tokens.
-use Rattle.std.specs.Prelude.{◌≡◌, ◌<◌, ◌+◌, ◌==◌, ◌||◌, ℕ, Bool, true, false, List, [], ◌∷◌, Option, Some, None, Ok, Err, Result, drop, length, IsTrue}
+use Rattle.std.specs.Prelude.{◌≡◌, ◌<◌, ◌+◌, ◌==◌, ◌||◌, ℕ, Bool, true, false, List, [], ◌∷◌, Option, Some, None, Ok}
+use Rattle.std.specs.Prelude.{Err, Result, drop, length, IsTrue}
 use Rattle.dsn_tokens.specs.Place.{Place, start, end_of, behind_token}
 use Rattle.dsn_tokens.specs.Gaps.{IsBehindGap, Ends}
 use Rattle.dsn_tokens.specs.Words.{IsWord, IsOpenQuote}
@@ -102,7 +103,8 @@ Spells text ts = Reading (start text) ts None
 
 -- A text has one reading.
 abbrev pub OneReading : Type 0
-OneReading = (text : List ℕ) (ts us : List Token) (e f : Option TokenFault) → Reading (start text) ts e → Reading (start text) us f → (ts ≡ us) × (e ≡ f)
+OneReading = (text : List ℕ) (ts us : List Token) (e f : Option TokenFault) → Reading (start text) ts e
+    → Reading (start text) us f → (ts ≡ us) × (e ≡ f)
 
 -- From each place there is a reading.
 abbrev pub EachRead : Type 0

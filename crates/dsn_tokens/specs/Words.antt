@@ -1,5 +1,6 @@
 -- Words of bare and quoted pieces.
-use Rattle.std.specs.Prelude.{◌≡◌, ◌≢◌, ◌+◌, ◌<◌, ◌==◌, ◌&&◌, ◌||◌, ℕ, Bool, false, List, [], ◌∷◌, ◌++◌, IsTrue, length, codes, if◌then◌else◌}
+use Rattle.std.specs.Prelude.{◌≡◌, ◌≢◌, ◌+◌, ◌<◌, ◌==◌, ◌&&◌, ◌||◌, ℕ, Bool, false, List, [], ◌∷◌, ◌++◌, IsTrue, length}
+use Rattle.std.specs.Prelude.{codes, if◌then◌else◌}
 use Rattle.std.specs.List.{AllByRecursion, flat_map}
 use Rattle.std.specs.Str.{str_eq_ignore_ascii_case}
 use Rattle.dsn_tokens.specs.Gaps.{is_blank, Lacks}
@@ -42,7 +43,8 @@ asks_quote opened spelled = opened && str_eq_ignore_ascii_case spelled (codes "s
 
 -- the context behind a word that is spelled so
 abbrev pub behind_word : Context → List ℕ → Context
-behind_word c spelled = record { line = if asks_quote c.opened spelled then Quoting else Begun; opened = false; quote = c.quote }
+behind_word c spelled =
+    record { line = if asks_quote c.opened spelled then Quoting else Begun; opened = false; quote = c.quote }
 
 -- The bytes begin with a word, as long as it can be, that has this text; the rest and its context follow.
 pub record IsWord (c : Context) (bytes text rest : List ℕ) (d : Context) : Type 0 where
@@ -54,7 +56,8 @@ pub record IsWord (c : Context) (bytes text rest : List ℕ) (d : Context) : Typ
   pub joined : text ≡ flat_map piece_text pieces
   pub context : d ≡ behind_word c (pieces_then c.quote pieces [])
 
--- The bytes begin with a word whose last quoted piece, opened at this offset, has no end. The text ends at the offset last.
+-- The bytes begin with a word whose last quoted piece, opened at this offset, has no end. The text ends at the offset
+-- last.
 pub record IsOpenQuote (c : Context) (bytes : List ℕ) (last at : ℕ) : Type 0 where
   pub pieces : List Piece
   pub inside : List ℕ

@@ -1,7 +1,8 @@
 //! The lexer: the tokens of a text, one by one.
 //! Each call goes over the bytes of one gap and one token.
 
-ghost use Rattle.std.specs.Prelude.{false, slice_index, ◌≡◌, ◌≢◌, ◌==◌, ◌&&◌, ◌+◌, ◌^◌, ◌<◌, ◌≤◌, length, not, filter, IfOk};
+ghost use Rattle.std.specs.Prelude.{false, slice_index, ◌≡◌, ◌≢◌, ◌==◌, ◌&&◌, ◌+◌, ◌^◌, ◌<◌, ◌≤◌, length, not};
+ghost use Rattle.std.specs.Prelude.{filter, IfOk};
 ghost use Rattle.dsn_tokens.specs.Spelling.{Next, Shortens, Reads, can_quote};
 ghost use Rattle.dsn_tokens.specs.Words.{behind_word};
 ghost use Rattle.dsn_tokens.specs.Gaps.{is_blank};

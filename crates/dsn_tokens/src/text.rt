@@ -22,7 +22,7 @@ impl Model for Text {
 }
 
 impl Text {
-    /// The text of these bytes.
+    /// The text of these bytes. Its one error is want of memory.
     pub fn of(alloc: Global, bytes: &[u8]) -> Result<Text, AllocError>
         ensures { IfOk result (λ t. t ≡ bytes.now) }
     {

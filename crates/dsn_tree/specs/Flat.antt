@@ -22,7 +22,8 @@ shown t = shown_at t.at t.mark
 -- One tree, with the tokens of each inner tree in its place.
 abbrev pub flat_step : Tree-F (List Token) → List Token
 flat_step (layer.Word at text) = record { at = at; mark = Word text } ∷ []
-flat_step (layer.Group at items) = record { at = at; mark = Left } ∷ flat_map (λ ts. ts) items ++ record { at = 0; mark = Right } ∷ []
+flat_step (layer.Group at items) =
+    record { at = at; mark = Left } ∷ flat_map (λ ts. ts) items ++ record { at = 0; mark = Right } ∷ []
 
 -- the tokens of a tree
 abbrev pub flat : Tree → List Token

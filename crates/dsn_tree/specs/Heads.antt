@@ -1,5 +1,6 @@
 -- Looking things up in a tree.
-use Rattle.std.specs.Prelude.{ℕ, List, [], ◌∷◌, Option, Some, None, Bool, false, slice_get, find, drop, if◌then◌else◌, ◌+◌}
+use Rattle.std.specs.Prelude.{ℕ, List, [], ◌∷◌, Option, Some, None, Bool, false, slice_get, find, drop, if◌then◌else◌}
+use Rattle.std.specs.Prelude.{◌+◌}
 use Rattle.std.specs.Borrow.{Bor}
 use Rattle.std.specs.Str.{str_eq_ignore_ascii_case}
 use Rattle.dsn_tree.specs.declared.tree.Tree.{Tree}

@@ -1,7 +1,8 @@
 -- The tree of a text, or its fault.
 use Rattle.std.specs.Prelude.{◌⊎◌, ◌≡◌, ◌≤◌, ℕ, List, Option, Some, Result, Ok, Err, map}
 use Rattle.dsn_tree.specs.declared.fault.TreeFault.{TreeFault}
-use Rattle.dsn_tree.specs.declared.fault.TreeFault.TheVariants.{Memory, QuoteOpen, BadQuoteByte, Unclosed, Surplus, TooDeep, Empty}
+use Rattle.dsn_tree.specs.declared.fault.TreeFault.TheVariants.{Memory, QuoteOpen, BadQuoteByte, Unclosed, Surplus}
+use Rattle.dsn_tree.specs.declared.fault.TreeFault.TheVariants.{TooDeep, Empty}
 use Rattle.dsn_tree.specs.declared.tree.Tree.{Tree}
 use Rattle.dsn_tree.specs.declared.tree.Tree.TheVariants.{Group}
 use Rattle.dsn_tree.specs.Flat.{flat, depth, shown}

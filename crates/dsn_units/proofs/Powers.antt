@@ -22,7 +22,8 @@ zero_test : (s : ℕ) (P : Type 0) → (s ≡ 0 → P) → (P → s ≡ 0) → I
 zero_test s P f g = (λ t. f (test_zero s t), λ p. zero_passes s (g p))
 
 -- twice a quotient, and twice its rest
-halves_from : (n p q r h s : ℕ) → n ≡ q * p + r → 2 * r ≡ h * p + s → s < p → h ≤ 1 → q ≤ 2 ^ 48 → IsHalves n p (2 * q + h) (s == 0)
+halves_from : (n p q r h s : ℕ) → n ≡ q * p + r → 2 * r ≡ h * p + s → s < p → h ≤ 1 → q ≤ 2 ^ 48
+    → IsHalves n p (2 * q + h) (s == 0)
 halves_from n p q r h s e f below few near = record {
   low = omega arith;
   high = omega arith;
@@ -31,7 +32,9 @@ halves_from n p q r h s e f below few near = record {
 }
 
 pub halves_of : (n p : ℕ) → 0 < p → n / p ≤ 2 ^ 48 → IsHalves n p (2 * (n / p) + 2 * (n % p) / p) (2 * (n % p) % p == 0)
-halves_of n p some near = halves_from n p (n / p) (n % p) (2 * (n % p) / p) (2 * (n % p) % p) (omega (arith, div-add-mod' n p)) (omega (arith, div-add-mod' (2 * (n % p)) p))
+halves_of n p some near =
+    halves_from n p (n / p) (n % p) (2 * (n % p) / p) (2 * (n % p) % p) (omega (arith, div-add-mod' n p))
+    (omega (arith, div-add-mod' (2 * (n % p)) p))
     (mod_below _ p some) (few (mod_below n p some)) near
   where
     few : n % p < p → 2 * (n % p) / p ≤ 1
@@ -49,4 +52,9 @@ halves_none n k low high = record {
 -- a number with many zeros behind it is far
 pub grown_far : (n k : ℕ) → 0 < n → (2 ^ 48 < n) ⊎ (14 < k) → 2 ^ 48 < n * 10 ^ k
 grown_far n k some (inl h) = omega (arith, mul-le-mul_left n (ten_power_le 0 k (omega arith)))
-grown_far n k some (inr h) = omega (arith, mul-le-mul_left n (ten_power_le 15 k (omega arith)), mul-le-mul_right (10 ^ 15) (let q : 1 ≤ n = omega arith in q))
+grown_far n k some (inr h) =
+    omega (
+      arith,
+      mul-le-mul_left n (ten_power_le 15 k (omega arith)),
+      mul-le-mul_right (10 ^ 15) (let q : 1 ≤ n = omega arith in q),
+    )

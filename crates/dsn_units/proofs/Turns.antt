@@ -1,5 +1,7 @@
 -- Terms, sums and products of a turn.
-use Rattle.std.proofs.Common.{◌≡◌, ◌<◌, ◌≤◌, ◌+◌, ◌*◌, ◌/◌, ◌^◌, ◌∙◌, ap, ap₂, sym, subst, ℕ, ℤ, Bool, true, false, suc, pos, neg_ℤ, ◌+ℤ◌, ◌-ℤ◌, ◌*ℤ◌, ◌≤ℤ◌, ◌<ℤ◌, arith, refl, add-one, w64, to_z, of_z, FitsSigned}
+use Rattle.std.proofs.Common.{◌≡◌, ◌<◌, ◌≤◌, ◌+◌, ◌*◌, ◌/◌, ◌^◌, ◌∙◌, ap, ap₂, sym, subst, ℕ, ℤ, Bool, true, false, suc}
+use Rattle.std.proofs.Common.{pos, neg_ℤ, ◌+ℤ◌, ◌-ℤ◌, ◌*ℤ◌, ◌≤ℤ◌, ◌<ℤ◌, arith, refl, add-one, w64, to_z, of_z}
+use Rattle.std.proofs.Common.{FitsSigned}
 use Rattle.std.specs.Prelude.{unsigned_abs, int_lt}
 use Rattle.std.specs.Int.{w128}
 use Rattle.std.proofs.lemmas.Int.{ints, to_z-of_z, fits_signed_from_abs}
@@ -7,19 +9,23 @@ use Rattle.std.proofs.lemmas.Bool.Decides.{nat_tests}
 use Rattle.geo_kernel.specs.declared.point.Point.{Point}
 use Rattle.dsn_units.specs.declared.angle.Angle.{Angle}
 use Rattle.dsn_units.specs.Length.{nearest}
-use Rattle.dsn_units.specs.Turn.{one, times, term, with_term, alternating, cosine, signed_sine, quarter, rest, arc, slanted, quarters, turned}
+use Rattle.dsn_units.specs.Turn.{one, times, term, with_term, alternating, cosine, signed_sine, quarter, rest, arc}
+use Rattle.dsn_units.specs.Turn.{slanted, quarters, turned}
 use Rattle.dsn_units.proofs.Floors.{floor_is}
 
 pub first_term : (first t s : ℕ) → term first t s 0 ≡ first
 unfolding term
 first_term first t s = refl
 
-next_term : (first t s k n : ℕ) → n ≡ term first t s k → times t (times t n) / ((2 * k + 1 + s) * (2 * k + 2 + s)) ≡ term first t s (suc k)
+next_term : (first t s k n : ℕ) → n ≡ term first t s k → times t (times t n) / ((2 * k + 1 + s) * (2 * k + 2 + s))
+    ≡ term first t s (suc k)
 unfolding term
 next_term first t s k n e = rw e
 
-pub term_more : (first t s k n : ℕ) → n ≡ term first t s k → times t (times t n) / ((2 * k + 1 + s) * (2 * k + 2 + s)) ≡ term first t s (k + 1)
-term_more first t s k n e = let next = next_term first t s k n e in subst (λ j. times t (times t n) / ((2 * k + 1 + s) * (2 * k + 2 + s)) ≡ term first t s j) (sym (add-one k)) next
+pub term_more : (first t s k n : ℕ) → n ≡ term first t s k → times t (times t n) / ((2 * k + 1 + s) * (2 * k + 2 + s))
+    ≡ term first t s (k + 1)
+term_more first t s k n e = let next = next_term first t s k n e in
+    subst (λ j. times t (times t n) / ((2 * k + 1 + s) * (2 * k + 2 + s)) ≡ term first t s j) (sym (add-one k)) next
 
 pub no_terms : (f : ℕ → ℕ) → alternating f 0 ≡ pos 0
 unfolding alternating
@@ -29,8 +35,10 @@ next_sum : (f : ℕ → ℕ) (k n : ℕ) (sum : ℤ) → n ≡ f k → sum ≡ a
 unfolding alternating
 next_sum f k n sum e g = rw (e, g)
 
-pub sum_more : (f : ℕ → ℕ) (k n : ℕ) (sum : ℤ) → n ≡ f k → sum ≡ alternating f k → with_term sum k n ≡ alternating f (k + 1)
-sum_more f k n sum e g = let next = next_sum f k n sum e g in subst (λ j. with_term sum k n ≡ alternating f j) (sym (add-one k)) next
+pub sum_more : (f : ℕ → ℕ) (k n : ℕ) (sum : ℤ) → n ≡ f k → sum ≡ alternating f k
+    → with_term sum k n ≡ alternating f (k + 1)
+sum_more f k n sum e g = let next = next_sum f k n sum e g in
+    subst (λ j. with_term sum k n ≡ alternating f j) (sym (add-one k)) next
 
 pub sum_small : (sum : ℤ) (k n m : ℕ) → unsigned_abs sum ≤ m → unsigned_abs (with_term sum k n) ≤ m + n
 sum_small sum k n m h = grind (arith, nat_tests, ints)
@@ -45,19 +53,26 @@ pub unseen : (z : ℤ) → unsigned_abs z < 2 ^ 63 → seen z ≡ z
 unseen z h = to_z-of_z w64 z (fits_signed_from_abs w64 z h)
 
 -- two products that are added or subtracted
-pub difference_value : (a b p q : ℤ) → unsigned_abs a ≤ 2 ^ 74 → unsigned_abs b ≤ 2 ^ 74 → a ≡ p → b ≡ q → seen_wide (seen_wide a -ℤ seen_wide b) ≡ p -ℤ q
-difference_value a b p q h k e f = let g : seen_wide (seen_wide a -ℤ seen_wide b) ≡ a -ℤ b = omega (arith, ints) in g ∙ ap₂ (λ x y. x -ℤ y) e f
+pub difference_value : (a b p q : ℤ) → unsigned_abs a ≤ 2 ^ 74 → unsigned_abs b ≤ 2 ^ 74 → a ≡ p → b ≡ q
+    → seen_wide (seen_wide a -ℤ seen_wide b) ≡ p -ℤ q
+difference_value a b p q h k e f = let g : seen_wide (seen_wide a -ℤ seen_wide b) ≡ a -ℤ b = omega (arith, ints) in
+    g ∙ ap₂ (λ x y. x -ℤ y) e f
 
-pub sum_value : (a b p q : ℤ) → unsigned_abs a ≤ 2 ^ 74 → unsigned_abs b ≤ 2 ^ 74 → a ≡ p → b ≡ q → seen_wide (seen_wide a +ℤ seen_wide b) ≡ p +ℤ q
-sum_value a b p q h k e f = let g : seen_wide (seen_wide a +ℤ seen_wide b) ≡ a +ℤ b = omega (arith, ints) in g ∙ ap₂ (λ x y. x +ℤ y) e f
+pub sum_value : (a b p q : ℤ) → unsigned_abs a ≤ 2 ^ 74 → unsigned_abs b ≤ 2 ^ 74 → a ≡ p → b ≡ q
+    → seen_wide (seen_wide a +ℤ seen_wide b) ≡ p +ℤ q
+sum_value a b p q h k e f = let g : seen_wide (seen_wide a +ℤ seen_wide b) ≡ a +ℤ b = omega (arith, ints) in
+    g ∙ ap₂ (λ x y. x +ℤ y) e f
 
-pub difference_small : (a b : ℤ) → unsigned_abs a ≤ 2 ^ 74 → unsigned_abs b ≤ 2 ^ 74 → unsigned_abs (seen_wide (seen_wide a -ℤ seen_wide b)) ≤ 2 ^ 75
+pub difference_small : (a b : ℤ) → unsigned_abs a ≤ 2 ^ 74 → unsigned_abs b ≤ 2 ^ 74
+    → unsigned_abs (seen_wide (seen_wide a -ℤ seen_wide b)) ≤ 2 ^ 75
 difference_small a b h k = omega (arith, ints)
 
-pub sum_fits : (a b : ℤ) → unsigned_abs a ≤ 2 ^ 74 → unsigned_abs b ≤ 2 ^ 74 → FitsSigned w128 (seen_wide a +ℤ seen_wide b)
+pub sum_fits : (a b : ℤ) → unsigned_abs a ≤ 2 ^ 74 → unsigned_abs b ≤ 2 ^ 74
+    → FitsSigned w128 (seen_wide a +ℤ seen_wide b)
 sum_fits a b h k = fits_signed_from_abs w128 (seen_wide a +ℤ seen_wide b) (omega (arith, ints))
 
-pub product_is : (x c r : ℤ) → unsigned_abs x ≤ 2 ^ 31 → unsigned_abs c ≤ 8000000000000 → r ≡ seen x *ℤ seen c → r ≡ x *ℤ c
+pub product_is : (x c r : ℤ) → unsigned_abs x ≤ 2 ^ 31 → unsigned_abs c ≤ 8000000000000 → r ≡ seen x *ℤ seen c
+    → r ≡ x *ℤ c
 product_is x c r h k e = e ∙ ap₂ (λ a b. a *ℤ b) (unseen x (omega arith)) (unseen c (omega arith))
 
 -- no arc turns nothing
@@ -71,13 +86,25 @@ no_sine true = refl
 no_sine false = refl
 
 nearest_whole : (z n : ℤ) → n ≡ z *ℤ pos one → nearest n one ≡ z
-nearest_whole z n e = floor_is _ (2 * one) z (let low : (z *ℤ pos (2 * one)) ≤ℤ ((pos 2 *ℤ n) +ℤ pos one) = omega (arith, ints, e) in low, let high : ((pos 2 *ℤ n) +ℤ pos one) <ℤ ((z *ℤ pos (2 * one)) +ℤ pos (2 * one)) = omega (arith, ints, e) in high)
+nearest_whole z n e =
+    floor_is _ (2 * one) z (
+      let low : (z *ℤ pos (2 * one)) ≤ℤ ((pos 2 *ℤ n) +ℤ pos one) = omega (arith, ints, e) in
+          low,
+      let high : ((pos 2 *ℤ n) +ℤ pos one) <ℤ ((z *ℤ pos (2 * one)) +ℤ pos (2 * one)) = omega (arith, ints, e) in
+          high,
+    )
 
 not_slanted : (p : Point) → slanted (pos one) (pos 0) p ≡ p
-not_slanted p = ap₂ (λ x y. let q : Point = record { x = x; y = y } in q) (nearest_whole p.x (p.x *ℤ pos one -ℤ p.y *ℤ pos 0) (omega (arith, ints))) (nearest_whole p.y (p.x *ℤ pos 0 +ℤ p.y *ℤ pos one) (omega (arith, ints)))
+not_slanted p =
+    ap₂ (λ x y. let q : Point = record { x = x; y = y } in q)
+    (nearest_whole p.x (p.x *ℤ pos one -ℤ p.y *ℤ pos 0) (omega (arith, ints)))
+    (nearest_whole p.y (p.x *ℤ pos 0 +ℤ p.y *ℤ pos one) (omega (arith, ints)))
 
 pub no_arc : (a : Angle) (p : Point) → arc a ≡ 0 → turned a p ≡ quarters (quarter a) p
-no_arc a p e = ap (quarters (quarter a)) (ap₂ (λ c s. slanted c s p) (ap cosine e ∙ no_cosine) (ap (signed_sine (int_lt (rest a) (pos 0))) e ∙ no_sine _) ∙ not_slanted p)
+no_arc a p e =
+    ap (quarters (quarter a))
+    (ap₂ (λ c s. slanted c s p) (ap cosine e ∙ no_cosine) (ap (signed_sine (int_lt (rest a) (pos 0))) e ∙ no_sine _)
+    ∙ not_slanted p)
 
 -- the quarter turns of a whole number of them
 pub whole_quarters : (a : Angle) (n : ℕ) (p : Point) → a.microdegrees ≡ 90000000 * n → turned a p ≡ quarters n p

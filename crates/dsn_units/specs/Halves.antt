@@ -1,5 +1,6 @@
 -- What the private functions of `fraction` and `length` give.
-use Rattle.std.specs.Prelude.{◌≡◌, ◌<◌, ◌≤◌, ◌+◌, ◌*◌, ◌/◌, ◌%◌, ◌^◌, ◌↔◌, ◌&&◌, ◌||◌, ◌==◌, nat_lt, ℕ, Bool, true, false, IsTrue, if◌then◌else◌}
+use Rattle.std.specs.Prelude.{◌≡◌, ◌<◌, ◌≤◌, ◌+◌, ◌*◌, ◌/◌, ◌%◌, ◌^◌, ◌↔◌, ◌&&◌, ◌||◌, ◌==◌, nat_lt, ℕ, Bool, true}
+use Rattle.std.specs.Prelude.{false, IsTrue, if◌then◌else◌}
 
 -- twice n / d, rounded down, and whether it is exact
 pub record IsHalves (n d count : ℕ) (exact : Bool) : Type 0 where

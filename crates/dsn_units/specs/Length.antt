@@ -1,5 +1,6 @@
 -- Lengths of decimals, as fractions.
-use Rattle.std.specs.Prelude.{◌*◌, ◌/◌, ◌%◌, ◌^◌, ◌&&◌, ◌||◌, nat_le, nat_lt, Bool, ℕ, ℤ, pos, negsuc, ◌+ℤ◌, ◌*ℤ◌, neg_ℤ, if◌then◌else◌, suc, Option, Some, None, unsigned_abs}
+use Rattle.std.specs.Prelude.{◌*◌, ◌/◌, ◌%◌, ◌^◌, ◌&&◌, ◌||◌, nat_le, nat_lt, Bool, ℕ, ℤ, pos, negsuc, ◌+ℤ◌, ◌*ℤ◌}
+use Rattle.std.specs.Prelude.{neg_ℤ, if◌then◌else◌, suc, Option, Some, None, unsigned_abs}
 use Rattle.std.specs.Int.{int_div_euclid, int_rem_euclid, div_ceil}
 use Rattle.dsn_units.specs.declared.angle.Angle.{Angle}
 use Rattle.dsn_units.specs.declared.number.Decimal.{Decimal}
@@ -48,8 +49,10 @@ extent_of d nm = if is_below_zero d || nat_lt (2 ^ 28) (raised_up d nm) then Non
 
 -- the decimal as degrees: whole microdegrees without whole turns, at most 1,000,000 degrees in absolute value
 abbrev pub angle_of : Decimal → Option Angle
-angle_of d = if nat_le (top d 1000000) (1000000000000 * bottom d) then Some (record { microdegrees = unsigned_abs (int_rem_euclid (rounded d 1000000) (pos 360000000)) }) else None
+angle_of d = if nat_le (top d 1000000) (1000000000000 * bottom d)
+    then Some (record { microdegrees = unsigned_abs (int_rem_euclid (rounded d 1000000) (pos 360000000)) }) else None
 
 -- the decimal as a whole number from 0 to `most`
 abbrev pub whole_of : Decimal → ℕ → Option ℕ
-whole_of d most = if is_below_zero d || (nat_lt 0 (top d 1 % bottom d) || nat_lt most (top d 1 / bottom d)) then None else Some (top d 1 / bottom d)
+whole_of d most = if is_below_zero d || (nat_lt 0 (top d 1 % bottom d) || nat_lt most (top d 1 / bottom d)) then None
+    else Some (top d 1 / bottom d)

@@ -1,5 +1,6 @@
 -- The decimal that a text spells, by cases on its bytes.
-use Rattle.std.specs.Prelude.{◌==◌, ◌||◌, ◌&&◌, nat_le, ℕ, ℤ, pos, ◌-ℤ◌, Bool, true, false, List, [], ◌∷◌, ◌++◌, Option, Some, None, length, if◌then◌else◌}
+use Rattle.std.specs.Prelude.{◌==◌, ◌||◌, ◌&&◌, nat_le, ℕ, ℤ, pos, ◌-ℤ◌, Bool, true, false, List, [], ◌∷◌, ◌++◌, Option}
+use Rattle.std.specs.Prelude.{Some, None, length, if◌then◌else◌}
 use Rattle.std.specs.Char.{is_ascii_digit}
 use Rattle.dsn_units.specs.declared.number.Decimal.{Decimal}
 use Rattle.dsn_units.specs.Length.{signed}
@@ -22,7 +23,8 @@ fraction_of (b ∷ bs) = if b == 46 then digits_of bs else ([], b ∷ bs)
 
 -- one or two digits to the end
 abbrev pub small_number : Bool → List ℕ × List ℕ → Option ℤ
-small_number negative (ds, []) = if nat_le 1 (length ds) && nat_le (length ds) 2 then Some (signed negative (number_of ds)) else None
+small_number negative (ds, []) =
+    if nat_le 1 (length ds) && nat_le (length ds) 2 then Some (signed negative (number_of ds)) else None
 small_number negative (ds, b ∷ bs) = None
 
 abbrev pub signed_number : Bool × List ℕ → Option ℤ
@@ -36,8 +38,13 @@ exponent_of (b ∷ bs) = if b == 101 || b == 69 then signed_number (sign_of bs) 
 -- the decimal of a sign, the digits before and behind the point, and an exponent
 abbrev pub with_exponent : Bool → List ℕ → List ℕ → Option ℤ → Option Decimal
 with_exponent negative whole fraction None = None
-with_exponent negative whole fraction (Some e) = if nat_le 1 (length (whole ++ fraction)) && nat_le (length (whole ++ fraction)) 18
-    then Some (record { negative = negative; digits = number_of (whole ++ fraction); exponent = e -ℤ pos (length fraction) }) else None
+with_exponent negative whole fraction (Some e) =
+    if nat_le 1 (length (whole ++ fraction)) && nat_le (length (whole ++ fraction)) 18
+    then Some (record {
+      negative = negative;
+      digits = number_of (whole ++ fraction);
+      exponent = e -ℤ pos (length fraction);
+    }) else None
 
 abbrev pub with_fraction : Bool → List ℕ → List ℕ × List ℕ → Option Decimal
 with_fraction negative whole f = with_exponent negative whole f.0 (exponent_of f.1)

@@ -1,5 +1,6 @@
 -- Turns by an angle, in whole numbers.
-use Rattle.std.specs.Prelude.{◌+◌, ◌*◌, ◌/◌, ◌%◌, ◌==◌, ℕ, Bool, zero, suc, ℤ, pos, neg_ℤ, ◌+ℤ◌, ◌-ℤ◌, ◌*ℤ◌, int_lt, if◌then◌else◌, unsigned_abs}
+use Rattle.std.specs.Prelude.{◌+◌, ◌*◌, ◌/◌, ◌%◌, ◌==◌, ℕ, Bool, zero, suc, ℤ, pos, neg_ℤ, ◌+ℤ◌, ◌-ℤ◌, ◌*ℤ◌, int_lt}
+use Rattle.std.specs.Prelude.{if◌then◌else◌, unsigned_abs}
 use Rattle.geo_kernel.specs.declared.point.Point.{Point}
 use Rattle.dsn_units.specs.declared.angle.Angle.{Angle}
 use Rattle.dsn_units.specs.Length.{nearest}
@@ -12,7 +13,8 @@ one = 1000000000000
 abbrev pub times : ℕ → ℕ → ℕ
 times t n = n * t / one
 
--- The terms of a list that begins with `first`: t^2 in parts of one, over (2k+1)(2k+2) where s is 0 and (2k+2)(2k+3) where it is 1.
+-- The terms of a list that begins with `first`: t^2 in parts of one, over (2k+1)(2k+2) where s is 0 and (2k+2)(2k+3)
+-- where it is 1.
 unfoldable pub term : ℕ → ℕ → ℕ → ℕ → ℕ
 term first t s zero = first
 term first t s (suc k) = times t (times t (term first t s k)) / ((2 * k + 1 + s) * (2 * k + 2 + s))

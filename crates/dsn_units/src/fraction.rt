@@ -64,7 +64,8 @@ fn cut(number: u128, times: u32) -> Option<Halves>
 
 /// Twice the size of the decimal's value in a unit of which one is `units` of what is counted.
 pub(crate) fn doubled(d: &Decimal, units: u64) -> Option<Halves>
-    ensures { MatchOption result (FAR * bottom d.now < top d.now units) (λ h. IsHalves (top d.now units) (bottom d.now) h.count h.exact) }
+    ensures { MatchOption result (FAR * bottom d.now < top d.now units)
+        (λ h. IsHalves (top d.now units) (bottom d.now) h.count h.exact) }
 {
     let number = d.digits as u128 * units as u128;
     if d.exponent >= 0 {

@@ -6,7 +6,8 @@ ghost use Rattle.geo_kernel.specs.declared.point.Point.{Point as ThePoint};
 ghost use Rattle.dsn_units.specs.declared.angle.Angle.{Angle as TheAngle};
 ghost use Rattle.geo_kernel.specs.Plane.{IsWithin};
 ghost use Rattle.dsn_units.specs.Length.{nearest};
-ghost use Rattle.dsn_units.specs.Turn.{times, term, with_term, alternating, signed_sine, arc, slanted, quarter, quarters, rest, turned};
+ghost use Rattle.dsn_units.specs.Turn.{times, term, with_term, alternating, signed_sine, arc, slanted, quarter};
+ghost use Rattle.dsn_units.specs.Turn.{quarters, rest, turned};
 
 use crate::Angle;
 use geo_kernel::Point;
@@ -152,6 +153,7 @@ pub fn rotate(p: Point, a: Angle) -> Point
 
 /// A law: a whole number of quarter turns is exact, and four of them are no turn.
 pub fn quarter_turns()
-    ensures exact { (a : TheAngle) → (n : ℕ) → (p : ThePoint) → a.microdegrees ≡ 90000000 * n → turned a p ≡ quarters n p }
+    ensures exact { (a : TheAngle) → (n : ℕ) → (p : ThePoint) → a.microdegrees ≡ 90000000 * n
+        → turned a p ≡ quarters n p }
     ensures four { (p : ThePoint) → quarters 4 p ≡ p }
 {}

@@ -23,4 +23,6 @@ unfoldable pub items_before : Structure → Library → Placing → ℕ
 items_before st lib placing = length st.bounds + (length st.bans + sum_by (place_items lib.images) placing.places)
 
 unfoldable pub too_many : ℕ → List Tree → List Refusal
-too_many before ts = option_map_or (λ t. record { number = 23; at = at_of t; what = Items; limit = 1048576 } ∷ []) (slice_get ts (1048576 - before)) []
+too_many before ts =
+    option_map_or (λ t. record { number = 23; at = at_of t; what = Items; limit = 1048576 } ∷ [])
+    (slice_get ts (1048576 - before)) []

@@ -1,5 +1,6 @@
 -- The net of a wire or via, and whether it is fixed.
-use Rattle.std.specs.Prelude.{◌||◌, ℕ, Bool, false, not, List, [], ◌∷◌, Option, None, codes, is_some, map, if◌then◌else◌}
+use Rattle.std.specs.Prelude.{◌||◌, ℕ, Bool, false, not, List, [], ◌∷◌, Option, None, codes, is_some, map}
+use Rattle.std.specs.Prelude.{if◌then◌else◌}
 use Rattle.std.specs.Option.{option_map, option_map_or}
 use Rattle.dsn_tree.specs.declared.tree.Tree.{Tree}
 use Rattle.dsn_tree.specs.Heads.{child}
@@ -12,7 +13,8 @@ use Rattle.dsn_shapes.specs.Names.{first_place, place_index}
 abbrev pub net_names : List ReadNet → List (List ℕ)
 net_names nets = map (λ (n : ReadNet). n.name) nets
 
--- the place of the net that a list such as `(net A)` names; one without a word names none, also where a net has the empty name
+-- the place of the net that a list such as `(net A)` names; one without a word names none, also where a net has the
+-- empty name
 abbrev pub place_in : List (List ℕ) → Tree → Option ℕ
 place_in nets t = option_map_or (λ w. first_place (text_of w) nets) (nth_word t 1) None
 

@@ -21,7 +21,8 @@ IsStackNear at s = All (λ (shape : LayerShape). IsSpineWithin (2 ^ 29) (moved_s
 
 -- a wire of at least two vertices on a layer of the structure, or a via of a padstack of the library
 abbrev pub IsCopperSound : Structure → Library → Metal → Type 0
-IsCopperSound st lib (Wire layer width chain) = (layer < length st.layers) × (width ≤ 2 ^ 28) × (2 ≤ length chain) × All (IsWithin (2 ^ 29)) chain
+IsCopperSound st lib (Wire layer width chain) =
+    (layer < length st.layers) × (width ≤ 2 ^ 28) × (2 ≤ length chain) × All (IsWithin (2 ^ 29)) chain
 IsCopperSound st lib (Via stack at) = IsWithin (2 ^ 29) at × IsSomeAnd (slice_get lib.stacks stack) (IsStackNear at)
 IsCopperSound st lib (Pad pin) = ⊥
 IsCopperSound st lib (Ban wires vias) = ⊥

@@ -1,5 +1,6 @@
 -- Vias: a padstack of the library and its place.
-use Rattle.std.specs.Prelude.{◌+ℤ◌, ◌||◌, ◌^◌, nat_lt, unsigned_abs, ℕ, ℤ, Bool, false, List, [], ◌∷◌, ◌++◌, Option, Some, None, is_some, slice_get, unwrap_or, if◌then◌else◌}
+use Rattle.std.specs.Prelude.{◌+ℤ◌, ◌||◌, ◌^◌, nat_lt, unsigned_abs, ℕ, ℤ, Bool, false, List, [], ◌∷◌, ◌++◌, Option}
+use Rattle.std.specs.Prelude.{Some, None, is_some, slice_get, unwrap_or, if◌then◌else◌}
 use Rattle.std.specs.List.{list_any}
 use Rattle.std.specs.Option.{option_map_or}
 use Rattle.dsn_tree.specs.declared.tree.Tree.{Tree}
@@ -69,4 +70,5 @@ unfoldable pub via_metal : ℕ → List (List ℕ) → Tree → Metal
 via_metal nm names t = Via (place_index (unwrap_or (stack_place names t) 0)) (unwrap_or (via_place nm t) origin)
 
 unfoldable pub via_refusals : ℕ → List Stack → List (List ℕ) → Tree → List Refusal
-via_refusals nm stacks names t = unknown_stack names t ++ (via_place_refusals nm t ++ past_refusal stacks (stack_place names t) (via_place nm t) t)
+via_refusals nm stacks names t =
+    unknown_stack names t ++ (via_place_refusals nm t ++ past_refusal stacks (stack_place names t) (via_place nm t) t)

@@ -32,10 +32,12 @@ unfoldable pub metal_of : ℕ → List Layer → List (List ℕ) → Tree → Me
 metal_of nm layers names t = if is_headed (codes "via") t then via_metal nm names t else wire_metal nm layers t
 
 unfoldable pub metal_refusals : ℕ → List Layer → List Stack → List (List ℕ) → Tree → List Refusal
-metal_refusals nm layers stacks names t = if is_headed (codes "via") t then via_refusals nm stacks names t else wire_refusals nm layers t
+metal_refusals nm layers stacks names t =
+    if is_headed (codes "via") t then via_refusals nm stacks names t else wire_refusals nm layers t
 
 unfoldable pub wire_of : ℕ → List Layer → List (List ℕ) → List (List ℕ) → Tree → ReadWire
-wire_of nm layers names nets t = record { at = at_of t; net = net_of nets t; fixed = is_fixed (net_of nets t) t; metal = metal_of nm layers names t }
+wire_of nm layers names nets t =
+    record { at = at_of t; net = net_of nets t; fixed = is_fixed (net_of nets t) t; metal = metal_of nm layers names t }
 
 unfoldable pub refusals_of : ℕ → List Layer → List Stack → List (List ℕ) → List (List ℕ) → Tree → List Refusal
 refusals_of nm layers stacks names nets t = net_refusals nets t ++ metal_refusals nm layers stacks names t

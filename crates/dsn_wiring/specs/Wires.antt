@@ -1,5 +1,6 @@
 -- Wires: the copper of a wire is its first path.
-use Rattle.std.specs.Prelude.{◌==◌, ◌||◌, nat_lt, ℕ, Bool, List, [], ◌∷◌, ◌++◌, codes, drop, length, slice_get, unwrap_or, if◌then◌else◌}
+use Rattle.std.specs.Prelude.{◌==◌, ◌||◌, nat_lt, ℕ, Bool, List, [], ◌∷◌, ◌++◌, codes, drop, length, slice_get}
+use Rattle.std.specs.Prelude.{unwrap_or, if◌then◌else◌}
 use Rattle.std.specs.List.{flat_map}
 use Rattle.std.specs.Option.{option_map_or}
 use Rattle.dsn_tree.specs.declared.tree.Tree.{Tree}
@@ -45,7 +46,8 @@ abbrev pub is_unfit : LayerShape → Bool
 is_unfit s = nat_lt 1 (length (layers_below 32 s.layers)) || nat_lt (length (chain_of s.spine)) 2
 
 unfoldable pub path_refusals : ℕ → List Layer → Tree → List Refusal
-path_refusals nm layers t = shape_refusals nm layers t ++ (if is_unfit (shape_of nm layers t) then refused 22 (at_of t) ∷ [] else [])
+path_refusals nm layers t =
+    shape_refusals nm layers t ++ (if is_unfit (shape_of nm layers t) then refused 22 (at_of t) ∷ [] else [])
 
 abbrev pub wire_by : LayerShape → Metal
 wire_by s = Wire (unwrap_or (slice_get (layers_below 32 s.layers) 0) 0) s.width (chain_of s.spine)
@@ -61,4 +63,5 @@ unfoldable pub wire_metal : ℕ → List Layer → Tree → Metal
 wire_metal nm layers t = option_map_or (path_metal nm layers) (slice_get (paths_in t) 0) no_wire
 
 unfoldable pub wire_refusals : ℕ → List Layer → Tree → List Refusal
-wire_refusals nm layers t = no_form t ++ (further_forms t ++ option_map_or (path_refusals nm layers) (slice_get (paths_in t) 0) [])
+wire_refusals nm layers t =
+    no_form t ++ (further_forms t ++ option_map_or (path_refusals nm layers) (slice_get (paths_in t) 0) [])

@@ -7,7 +7,9 @@ ghost use Rattle.pcb_model.specs.Sound.{origin};
 ghost use Rattle.dsn_shapes.specs.Names.{stack_names};
 ghost use Rattle.dsn_shapes.specs.Numbers.{coord_refusal};
 ghost use Rattle.dsn_shapes.specs.Refusals.{noted};
-ghost use Rattle.dsn_wiring.specs.Vias.{coord_of, is_far, is_past, past_refusal, point_by, spine_past, stack_past, stack_place, unknown_stack, via_metal, via_place, via_place_refusals, via_refusals};
+ghost use Rattle.dsn_wiring.specs.Vias.{coord_of, is_far, is_past, past_refusal, point_by, spine_past, stack_past};
+ghost use Rattle.dsn_wiring.specs.Vias.{stack_place, unknown_stack, via_metal, via_place, via_place_refusals};
+ghost use Rattle.dsn_wiring.specs.Vias.{via_refusals};
 
 use dsn_shapes::{
     NameIndex, Refusal, Stack, at_of, coord_in, name_of, names_of, note, nth_word, place_index,

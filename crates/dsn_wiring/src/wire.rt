@@ -5,7 +5,8 @@ ghost use Rattle.std.specs.Prelude.{◌≡◌, drop, IfOk, OnOk};
 ghost use Rattle.std.specs.List.{flat_map};
 ghost use Rattle.dsn_shapes.specs.Lists.{trees_of};
 ghost use Rattle.dsn_shapes.specs.Refusals.{noted};
-ghost use Rattle.dsn_wiring.specs.Wires.{chain_of, further_forms, no_form, no_wire, path_metal, path_refusals, paths_in, refused_form, wire_metal, wire_refusals};
+ghost use Rattle.dsn_wiring.specs.Wires.{chain_of, further_forms, no_form, no_wire, path_metal, path_refusals};
+ghost use Rattle.dsn_wiring.specs.Wires.{paths_in, refused_form, wire_metal, wire_refusals};
 
 use crate::layers::layers_below;
 use dsn_shapes::{

@@ -8,7 +8,8 @@ ghost use Rattle.dsn_shapes.specs.Names.{stack_names};
 ghost use Rattle.dsn_shapes.specs.Refusals.{Reads, noted};
 ghost use Rattle.dsn_wiring.specs.Nets.{net_names};
 ghost use Rattle.dsn_wiring.specs.Sound.{HasFewStacks, IsWiringSound};
-ghost use Rattle.dsn_wiring.specs.Whole.{lists_left_out, lists_passed, metal_of, metal_refusals, refusals_of, wire_lists, wire_of, wiring_of, wiring_refusals, wirings};
+ghost use Rattle.dsn_wiring.specs.Whole.{lists_left_out, lists_passed, metal_of, metal_refusals, refusals_of};
+ghost use Rattle.dsn_wiring.specs.Whole.{wire_lists, wire_of, wiring_of, wiring_refusals, wirings};
 
 use crate::counts::refuse_many;
 use crate::net::{is_fixed, net_names, net_of};
@@ -44,7 +45,8 @@ fn note_metal(
     stacks: &List<Stack>,
     names: &NameIndex,
 ) -> Result<Metal, AllocError>
-    ensures noted { OnOk result (first.new ≡ noted first.old (metal_refusals s.nm layers.now stacks.now names.now tree.now)) }
+    ensures noted { OnOk result
+        (first.new ≡ noted first.old (metal_refusals s.nm layers.now stacks.now names.now tree.now)) }
     ensures value { IfOk result (λ m. m ≡ metal_of s.nm layers.now names.now tree.now) }
 {
     if is_headed(tree, b"via") {
@@ -97,8 +99,13 @@ fn read_wires(
     lib: &Library,
     net: &Network,
 ) -> Result<List<ReadWire>, AllocError>
-    ensures noted { OnOk result (first.new ≡ noted first.old (flat_map (refusals_of scale.nm st.now.layers lib.now.stacks (stack_names lib.now.stacks) (net_names net.now.nets)) wires.now)) }
-    ensures value { IfOk result (λ v. v ≡ map (wire_of scale.nm st.now.layers (stack_names lib.now.stacks) (net_names net.now.nets)) wires.now) }
+    ensures noted { OnOk result
+        (first.new ≡ noted first.old
+        (flat_map (refusals_of scale.nm st.now.layers lib.now.stacks (stack_names lib.now.stacks)
+        (net_names net.now.nets)) wires.now)) }
+    ensures value { IfOk result
+        (λ v. v ≡ map (wire_of scale.nm st.now.layers (stack_names lib.now.stacks) (net_names net.now.nets))
+        wires.now) }
 {
     let names = stack_names(alloc, &lib.stacks)?;
     let nets = net_names(alloc, &net.nets)?;
@@ -133,7 +140,8 @@ fn note_wiring(
     placing: &Placing,
     net: &Network,
 ) -> Result<Wiring, AllocError>
-    ensures noted { OnOk result (first.new ≡ noted first.old (wiring_refusals s.nm st.now lib.now placing.now net.now pcb.now)) }
+    ensures noted { OnOk result
+        (first.new ≡ noted first.old (wiring_refusals s.nm st.now lib.now placing.now net.now pcb.now)) }
     ensures value { IfOk result (λ v. v ≡ wiring_of s.nm st.now lib.now placing.now net.now pcb.now) }
 {
     let sections = Trees::in_list(alloc, pcb, b"wiring")?;
@@ -161,7 +169,8 @@ pub fn read_wiring(
     placing: &Placing,
     net: &Network,
 ) -> Result<Wiring, ReadFault>
-    ensures reads { Reads (wiring_refusals s.nm st.now lib.now placing.now net.now pcb.now) (λ v. v ≡ wiring_of s.nm st.now lib.now placing.now net.now pcb.now) result }
+    ensures reads { Reads (wiring_refusals s.nm st.now lib.now placing.now net.now pcb.now)
+        (λ v. v ≡ wiring_of s.nm st.now lib.now placing.now net.now pcb.now) result }
     ensures sound { HasFewStacks lib.now → IfOk result (IsWiringSound st.now lib.now net.now) }
 {
     let mut first = None;

@@ -1,5 +1,6 @@
 -- Lists of numbers that ascend: one more at the end, and a binary search among them.
-use Rattle.std.proofs.Common.{◌≡◌, ℕ, ◌+◌, ◌<◌, ◌≤◌, List, [], ◌∷◌, ◌++◌, length, get_or, Result, Ok, Err, refl, sym, ap}
+use Rattle.std.proofs.Common.{◌≡◌, ℕ, ◌+◌, ◌<◌, ◌≤◌, List, [], ◌∷◌, ◌++◌, length, get_or, Result, Ok, Err, refl, sym}
+use Rattle.std.proofs.Common.{ap}
 use Rattle.std.proofs.Common.{◌∙◌, inl, inr, arith}
 use Rattle.std.specs.Prelude.{IsTrue, Contains, All}
 use Rattle.std.specs.Result.{is_ok}

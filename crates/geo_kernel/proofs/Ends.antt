@@ -4,7 +4,8 @@ use Rattle.std.proofs.lemmas.List.Elements.{All-nil, All-cons, All-head, All-tai
 use Rattle.geo_kernel.specs.declared.point.Point.{Point}
 use Rattle.geo_kernel.specs.declared.spine.Spine.{Spine}
 use Rattle.geo_kernel.specs.declared.spine.Spine.TheVariants.{Chain, Area}
-use Rattle.geo_kernel.specs.Spine.{Segment, links, last_of, chain_segments, loop_segments, area_segments, spine_segments, vertices, outline}
+use Rattle.geo_kernel.specs.Spine.{Segment, links, last_of, chain_segments, loop_segments, area_segments}
+use Rattle.geo_kernel.specs.Spine.{spine_segments, vertices, outline}
 use Rattle.geo_kernel.proofs.Paths.{All-append_first, All-append_second}
 
 module _ (Q : Point → Type 0) where
@@ -17,7 +18,8 @@ module _ (Q : Point → Type 0) where
 
   links_have : (u : Point) (vs : List Point) → Q u → All Q vs → All Ends (links u vs)
   links_have u [] h k = All-nil Ends
-  links_have u (v ∷ vs) h k = let w = All-head Q v vs k in All-cons Ends (record { from = u; to = v }) (links v vs) (h, w) (links_have v vs w (All-tail Q v vs k))
+  links_have u (v ∷ vs) h k = let w = All-head Q v vs k in
+      All-cons Ends (record { from = u; to = v }) (links v vs) (h, w) (links_have v vs w (All-tail Q v vs k))
 
   chain_have : (ps : List Point) → All Q ps → All Ends (chain_segments ps)
   chain_have [] h = All-nil Ends
@@ -30,7 +32,9 @@ module _ (Q : Point → Type 0) where
 
   area_have : (ls : List (List Point)) → All Q (flat_map (λ l. l) ls) → All Ends (area_segments ls)
   area_have [] h = All-nil Ends
-  area_have (l ∷ ls) h = All-append Ends (loop_segments l) (area_segments ls) (loop_have l (All-append_first Q l (flat_map (λ x. x) ls) h)) (area_have ls (All-append_second Q l (flat_map (λ x. x) ls) h))
+  area_have (l ∷ ls) h =
+      All-append Ends (loop_segments l) (area_segments ls) (loop_have l (All-append_first Q l (flat_map (λ x. x) ls) h))
+      (area_have ls (All-append_second Q l (flat_map (λ x. x) ls) h))
 
   pub segments_have : (s : Spine) → All Q (vertices s) → All Ends (spine_segments s)
   segments_have (Chain ps) h = chain_have ps h

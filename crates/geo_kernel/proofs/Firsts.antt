@@ -12,17 +12,21 @@ first_of : (s : Spine) (ps : List Point) (d : Point) → outline s ≡ ps → 0 
 first_of s [] d e h = absurd (omega arith)
 first_of s (p ∷ ps) d e h = record { rest = ps; is = e }
 
-pub chain_first : (s : Spine) (ps qs : List Point) (d : Point) → s ≡ Chain ps → qs ≡ ps → IsWellFormed s → IsFirst s (get_or qs 0 d)
+pub chain_first : (s : Spine) (ps qs : List Point) (d : Point) → s ≡ Chain ps → qs ≡ ps → IsWellFormed s
+    → IsFirst s (get_or qs 0 d)
 chain_first s ps qs d e f w =
     let v : IsWellFormed (Chain ps) = subst IsWellFormed e w in
     let P : List Point → Type 0 = λ xs. IsFirst s (get_or xs 0 d) in
     subst P (sym f) (first_of s ps d (ap outline e) v)
 
-area_outline : (ls : List (List Point)) (l : List Point) → IsWellFormed (Area ls) → l ≡ get_or ls 0 l → (outline (Area ls) ≡ l) × (3 ≤ length l)
+area_outline : (ls : List (List Point)) (l : List Point) → IsWellFormed (Area ls) → l ≡ get_or ls 0 l
+    → (outline (Area ls) ≡ l) × (3 ≤ length l)
 area_outline [] l w e = absurd (let h = w.0 in omega arith)
-area_outline (m ∷ ms) l w e = let P : List Point → Type 0 = λ xs. 3 ≤ length xs in (sym e, subst P (sym e) (w.1 0 m (omega arith)))
+area_outline (m ∷ ms) l w e = let P : List Point → Type 0 = λ xs. 3 ≤ length xs in
+    (sym e, subst P (sym e) (w.1 0 m (omega arith)))
 
-pub area_first : (s : Spine) (ls ms : List (List Point)) (l qs : List Point) (d : Point) → s ≡ Area ls → ms ≡ ls → l ≡ get_or ms 0 l → qs ≡ l → IsWellFormed s → IsFirst s (get_or qs 0 d)
+pub area_first : (s : Spine) (ls ms : List (List Point)) (l qs : List Point) (d : Point) → s ≡ Area ls → ms ≡ ls
+    → l ≡ get_or ms 0 l → qs ≡ l → IsWellFormed s → IsFirst s (get_or qs 0 d)
 area_first s ls ms l qs d e f g h w =
     let v : IsWellFormed (Area ls) = subst IsWellFormed e w in
     let o = area_outline ls l v (g ∙ ap (λ xs. get_or xs 0 l) f) in
@@ -32,7 +36,10 @@ area_first s ls ms l qs d e f g h w =
 
 pub begins_is : (s t : Spine) (p : Point) → IsFirst s p → IsInsideSpine p t ↔ BeginsInside s t
 begins_is s (Chain ps) p f = (λ x. x, λ x. x)
-begins_is s (Area loops) p f = let Q : List Point → Type 0 = λ ps. IsInside p loops ↔ BeginInside ps loops in subst Q (sym f.is) (λ x. x, λ x. x)
+begins_is s (Area loops) p f = let Q : List Point → Type 0 = λ ps. IsInside p loops ↔ BeginInside ps loops in
+    subst Q (sym f.is) (λ x. x, λ x. x)
 
-pub begins_moved : (by : Point) (s t : Spine) (p q : Point) → q ≡ moved by p → IsFirst s p → IsInsideSpine q t ↔ BeginsInside (moved_spine by s) t
-begins_moved by s t p q e f = let Q : Point → Type 0 = λ r. IsInsideSpine r t ↔ BeginsInside (moved_spine by s) t in subst Q (sym e) (begins_is (moved_spine by s) t (moved by p) (moved_is_first by s p f))
+pub begins_moved : (by : Point) (s t : Spine) (p q : Point) → q ≡ moved by p → IsFirst s p
+    → IsInsideSpine q t ↔ BeginsInside (moved_spine by s) t
+begins_moved by s t p q e f = let Q : Point → Type 0 = λ r. IsInsideSpine r t ↔ BeginsInside (moved_spine by s) t in
+    subst Q (sym e) (begins_is (moved_spine by s) t (moved by p) (moved_is_first by s p f))

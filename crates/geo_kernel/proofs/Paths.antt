@@ -1,5 +1,8 @@
--- A loop over the points of a path, from the point before: what is asked of all links is asked of the links that are left.
-use Rattle.std.proofs.Common.{◌≡◌, ℕ, suc, zero, ◌+◌, ◌%◌, ◌-◌, ◌≢◌, ◌<◌, ◌≤◌, List, [], ◌∷◌, ◌++◌, take, drop, get_or, flat_map, length, drop-cons, add-one, All, Any, ◌↔◌, ◌⊎◌, inl, inr, ⊎_elim, count_by, Bool, true, false, not, cond, IsTrue, refl, sym, ap, ◌∙◌, subst, arith}
+-- A loop over the points of a path, from the point before: what is asked of all links is asked of the links that are
+-- left.
+use Rattle.std.proofs.Common.{◌≡◌, ℕ, suc, zero, ◌+◌, ◌%◌, ◌-◌, ◌≢◌, ◌<◌, ◌≤◌, List, [], ◌∷◌, ◌++◌, take, drop, get_or}
+use Rattle.std.proofs.Common.{flat_map, length, drop-cons, add-one, All, Any, ◌↔◌, ◌⊎◌, inl, inr, ⊎_elim, count_by}
+use Rattle.std.proofs.Common.{Bool, true, false, not, cond, IsTrue, refl, sym, ap, ◌∙◌, subst, arith}
 use Rattle.std.proofs.lemmas.List.{drop_all, take_all}
 use Rattle.std.proofs.lemmas.List.Elements.{All-nil, All-cons, All-head, All-tail, All-append}
 use Rattle.std.proofs.lemmas.List.Sums.{sum_by-cons, sum_by-append}
@@ -12,7 +15,8 @@ link_at last d points i = record { from = last; to = get_or points i d }
 
 module _ (last d : Point) (points : List Point) (i : ℕ) where
   -- the links that are left at place i begin with that to the point there
-  pub links-drop : i < length points → links last (drop i points) ≡ link_at last d points i ∷ links (get_or points i d) (drop (i + 1) points)
+  pub links-drop : i < length points
+      → links last (drop i points) ≡ link_at last d points i ∷ links (get_or points i d) (drop (i + 1) points)
   links-drop h = ap (links last) (drop-cons points i d h) ∙ rw add-one refl
 
 -- ---- some element
@@ -37,41 +41,54 @@ pub record LeftOver (F : List Segment → Type 0) (start last : Point) (points :
 pub left_at_first : (F : List Segment → Type 0) (start : Point) (points : List Point) → LeftOver F start start points 0
 left_at_first F start points = record { whole = λ h. h; part = λ h. h }
 
-pub left_none : (F : List Segment → Type 0) (start last : Point) (points : List Point) (i : ℕ) → length points ≤ i → LeftOver F start last points i → F [] ↔ F (links start points)
-left_none F start last points i h left = (λ f. left.whole (rw (drop_all i points h) f), λ f. rw (drop_all i points h) at left.part f)
+pub left_none : (F : List Segment → Type 0) (start last : Point) (points : List Point) (i : ℕ) → length points ≤ i
+    → LeftOver F start last points i → F [] ↔ F (links start points)
+left_none F start last points i h left =
+    (λ f. left.whole (rw (drop_all i points h) f), λ f. rw (drop_all i points h) at left.part f)
 
-left_next : (F : List Segment → Type 0) (start last d : Point) (points : List Point) (i : ℕ) → LeftOver F start last points i → i < length points →
-    ((gs : List Segment) → F gs → F (link_at last d points i ∷ gs)) → ((gs : List Segment) → F (link_at last d points i ∷ gs) → F gs) → LeftOver F start (get_or points i d) points (i + 1)
+left_next : (F : List Segment → Type 0) (start last d : Point) (points : List Point) (i : ℕ)
+    → LeftOver F start last points i → i < length points →
+    ((gs : List Segment) → F gs → F (link_at last d points i ∷ gs))
+    → ((gs : List Segment) → F (link_at last d points i ∷ gs) → F gs)
+    → LeftOver F start (get_or points i d) points (i + 1)
 left_next F start last d points i left h up down = record {
   whole = λ rest. left.whole (rw (links-drop last d points i h) (up _ rest));
   part = λ all. down _ (rw (links-drop last d points i h) at left.part all);
 }
 
 module _ (P : Segment → Type 0) (start last d : Point) (points : List Point) (i : ℕ) where
-  pub all_next : LeftOver (All P) start last points i → i < length points → P (link_at last d points i) → LeftOver (All P) start (get_or points i d) points (i + 1)
-  all_next left h here = left_next (All P) start last d points i left h (λ gs. All-cons P _ gs here) (λ gs. All-tail P _ gs)
+  pub all_next : LeftOver (All P) start last points i → i < length points → P (link_at last d points i)
+      → LeftOver (All P) start (get_or points i d) points (i + 1)
+  all_next left h here =
+      left_next (All P) start last d points i left h (λ gs. All-cons P _ gs here) (λ gs. All-tail P _ gs)
 
-  pub all_stops : LeftOver (All P) start last points i → i < length points → ¬ (P (link_at last d points i)) → ¬ (All P (links start points))
+  pub all_stops : LeftOver (All P) start last points i → i < length points → ¬ (P (link_at last d points i))
+      → ¬ (All P (links start points))
   all_stops left h none all = none (All-head P _ _ (rw (links-drop last d points i h) at left.part all))
 
-  pub any_next : LeftOver (Any P) start last points i → i < length points → ¬ (P (link_at last d points i)) → LeftOver (Any P) start (get_or points i d) points (i + 1)
-  any_next left h none = left_next (Any P) start last d points i left h (λ gs. Any-there P _ gs) (λ gs f. pick gs (Any-cases P _ gs f))
+  pub any_next : LeftOver (Any P) start last points i → i < length points → ¬ (P (link_at last d points i))
+      → LeftOver (Any P) start (get_or points i d) points (i + 1)
+  any_next left h none =
+      left_next (Any P) start last d points i left h (λ gs. Any-there P _ gs) (λ gs f. pick gs (Any-cases P _ gs f))
     where
       pick : (gs : List Segment) → P (link_at last d points i) ⊎ Any P gs → Any P gs
       pick gs (inl x) = absurd (none x)
       pick gs (inr x) = x
 
-  pub any_stops : LeftOver (Any P) start last points i → i < length points → P (link_at last d points i) → Any P (links start points)
+  pub any_stops : LeftOver (Any P) start last points i → i < length points → P (link_at last d points i)
+      → Any P (links start points)
   any_stops left h here = left.whole (rw (links-drop last d points i h) (Any-here P _ _ here))
 
 -- ---- parity
 abbrev pub bit : Bool → ℕ
 bit b = cond b 1 0
 
-pub record ParityLeft (f : Segment → Bool) (start last : Point) (points : List Point) (i : ℕ) (odd : Bool) : Type 0 where
-  pub same : count_by f (links start points) % 2 ≡ (bit odd + count_by f (links last (drop i points))) % 2
+pub record ParityLeft (f : Segment → Bool) (start last : Point) (points : List Point) (i : ℕ) (odd : Bool) : Type 0
+  where
+    pub same : count_by f (links start points) % 2 ≡ (bit odd + count_by f (links last (drop i points))) % 2
 
-pub parity_at_first : (f : Segment → Bool) (start : Point) (points : List Point) → ParityLeft f start start points 0 false
+pub parity_at_first : (f : Segment → Bool) (start : Point) (points : List Point)
+    → ParityLeft f start start points 0 false
 parity_at_first f start points = record { same = omega arith }
 
 turned : (f : Bool) (odd : Bool) (r : ℕ) → f ≡ true → (bit odd + (cond f 1 0 + r)) % 2 ≡ (bit (not odd) + r) % 2
@@ -84,19 +101,36 @@ kept : (f : Bool) (odd : Bool) (r : ℕ) → f ≡ false → (bit odd + (cond f 
 kept true odd r e = cc
 kept false odd r e = omega arith
 
-pub count_first : (f : Segment → Bool) (g : Segment) (gs : List Segment) → count_by f (g ∷ gs) ≡ cond (f g) 1 0 + count_by f gs
+pub count_first : (f : Segment → Bool) (g : Segment) (gs : List Segment)
+    → count_by f (g ∷ gs) ≡ cond (f g) 1 0 + count_by f gs
 count_first f g gs = sum_by-cons (λ x. cond (f x) 1 0) g gs
 
-module _ (f : Segment → Bool) (start last d : Point) (points : List Point) (i : ℕ) (odd : Bool) (left : ParityLeft f start last points i odd) where
-  pub parity_turns : i < length points → f (link_at last d points i) ≡ true → ParityLeft f start (get_or points i d) points (i + 1) (not odd)
-  parity_turns h e = record { same = left.same ∙ ap (λ gs. (bit odd + count_by f gs) % 2) (links-drop last d points i h) ∙ ap (λ n. (bit odd + n) % 2) (count_first f (link_at last d points i) (links (get_or points i d) (drop (i + 1) points))) ∙ turned (f (link_at last d points i)) odd (count_by f (links (get_or points i d) (drop (i + 1) points))) e }
+module _ (f : Segment → Bool) (start last d : Point) (points : List Point) (i : ℕ) (odd : Bool)
+    (left : ParityLeft f start last points i odd) where
+  pub parity_turns : i < length points → f (link_at last d points i) ≡ true
+      → ParityLeft f start (get_or points i d) points (i + 1) (not odd)
+  parity_turns h e =
+      record {
+        same = left.same ∙ ap (λ gs. (bit odd + count_by f gs) % 2) (links-drop last d points i h)
+            ∙ ap (λ n. (bit odd + n) % 2)
+            (count_first f (link_at last d points i) (links (get_or points i d) (drop (i + 1) points)))
+            ∙ turned (f (link_at last d points i)) odd (count_by f (links (get_or points i d) (drop (i + 1) points))) e;
+      }
 
-  pub parity_stays : i < length points → f (link_at last d points i) ≡ false → ParityLeft f start (get_or points i d) points (i + 1) odd
-  parity_stays h e = record { same = left.same ∙ ap (λ gs. (bit odd + count_by f gs) % 2) (links-drop last d points i h) ∙ ap (λ n. (bit odd + n) % 2) (count_first f (link_at last d points i) (links (get_or points i d) (drop (i + 1) points))) ∙ kept (f (link_at last d points i)) odd (count_by f (links (get_or points i d) (drop (i + 1) points))) e }
+  pub parity_stays : i < length points → f (link_at last d points i) ≡ false
+      → ParityLeft f start (get_or points i d) points (i + 1) odd
+  parity_stays h e =
+      record {
+        same = left.same ∙ ap (λ gs. (bit odd + count_by f gs) % 2) (links-drop last d points i h)
+            ∙ ap (λ n. (bit odd + n) % 2)
+            (count_first f (link_at last d points i) (links (get_or points i d) (drop (i + 1) points)))
+            ∙ kept (f (link_at last d points i)) odd (count_by f (links (get_or points i d) (drop (i + 1) points))) e;
+      }
 
   pub parity_told : length points ≤ i → IsTrue odd ↔ (count_by f (links start points) % 2 ≡ 1)
   parity_told h =
-      let e : count_by f (links start points) % 2 ≡ (bit odd + 0) % 2 = left.same ∙ ap (λ ps. (bit odd + count_by f (links last ps)) % 2) (drop_all i points h) in
+      let e : count_by f (links start points) % 2 ≡ (bit odd + 0) % 2 =
+      left.same ∙ ap (λ ps. (bit odd + count_by f (links last ps)) % 2) (drop_all i points h) in
       by odd (count_by f (links start points) % 2) e
     where
       by : (b : Bool) (n : ℕ) → n ≡ (bit b + 0) % 2 → IsTrue b ↔ (n ≡ 1)
@@ -104,12 +138,14 @@ module _ (f : Segment → Bool) (start last d : Point) (points : List Point) (i 
       by false n e = (λ t. cc, λ h. absurd (omega arith))
 
 -- ---- chains and loops as paths
-pub chain_of_one : (d : Point) (points : List Point) → length points ≡ 1 → chain_segments points ≡ links (get_or points 0 d) points
+pub chain_of_one : (d : Point) (points : List Point) → length points ≡ 1
+    → chain_segments points ≡ links (get_or points 0 d) points
 chain_of_one d [] e = absurd (omega arith)
 chain_of_one d (p ∷ []) e = refl
 chain_of_one d (p ∷ q ∷ qs) e = absurd (omega arith)
 
-pub chain_of_more : (d : Point) (points : List Point) → 0 < length points → length points ≢ 1 → chain_segments points ≡ links (get_or points 0 d) (take (length points - 1) (drop 1 points))
+pub chain_of_more : (d : Point) (points : List Point) → 0 < length points → length points ≢ 1
+    → chain_segments points ≡ links (get_or points 0 d) (take (length points - 1) (drop 1 points))
 chain_of_more d [] h e = absurd (omega arith)
 chain_of_more d (p ∷ []) h e = absurd (e refl)
 chain_of_more d (p ∷ q ∷ qs) h e = ap (links p) (sym (take_all (length (p ∷ q ∷ qs) - 1) (q ∷ qs) (omega arith)))
@@ -118,7 +154,8 @@ at_last : (p d : Point) (ps : List Point) → get_or (p ∷ ps) (length ps) d �
 at_last p d [] = refl
 at_last p d (q ∷ qs) = at_last q d qs
 
-pub loop_of : (d : Point) (points : List Point) → 0 < length points → loop_segments points ≡ links (get_or points (length points - 1) d) points
+pub loop_of : (d : Point) (points : List Point) → 0 < length points
+    → loop_segments points ≡ links (get_or points (length points - 1) d) points
 loop_of d [] h = absurd (omega arith)
 loop_of d (p ∷ ps) h =
     let e : length (p ∷ ps) - 1 ≡ length ps = omega arith in
@@ -127,7 +164,8 @@ loop_of d (p ∷ ps) h =
 -- ---- the loops of an area, one after another
 pub All-append_first : {X : Type 0} (P : X → Type 0) (xs ys : List X) → All P (xs ++ ys) → All P xs
 All-append_first P [] ys h = All-nil P
-All-append_first P (x ∷ xs) ys h = All-cons P x xs (All-head P x (xs ++ ys) h) (All-append_first P xs ys (All-tail P x (xs ++ ys) h))
+All-append_first P (x ∷ xs) ys h =
+    All-cons P x xs (All-head P x (xs ++ ys) h) (All-append_first P xs ys (All-tail P x (xs ++ ys) h))
 
 pub All-append_second : {X : Type 0} (P : X → Type 0) (xs ys : List X) → All P (xs ++ ys) → All P ys
 All-append_second P [] ys h = h
@@ -142,32 +180,43 @@ module _ {X : Type 0} (P : Segment → Type 0) (f : X → List Segment) (ls : Li
   pub rest_at_first : RestLeft P f ls 0
   rest_at_first = record { whole = λ h. h; part = λ h. h }
 
-  flat_map-drop : (i : ℕ) (d : X) → i < length ls → flat_map f (drop i ls) ≡ f (get_or ls i d) ++ flat_map f (drop (i + 1) ls)
+  flat_map-drop : (i : ℕ) (d : X) → i < length ls → flat_map f (drop i ls) ≡ f (get_or ls i d)
+      ++ flat_map f (drop (i + 1) ls)
   flat_map-drop i d h = ap (flat_map f) (drop-cons ls i d h) ∙ rw add-one refl
 
-  pub rest_next : (i : ℕ) (d : X) → RestLeft P f ls i → i < length ls → All P (f (get_or ls i d)) → RestLeft P f ls (i + 1)
+  pub rest_next : (i : ℕ) (d : X) → RestLeft P f ls i → i < length ls → All P (f (get_or ls i d))
+      → RestLeft P f ls (i + 1)
   rest_next i d left h here = record {
-    whole = λ rest. left.whole (rw (flat_map-drop i d h) (All-append P (f (get_or ls i d)) (flat_map f (drop (i + 1) ls)) here rest));
-    part = λ all. All-append_second P (f (get_or ls i d)) (flat_map f (drop (i + 1) ls)) (rw (flat_map-drop i d h) at left.part all);
+    whole = λ rest.
+        left.whole (rw (flat_map-drop i d h)
+        (All-append P (f (get_or ls i d)) (flat_map f (drop (i + 1) ls)) here rest));
+    part = λ all. All-append_second P (f (get_or ls i d)) (flat_map f (drop (i + 1) ls))
+        (rw (flat_map-drop i d h) at left.part all);
   }
 
-  pub rest_stops : (i : ℕ) (d : X) → RestLeft P f ls i → i < length ls → ¬ (All P (f (get_or ls i d))) → ¬ (All P (flat_map f ls))
-  rest_stops i d left h none all = none (All-append_first P (f (get_or ls i d)) (flat_map f (drop (i + 1) ls)) (rw (flat_map-drop i d h) at left.part all))
+  pub rest_stops : (i : ℕ) (d : X) → RestLeft P f ls i → i < length ls → ¬ (All P (f (get_or ls i d)))
+      → ¬ (All P (flat_map f ls))
+  rest_stops i d left h none all =
+      none (All-append_first P (f (get_or ls i d)) (flat_map f (drop (i + 1) ls))
+      (rw (flat_map-drop i d h) at left.part all))
 
   pub rest_none : (i : ℕ) → length ls ≤ i → RestLeft P f ls i → All P (flat_map f ls)
   rest_none i h left = left.whole (rw (drop_all i ls h) (All-nil P))
 
 -- the same for a count's parity
-pub record RestOdd {X : Type 0} (f : Segment → Bool) (g : X → List Segment) (ls : List X) (i : ℕ) (odd : Bool) : Type 0 where
-  pub same : count_by f (flat_map g ls) % 2 ≡ (bit odd + count_by f (flat_map g (drop i ls))) % 2
+pub record RestOdd {X : Type 0} (f : Segment → Bool) (g : X → List Segment) (ls : List X) (i : ℕ) (odd : Bool) : Type 0
+  where
+    pub same : count_by f (flat_map g ls) % 2 ≡ (bit odd + count_by f (flat_map g (drop i ls))) % 2
 
 module _ {X : Type 0} (f : Segment → Bool) (g : X → List Segment) (ls : List X) where
   pub rest_odd_at_first : RestOdd f g ls 0 false
   rest_odd_at_first = record { same = omega arith }
 
-  count-drop : (i : ℕ) (d : X) → i < length ls → count_by f (flat_map g (drop i ls)) ≡ count_by f (g (get_or ls i d)) + count_by f (flat_map g (drop (i + 1) ls))
+  count-drop : (i : ℕ) (d : X) → i < length ls → count_by f (flat_map g (drop i ls))
+      ≡ count_by f (g (get_or ls i d)) + count_by f (flat_map g (drop (i + 1) ls))
   count-drop i d h =
-      ap (λ xs. count_by f (flat_map g xs)) (drop-cons ls i d h) ∙ sum_by-append (λ x. cond (f x) 1 0) (g (get_or ls i d)) (flat_map g (drop (suc i) ls))
+      ap (λ xs. count_by f (flat_map g xs)) (drop-cons ls i d h) ∙ sum_by-append (λ x. cond (f x) 1 0)
+      (g (get_or ls i d)) (flat_map g (drop (suc i) ls))
       ∙ ap (λ n. count_by f (g (get_or ls i d)) + count_by f (flat_map g (drop n ls))) (sym (add-one i))
 
   odd_more : (b : Bool) (c r : ℕ) → c % 2 ≡ 1 → (bit b + (c + r)) % 2 ≡ (bit (not b) + r) % 2
@@ -177,15 +226,27 @@ module _ {X : Type 0} (f : Segment → Bool) (g : X → List Segment) (ls : List
   even_more : (b : Bool) (c r : ℕ) → ¬ (c % 2 ≡ 1) → (bit b + (c + r)) % 2 ≡ (bit b + r) % 2
   even_more b c r e = omega arith
 
-  pub rest_odd_turns : (i : ℕ) (d : X) (odd : Bool) → RestOdd f g ls i odd → i < length ls → count_by f (g (get_or ls i d)) % 2 ≡ 1 → RestOdd f g ls (i + 1) (not odd)
-  rest_odd_turns i d odd left h e = record { same = left.same ∙ ap (λ n. (bit odd + n) % 2) (count-drop i d h) ∙ odd_more odd (count_by f (g (get_or ls i d))) (count_by f (flat_map g (drop (i + 1) ls))) e }
+  pub rest_odd_turns : (i : ℕ) (d : X) (odd : Bool) → RestOdd f g ls i odd → i < length ls
+      → count_by f (g (get_or ls i d)) % 2 ≡ 1 → RestOdd f g ls (i + 1) (not odd)
+  rest_odd_turns i d odd left h e =
+      record {
+        same = left.same ∙ ap (λ n. (bit odd + n) % 2) (count-drop i d h)
+            ∙ odd_more odd (count_by f (g (get_or ls i d))) (count_by f (flat_map g (drop (i + 1) ls))) e;
+      }
 
-  pub rest_odd_stays : (i : ℕ) (d : X) (odd : Bool) → RestOdd f g ls i odd → i < length ls → ¬ (count_by f (g (get_or ls i d)) % 2 ≡ 1) → RestOdd f g ls (i + 1) odd
-  rest_odd_stays i d odd left h e = record { same = left.same ∙ ap (λ n. (bit odd + n) % 2) (count-drop i d h) ∙ even_more odd (count_by f (g (get_or ls i d))) (count_by f (flat_map g (drop (i + 1) ls))) e }
+  pub rest_odd_stays : (i : ℕ) (d : X) (odd : Bool) → RestOdd f g ls i odd → i < length ls
+      → ¬ (count_by f (g (get_or ls i d)) % 2 ≡ 1) → RestOdd f g ls (i + 1) odd
+  rest_odd_stays i d odd left h e =
+      record {
+        same = left.same ∙ ap (λ n. (bit odd + n) % 2) (count-drop i d h)
+            ∙ even_more odd (count_by f (g (get_or ls i d))) (count_by f (flat_map g (drop (i + 1) ls))) e;
+      }
 
-  pub rest_odd_told : (i : ℕ) (odd : Bool) → RestOdd f g ls i odd → length ls ≤ i → IsTrue odd ↔ (count_by f (flat_map g ls) % 2 ≡ 1)
+  pub rest_odd_told : (i : ℕ) (odd : Bool) → RestOdd f g ls i odd → length ls ≤ i
+      → IsTrue odd ↔ (count_by f (flat_map g ls) % 2 ≡ 1)
   rest_odd_told i odd left h =
-      let e : count_by f (flat_map g ls) % 2 ≡ (bit odd + 0) % 2 = left.same ∙ ap (λ xs. (bit odd + count_by f (flat_map g xs)) % 2) (drop_all i ls h) in
+      let e : count_by f (flat_map g ls) % 2 ≡ (bit odd + 0) % 2 =
+      left.same ∙ ap (λ xs. (bit odd + count_by f (flat_map g xs)) % 2) (drop_all i ls h) in
       by odd (count_by f (flat_map g ls) % 2) e
     where
       by : (b : Bool) (n : ℕ) → n ≡ (bit b + 0) % 2 → IsTrue b ↔ (n ≡ 1)
@@ -195,7 +256,9 @@ module _ {X : Type 0} (f : Segment → Bool) (g : X → List Segment) (ls : List
 -- ---- some of what a loop over ls has left
 pub Any-append_first : {X : Type 0} (P : X → Type 0) (xs ys : List X) → Any P xs → Any P (xs ++ ys)
 Any-append_first P [] ys h = absurd (Any-nil P h)
-Any-append_first P (x ∷ xs) ys h = ⊎_elim (λ a. Any-here P x (xs ++ ys) a) (λ a. Any-there P x (xs ++ ys) (Any-append_first P xs ys a)) (Any-cases P x xs h)
+Any-append_first P (x ∷ xs) ys h =
+    ⊎_elim (λ a. Any-here P x (xs ++ ys) a) (λ a. Any-there P x (xs ++ ys) (Any-append_first P xs ys a))
+    (Any-cases P x xs h)
 
 pub Any-append_second : {X : Type 0} (P : X → Type 0) (xs ys : List X) → Any P ys → Any P (xs ++ ys)
 Any-append_second P [] ys h = h
@@ -204,7 +267,9 @@ Any-append_second P (x ∷ xs) ys h = Any-there P x (xs ++ ys) (Any-append_secon
 Any-append_cases : {X : Type 0} (P : X → Type 0) (xs ys : List X) → Any P (xs ++ ys) → Any P xs ⊎ Any P ys
 Any-append_cases P [] ys h = inr h
 Any-append_cases P (x ∷ xs) ys h =
-    ⊎_elim (λ a. inl (Any-here P x xs a)) (λ a. ⊎_elim (λ b. inl (Any-there P x xs b)) (λ b. inr b) (Any-append_cases P xs ys a)) (Any-cases P x (xs ++ ys) h)
+    ⊎_elim (λ a. inl (Any-here P x xs a))
+    (λ a. ⊎_elim (λ b. inl (Any-there P x xs b)) (λ b. inr b) (Any-append_cases P xs ys a))
+    (Any-cases P x (xs ++ ys) h)
 
 pub record SomeLeft {X : Type 0} (P : Segment → Type 0) (f : X → List Segment) (ls : List X) (i : ℕ) : Type 0 where
   pub whole : Any P (flat_map f (drop i ls)) → Any P (flat_map f ls)
@@ -214,21 +279,28 @@ module _ {X : Type 0} (P : Segment → Type 0) (f : X → List Segment) (ls : Li
   pub some_at_first : SomeLeft P f ls 0
   some_at_first = record { whole = λ h. h; part = λ h. h }
 
-  some-drop : (i : ℕ) (d : X) → i < length ls → flat_map f (drop i ls) ≡ f (get_or ls i d) ++ flat_map f (drop (i + 1) ls)
+  some-drop : (i : ℕ) (d : X) → i < length ls → flat_map f (drop i ls) ≡ f (get_or ls i d)
+      ++ flat_map f (drop (i + 1) ls)
   some-drop i d h = ap (flat_map f) (drop-cons ls i d h) ∙ rw add-one refl
 
-  pub some_next : (i : ℕ) (d : X) → SomeLeft P f ls i → i < length ls → ¬ (Any P (f (get_or ls i d))) → SomeLeft P f ls (i + 1)
+  pub some_next : (i : ℕ) (d : X) → SomeLeft P f ls i → i < length ls → ¬ (Any P (f (get_or ls i d)))
+      → SomeLeft P f ls (i + 1)
   some_next i d left h none = record {
-    whole = λ rest. left.whole (rw (some-drop i d h) (Any-append_second P (f (get_or ls i d)) (flat_map f (drop (i + 1) ls)) rest));
-    part = λ all. ⊎_elim (λ a. absurd (none a)) (λ a. a) (Any-append_cases P (f (get_or ls i d)) (flat_map f (drop (i + 1) ls)) (rw (some-drop i d h) at left.part all));
+    whole = λ rest.
+        left.whole (rw (some-drop i d h) (Any-append_second P (f (get_or ls i d)) (flat_map f (drop (i + 1) ls)) rest));
+    part = λ all. ⊎_elim (λ a. absurd (none a)) (λ a. a)
+        (Any-append_cases P (f (get_or ls i d)) (flat_map f (drop (i + 1) ls)) (rw (some-drop i d h) at left.part all));
   }
 
-  pub some_stops : (i : ℕ) (d : X) → SomeLeft P f ls i → i < length ls → Any P (f (get_or ls i d)) → Any P (flat_map f ls)
-  some_stops i d left h here = left.whole (rw (some-drop i d h) (Any-append_first P (f (get_or ls i d)) (flat_map f (drop (i + 1) ls)) here))
+  pub some_stops : (i : ℕ) (d : X) → SomeLeft P f ls i → i < length ls → Any P (f (get_or ls i d))
+      → Any P (flat_map f ls)
+  some_stops i d left h here =
+      left.whole (rw (some-drop i d h) (Any-append_first P (f (get_or ls i d)) (flat_map f (drop (i + 1) ls)) here))
 
   pub some_none : (i : ℕ) → length ls ≤ i → SomeLeft P f ls i → ¬ (Any P (flat_map f ls))
   some_none i h left all = Any-nil P (rw (drop_all i ls h) at left.part all)
 
 -- what holds of each loop holds of that at a place
-pub at_place : (Q : List Point → Type 0) (loops : List (List Point)) (i : ℕ) (d ps : List Point) → All Q loops → i < length loops → ps ≡ get_or loops i d → Q ps
+pub at_place : (Q : List Point → Type 0) (loops : List (List Point)) (i : ℕ) (d ps : List Point) → All Q loops
+    → i < length loops → ps ≡ get_or loops i d → Q ps
 at_place Q loops i d ps all h e = subst Q (sym e) (all i d h)

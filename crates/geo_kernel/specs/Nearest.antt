@@ -42,7 +42,8 @@ Cross a b c d =
     let uy = b.y -ℤ a.y in
     let vx = d.x -ℤ c.x in
     let vy = d.y -ℤ c.y in
-    Meets (cross ux uy vx vy) (cross vx vy wx wy) (cross ux uy wx wy) ⊎ Meets (pos 0 -ℤ cross ux uy vx vy) (pos 0 -ℤ cross vx vy wx wy) (pos 0 -ℤ cross ux uy wx wy)
+    Meets (cross ux uy vx vy) (cross vx vy wx wy) (cross ux uy wx wy)
+    ⊎ Meets (pos 0 -ℤ cross ux uy vx vy) (pos 0 -ℤ cross vx vy wx wy) (pos 0 -ℤ cross ux uy wx wy)
 
 -- each end keeps k from the other segment
 pub record EndsKeep (a b c d : Point) (k : ℕ) : Type 0 where
@@ -53,4 +54,5 @@ pub record EndsKeep (a b c d : Point) (k : ℕ) : Type 0 where
 
 -- some end touches the other segment
 abbrev pub EndsTouch : Point → Point → Point → Point → ℕ → Type 0
-EndsTouch a b c d k = (SegmentsTouch a a c d k ⊎ SegmentsTouch b b c d k) ⊎ (SegmentsTouch c c a b k ⊎ SegmentsTouch d d a b k)
+EndsTouch a b c d k =
+    (SegmentsTouch a a c d k ⊎ SegmentsTouch b b c d k) ⊎ (SegmentsTouch c c a b k ⊎ SegmentsTouch d d a b k)

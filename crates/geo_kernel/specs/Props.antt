@@ -14,10 +14,13 @@ all_prop P f xs = Π_prop (λ k. Π_prop (λ d. Π_prop (λ l. f _)))
 -- for a ghost field that says IsWellFormed
 pub well_formed_prop : (s : Spine) → IsProp (IsWellFormed s)
 well_formed_prop (Chain ps) = le_prop
-well_formed_prop (Area loops) = ×_prop le_prop (all_prop (λ loop. 3 ≤ length loop) (λ loop. le_prop {n = 3} {m = length loop}) loops)
+well_formed_prop (Area loops) =
+    ×_prop le_prop (all_prop (λ loop. 3 ≤ length loop) (λ loop. le_prop {n = 3} {m = length loop}) loops)
 
 points_prop : (m : ℕ) (ps : List Point) → IsProp (All (IsWithin m) ps)
-points_prop m ps = all_prop (IsWithin m) (λ p. ×_prop (le_prop {n = unsigned_abs p.x} {m = m}) (le_prop {n = unsigned_abs p.y} {m = m})) ps
+points_prop m ps =
+    all_prop (IsWithin m)
+    (λ p. ×_prop (le_prop {n = unsigned_abs p.x} {m = m}) (le_prop {n = unsigned_abs p.y} {m = m})) ps
 
 -- for a ghost field that says IsSpineWithin
 pub spine_within_prop : (m : ℕ) (s : Spine) → IsProp (IsSpineWithin m s)

@@ -11,7 +11,8 @@ stretched n p = record { x = pos n *ℤ p.x; y = pos n *ℤ p.y }
 
 -- n times the point at i/n of a segment
 abbrev pub point_at : ℕ → ℕ → Segment → Point
-point_at n i g = record { x = pos (n - i) *ℤ g.from.x +ℤ pos i *ℤ g.to.x; y = pos (n - i) *ℤ g.from.y +ℤ pos i *ℤ g.to.y }
+point_at n i g =
+    record { x = pos (n - i) *ℤ g.from.x +ℤ pos i *ℤ g.to.x; y = pos (n - i) *ℤ g.from.y +ℤ pos i *ℤ g.to.y }
 
 -- the point p/n is inside the loops
 abbrev pub IsInsideAt : ℕ → Point → List (List Point) → Type 0

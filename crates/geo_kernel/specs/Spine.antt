@@ -1,5 +1,6 @@
 -- Chains and areas, by their segments.
-use Rattle.std.specs.Prelude.{ℕ, pos, ◌%◌, ◌<◌, ◌≤◌, ◌≡◌, ◌⊎◌, ◌-ℤ◌, ◌*ℤ◌, int_lt, int_le, Bool, cond, ◌&&◌, List, [], ◌∷◌, length, All, Any, count_by, flat_map}
+use Rattle.std.specs.Prelude.{ℕ, pos, ◌%◌, ◌<◌, ◌≤◌, ◌≡◌, ◌⊎◌, ◌-ℤ◌, ◌*ℤ◌, int_lt, int_le, Bool, cond, ◌&&◌, List, []}
+use Rattle.std.specs.Prelude.{◌∷◌, length, All, Any, count_by, flat_map}
 use Rattle.geo_kernel.specs.declared.point.Point.{Point}
 use Rattle.geo_kernel.specs.declared.spine.Spine.{Spine}
 use Rattle.geo_kernel.specs.declared.spine.Spine.TheVariants.{Chain, Area}

@@ -3,7 +3,8 @@
 
 ghost use Rattle.std.specs.Prelude.{◌≡◌, ◌↔◌, ◌≤◌, ◌<◌, ◌^◌, IsTrue, All, Any, length};
 ghost use Rattle.geo_kernel.specs.Plane.{IsWithin};
-ghost use Rattle.geo_kernel.specs.Spine.{links, area_segments, spine_segments, chain_segments, IsWellFormed, IsSpineWithin};
+ghost use Rattle.geo_kernel.specs.Spine.{links, area_segments, spine_segments, chain_segments, IsWellFormed};
+ghost use Rattle.geo_kernel.specs.Spine.{IsSpineWithin};
 ghost use Rattle.geo_kernel.specs.Moved.{moved, moved_spine};
 ghost use Rattle.geo_kernel.specs.Close.{IsClose, IsCloseTo, IsMovedClose, IsMovable};
 

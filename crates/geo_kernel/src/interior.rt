@@ -3,7 +3,8 @@
 
 ghost use Rattle.std.specs.Prelude.{◌≡◌, ◌↔◌, ◌≤◌, ◌^◌, IsTrue, All, length};
 ghost use Rattle.geo_kernel.specs.Plane.{IsWithin};
-ghost use Rattle.geo_kernel.specs.Spine.{links, area_segments, is_right as is_right_of, IsInside, BeginInside, IsFirst, IsWellFormed, IsSpineWithin};
+ghost use Rattle.geo_kernel.specs.Spine.{links, area_segments, is_right as is_right_of, IsInside, BeginInside};
+ghost use Rattle.geo_kernel.specs.Spine.{IsFirst, IsWellFormed, IsSpineWithin};
 ghost use Rattle.geo_kernel.specs.Moved.{moved, moved_spine};
 ghost use Rattle.geo_kernel.specs.Close.{IsMovedOdd, IsMovable, IsInsideSpine};
 

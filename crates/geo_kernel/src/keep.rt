@@ -53,7 +53,8 @@ pub fn spine_touch_moved(s: &Spine, by: Point, t: &Spine, k: u64) -> bool
 
 /// Whether the spines `s` and `t` keep the distance `k / 2`.
 ///
-/// Where a chain, or an area of one loop, keeps a distance above 0 from an area, none of its points is inside that area.
+/// Where a chain, or an area of one loop, keeps a distance above 0 from an area, none of its points is inside that
+/// area.
 pub fn spine_keeps(s: &Spine, t: &Spine, k: u64) -> bool
     requires s_well_formed { IsWellFormed s.now }
     requires s_within { IsSpineWithin (2 ^ 29) s.now }

@@ -1,7 +1,8 @@
 //! The project's list: a `Vec` that contracts see as the list of its elements.
 //! Its capacity and its pointer are no part of that, so values that hold lists can be compared in clauses.
 
-ghost use Rattle.std.specs.Prelude.{◌≡◌, [], ◌∷◌, ◌++◌, ◌<◌, ◌==◌, length, remove, slice_get, IfOk, IfErr, MatchOption, OnOk, OnSome, Some};
+ghost use Rattle.std.specs.Prelude.{◌≡◌, [], ◌∷◌, ◌++◌, ◌<◌, ◌==◌, length, remove, slice_get, IfOk, IfErr};
+ghost use Rattle.std.specs.Prelude.{MatchOption, OnOk, OnSome, Some};
 ghost use Rattle.std.specs.Option.{option_copied};
 
 use std::alloc::{AllocError, AllocFailed, Global};

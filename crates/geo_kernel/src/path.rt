@@ -19,8 +19,10 @@ pub(crate) struct Path<'a> {
 pub(crate) fn chain_path(points: &[Point]) -> Path<'_>
     requires some { 0 < length points.now }
     ensures links { links result.start result.rest.now ≡ chain_segments points.now }
-    ensures within { (m : ℕ) → All (IsWithin m) points.now → IsWithin m result.start × All (IsWithin m) result.rest.now }
-    ensures movable { (by : Vertex) → All (IsMovable by) points.now → IsMovable by result.start × All (IsMovable by) result.rest.now }
+    ensures within { (m : ℕ) → All (IsWithin m) points.now
+        → IsWithin m result.start × All (IsWithin m) result.rest.now }
+    ensures movable { (by : Vertex) → All (IsMovable by) points.now
+        → IsMovable by result.start × All (IsMovable by) result.rest.now }
 {
     let start = points[0];
     if points.len() == 1 {
@@ -40,8 +42,10 @@ pub(crate) fn chain_path(points: &[Point]) -> Path<'_>
 pub(crate) fn loop_path(points: &[Point]) -> Path<'_>
     requires some { 0 < length points.now }
     ensures links { links result.start result.rest.now ≡ loop_segments points.now }
-    ensures within { (m : ℕ) → All (IsWithin m) points.now → IsWithin m result.start × All (IsWithin m) result.rest.now }
-    ensures movable { (by : Vertex) → All (IsMovable by) points.now → IsMovable by result.start × All (IsMovable by) result.rest.now }
+    ensures within { (m : ℕ) → All (IsWithin m) points.now
+        → IsWithin m result.start × All (IsWithin m) result.rest.now }
+    ensures movable { (by : Vertex) → All (IsMovable by) points.now
+        → IsMovable by result.start × All (IsMovable by) result.rest.now }
 {
     Path {
         start: points[points.len() - 1],

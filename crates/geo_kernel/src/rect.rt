@@ -35,7 +35,8 @@ pub(crate) fn are_beyond(a: Rect4, b: Rect4, k: u64) -> bool
 pub fn parted(a: Rect4, b: Rect4, k: u64) -> bool
     ensures parted { IsTrue result ↔ IsParted a b k }
     ensures keep { IsTrue result → 0 < k → (s t : Drawn) → IsInBox a s → IsInBox b t → SpinesKeep s t k }
-    ensures apart { IsTrue result → (s t : Drawn) → IsInBox a s → IsInBox b t → (j : ℕ) → j < k → ¬ (SpinesTouch s t j) }
+    ensures apart { IsTrue result → (s t : Drawn) → IsInBox a s → IsInBox b t → (j : ℕ) → j < k
+        → ¬ (SpinesTouch s t j) }
 {
     are_beyond(a, b, k)
 }

@@ -1,9 +1,10 @@
 //! Two segments: whether they keep a distance, and whether they touch by it.
 //! Squared distances are compared as fractions, in whole numbers of 128 bits.
 
-ghost use Rattle.std.specs.Prelude.{◌≡◌, ◌↔◌, pos, ◌*◌, ◌≤◌, ◌^◌, ◌-ℤ◌, ◌*ℤ◌, ◌≤ℤ◌, IsTrue, unsigned_abs};
+ghost use Rattle.std.specs.Prelude.{◌≡◌, ◌↔◌, ◌⊎◌, pos, ◌*◌, ◌≤◌, ◌^◌, ◌-ℤ◌, ◌*ℤ◌, ◌≤ℤ◌, IsTrue, unsigned_abs};
 ghost use Rattle.geo_kernel.specs.Plane.{SegmentsKeep, SegmentsTouch, IsWithin};
-ghost use Rattle.geo_kernel.specs.Nearest.{dot as dot_of, cross as cross_of, IsNearest, Meets, Cross, EndsKeep, EndsTouch};
+ghost use Rattle.geo_kernel.specs.Nearest.{dot as dot_of, cross as cross_of, IsNearest, Meets, Cross, EndsKeep};
+ghost use Rattle.geo_kernel.specs.Nearest.{EndsTouch};
 
 use crate::Point;
 use crate::rect::{are_beyond, span};
@@ -171,6 +172,18 @@ fn ends_keep(a: Point, b: Point, c: Point, d: Point, k: u64) -> bool
         && point_keeps(d, a, b, k)
 }
 
+// Whether an end of a segment touches another.
+fn end_touches(a: Point, b: Point, c: Point, d: Point, k: u64) -> bool
+    requires a_within { IsWithin (2 ^ 29) a }
+    requires b_within { IsWithin (2 ^ 29) b }
+    requires c_within { IsWithin (2 ^ 29) c }
+    requires d_within { IsWithin (2 ^ 29) d }
+    requires k_within { k ≤ 2 ^ 30 }
+    ensures { IsTrue result ↔ (SegmentsTouch a a c d k ⊎ SegmentsTouch b b c d k) }
+{
+    point_touches(a, c, d, k) || point_touches(b, c, d, k)
+}
+
 fn ends_touch(a: Point, b: Point, c: Point, d: Point, k: u64) -> bool
     requires a_within { IsWithin (2 ^ 29) a }
     requires b_within { IsWithin (2 ^ 29) b }
@@ -179,10 +192,7 @@ fn ends_touch(a: Point, b: Point, c: Point, d: Point, k: u64) -> bool
     requires k_within { k ≤ 2 ^ 30 }
     ensures { IsTrue result ↔ EndsTouch a b c d k }
 {
-    point_touches(a, c, d, k)
-        || point_touches(b, c, d, k)
-        || point_touches(c, a, b, k)
-        || point_touches(d, a, b, k)
+    end_touches(a, b, c, d, k) || end_touches(c, d, a, b, k)
 }
 
 /// Whether any two points of the segments `a` `b` and `c` `d` are at least half of `k` apart.

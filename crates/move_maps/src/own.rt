@@ -48,7 +48,8 @@ fn add_window(windows: &mut Vec<Window>, w: Window) -> Result<(), AllocError>
     Ok(())
 }
 
-// Whether what the map counts of the item shuts moves of the net: the item is of another net, and no via touches it that
+// Whether what the map counts of the item shuts moves of the net: the item is of another net, and no via touches it
+// that
 // keeps its clearance.
 fn is_foreign(d: &Design, g: u32, net: u32, item: &Item) -> bool
     ensures { OnTrue result (IsForeign d.now g net item.now) }

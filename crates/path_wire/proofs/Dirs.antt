@@ -1,5 +1,7 @@
 -- Steps lead straight to the next line, on one layer.
-use Rattle.std.proofs.Common.{◌≡◌, ℕ, ℤ, pos, negsuc, ◌+◌, ◌-◌, ◌*◌, ◌/◌, ◌%◌, ◌<◌, ◌+ℤ◌, ◌-ℤ◌, ◌*ℤ◌, ◌<ℤ◌, Bool, true, false, cond, ◌==◌, nat_lt, Option, Some, None, List, [], ◌∷◌, length, Ordering, refl, sym, ap, ◌∙◌, subst, arith, inl, inr, ◌⊎◌, unsigned_abs, true≢false}
+use Rattle.std.proofs.Common.{◌≡◌, ℕ, ℤ, pos, negsuc, ◌+◌, ◌-◌, ◌*◌, ◌/◌, ◌%◌, ◌<◌, ◌+ℤ◌, ◌-ℤ◌, ◌*ℤ◌, ◌<ℤ◌, Bool, true}
+use Rattle.std.proofs.Common.{false, cond, ◌==◌, nat_lt, Option, Some, None, List, [], ◌∷◌, length, Ordering, refl, sym}
+use Rattle.std.proofs.Common.{ap, ◌∙◌, subst, arith, inl, inr, ◌⊎◌, unsigned_abs, true≢false}
 use Rattle.std.specs.Prelude.{slice_index, slice_index_or}
 use Rattle.std.specs.Ordering.{int_cmp, MatchOrdering}
 use Rattle.std.specs.Cmp.{int_ranks}
@@ -35,7 +37,8 @@ pub record IsAhead (dir : ℕ) (p q : Point) : Type 0 where
   pub y_is : q.y ≡ p.y +ℤ pos gap *ℤ along_y dir
 
 further : (a b c g h u : ℤ) → b ≡ a +ℤ g *ℤ u → c ≡ b +ℤ h *ℤ u → c ≡ a +ℤ (g +ℤ h) *ℤ u
-further a b c g h u e f = f ∙ ap (λ (z : ℤ). z +ℤ h *ℤ u) e ∙ ring (a ∷ g ∷ h ∷ u ∷ []) ((x0 ⊕ x1 ⊗ x3) ⊕ x2 ⊗ x3) (x0 ⊕ (x1 ⊕ x2) ⊗ x3) tt
+further a b c g h u e f =
+    f ∙ ap (λ (z : ℤ). z +ℤ h *ℤ u) e ∙ ring (a ∷ g ∷ h ∷ u ∷ []) ((x0 ⊕ x1 ⊗ x3) ⊕ x2 ⊗ x3) (x0 ⊕ (x1 ⊕ x2) ⊗ x3) tt
 
 parted : (a b c g h u : ℤ) → b ≡ a +ℤ g *ℤ u → c ≡ b +ℤ h *ℤ u → (g +ℤ h) *ℤ b ≡ h *ℤ a +ℤ g *ℤ c
 parted a b c g h u e f =
@@ -63,7 +66,8 @@ ahead_between dir a b c f g = record {
 less : (x y : ℤ) → int_cmp x y ≡ Less → x <ℤ y
 less x y e = subst (λ (o : Ordering). MatchOrdering o (x <ℤ y) (x ≡ y) (y <ℤ x)) e (int_ranks x y)
 
-line_above : (xs : List ℤ) (i j : ℕ) → IsStrictlySortedBy int_cmp xs → i < j → j < length xs → slice_index_or xs i (pos 0) <ℤ slice_index_or xs j (pos 0)
+line_above : (xs : List ℤ) (i j : ℕ) → IsStrictlySortedBy int_cmp xs → i < j → j < length xs
+    → slice_index_or xs i (pos 0) <ℤ slice_index_or xs j (pos 0)
 line_above xs i j s h k = less _ _ (Less-from_sorted int_cmp xs i j (pos 0) s h k)
 
 gap_up : (a b : ℤ) → a <ℤ b → (g : ℕ) × (0 < g) × (b ≡ a +ℤ pos g *ℤ pos 1)
@@ -139,7 +143,13 @@ module _ (d : Design) (m : Mesh) (v : ℕ) (fits : FitsDesign d m) (there : v < 
   to_right : column m v + 1 < length m.xs → IsStraight m 0 v (node_at m (level m v) (row m v) (column m v + 1))
   to_right h =
       let g = gap_up _ _ (line_above m.xs (column m v) (column m v + 1) fits.xs_ascend (omega arith) h) in record {
-        ahead = record { gap = g.0; some = g.1; x_is = x_at m (level m v) (row m v) (column m v + 1) height_below h ∙ g.2; y_is = y_at m (level m v) (row m v) (column m v + 1) height_below h ∙ gap_none _ g.0 };
+        ahead = record {
+          gap = g.0;
+          some = g.1;
+          x_is = x_at m (level m v) (row m v) (column m v + 1) height_below h
+              ∙ g.2;
+          y_is = y_at m (level m v) (row m v) (column m v + 1) height_below h ∙ gap_none _ g.0;
+        };
         one_layer = layer_at m (level m v) (row m v) (column m v + 1) height_below h;
       }
 
@@ -148,14 +158,26 @@ module _ (d : Design) (m : Mesh) (v : ℕ) (fits : FitsDesign d m) (there : v < 
       let b = column_below in
       let k : column m v - 1 < length m.xs = omega arith in
       let g = gap_down _ _ (line_above m.xs (column m v - 1) (column m v) fits.xs_ascend (omega arith) b) in record {
-        ahead = record { gap = g.0; some = g.1; x_is = x_at m (level m v) (row m v) (column m v - 1) height_below k ∙ g.2; y_is = y_at m (level m v) (row m v) (column m v - 1) height_below k ∙ gap_none _ g.0 };
+        ahead = record {
+          gap = g.0;
+          some = g.1;
+          x_is = x_at m (level m v) (row m v) (column m v - 1) height_below k
+              ∙ g.2;
+          y_is = y_at m (level m v) (row m v) (column m v - 1) height_below k ∙ gap_none _ g.0;
+        };
         one_layer = layer_at m (level m v) (row m v) (column m v - 1) height_below k;
       }
 
   to_upper : row m v + 1 < length m.ys → IsStraight m 2 v (node_at m (level m v) (row m v + 1) (column m v))
   to_upper h =
       let g = gap_up _ _ (line_above m.ys (row m v) (row m v + 1) fits.ys_ascend (omega arith) h) in record {
-        ahead = record { gap = g.0; some = g.1; x_is = x_at m (level m v) (row m v + 1) (column m v) h column_below ∙ gap_none _ g.0; y_is = y_at m (level m v) (row m v + 1) (column m v) h column_below ∙ g.2 };
+        ahead = record {
+          gap = g.0;
+          some = g.1;
+          x_is = x_at m (level m v) (row m v + 1) (column m v) h column_below
+              ∙ gap_none _ g.0;
+          y_is = y_at m (level m v) (row m v + 1) (column m v) h column_below ∙ g.2;
+        };
         one_layer = layer_at m (level m v) (row m v + 1) (column m v) h column_below;
       }
 
@@ -164,14 +186,22 @@ module _ (d : Design) (m : Mesh) (v : ℕ) (fits : FitsDesign d m) (there : v < 
       let b = height_below in
       let k : row m v - 1 < length m.ys = omega arith in
       let g = gap_down _ _ (line_above m.ys (row m v - 1) (row m v) fits.ys_ascend (omega arith) b) in record {
-        ahead = record { gap = g.0; some = g.1; x_is = x_at m (level m v) (row m v - 1) (column m v) k column_below ∙ gap_none _ g.0; y_is = y_at m (level m v) (row m v - 1) (column m v) k column_below ∙ g.2 };
+        ahead = record {
+          gap = g.0;
+          some = g.1;
+          x_is = x_at m (level m v) (row m v - 1) (column m v) k column_below
+              ∙ gap_none _ g.0;
+          y_is = y_at m (level m v) (row m v - 1) (column m v) k column_below ∙ g.2;
+        };
         one_layer = layer_at m (level m v) (row m v - 1) (column m v) k column_below;
       }
 
   -- one branch of the choice
-  branch : (b : Bool) (from to dir w : ℕ) → (b ≡ true → IsStraight m from v to) → cond {A = Option (Move × ℕ)} b (Some (move.Step from, to)) None ≡ Some (move.Step dir, w) → IsStraight m dir v w
+  branch : (b : Bool) (from to dir w : ℕ) → (b ≡ true → IsStraight m from v to)
+      → cond {A = Option (Move × ℕ)} b (Some (move.Step from, to)) None ≡ Some (move.Step dir, w) → IsStraight m dir v w
   branch b from to dir w f e = elim (chosen b (Some (move.Step from, to)) None (Some (move.Step dir, w)) e) [
-    | inl h ↦ subst (λ (n : ℕ). IsStraight m n v w) (ap dir_in h.1) (subst (λ (n : ℕ). IsStraight m from v n) (ap node_in h.1) (f h.0))
+    | inl h ↦ subst (λ (n : ℕ). IsStraight m n v w) (ap dir_in h.1)
+        (subst (λ (n : ℕ). IsStraight m from v n) (ap node_in h.1) (f h.0))
     | inr h ↦ absurd (some_not_none (move.Step dir, w) h.1)
   ]
 

@@ -1,5 +1,7 @@
 -- A walk of a net, move by move, with what each of its moves lays.
-use Rattle.std.proofs.Common.{◌≡◌, ℕ, ◌+◌, ◌-◌, ◌*◌, ◌/◌, ◌%◌, ◌<◌, ◌≤◌, nat_lt, ◌==◌, Bool, true, false, cond, Option, Some, None, List, [], ◌∷◌, length, All, sym, ap, ap₂, ◌∙◌, subst, arith, inl, inr, true≢false}
+use Rattle.std.proofs.Common.{◌≡◌, ℕ, ◌+◌, ◌-◌, ◌*◌, ◌/◌, ◌%◌, ◌<◌, ◌≤◌, nat_lt, ◌==◌, Bool, true, false, cond, Option}
+use Rattle.std.proofs.Common.{Some, None, List, [], ◌∷◌, length, All, sym, ap, ap₂, ◌∙◌, subst, arith, inl, inr}
+use Rattle.std.proofs.Common.{true≢false}
 use Rattle.std.specs.Prelude.{slice_index}
 use Rattle.std.proofs.lemmas.Bool.{ltb-false}
 use Rattle.std.proofs.lemmas.Nat.{div_below, mod_below}
@@ -28,22 +30,32 @@ use Rattle.path_wire.proofs.Stretches.{StepsHave}
 module _ (m : Mesh) (width : ℕ) (Q : Metal → Type 0) (G : ℕ → List ℕ → List Move → Type 0)
     (none : (v : ℕ) (a : Move) (ms : List Move) → ¬ (G v [] (a ∷ ms)))
     (next : (v w : ℕ) (vs : List ℕ) (a : Move) (ms : List Move) → G v (w ∷ vs) (a ∷ ms) → G w vs ms)
-    (via : (v w : ℕ) (vs : List ℕ) (padstack layer : ℕ) (ms : List Move) → G v (w ∷ vs) (move.Via padstack layer ∷ ms) → Q (metal.Via padstack (point_of m v)))
-    (wire : (v w : ℕ) (vs : List ℕ) (dir : ℕ) (ms : List Move) → G v (w ∷ vs) (move.Step dir ∷ ms) → Q (wire_from m width v (w ∷ vs) (move.Step dir ∷ ms))) where
-  pub each_metal : (fresh : Bool) (v : ℕ) (vs : List ℕ) (ms : List Move) → G v vs ms → All Q (copper_from m width fresh (v ∷ vs) ms)
+    (via : (v w : ℕ) (vs : List ℕ) (padstack layer : ℕ) (ms : List Move) → G v (w ∷ vs) (move.Via padstack layer ∷ ms)
+    → Q (metal.Via padstack (point_of m v)))
+    (wire : (v w : ℕ) (vs : List ℕ) (dir : ℕ) (ms : List Move) → G v (w ∷ vs) (move.Step dir ∷ ms)
+    → Q (wire_from m width v (w ∷ vs) (move.Step dir ∷ ms))) where
+  pub each_metal : (fresh : Bool) (v : ℕ) (vs : List ℕ) (ms : List Move) → G v vs ms
+      → All Q (copper_from m width fresh (v ∷ vs) ms)
   each_metal true v vs [] g = All-nil Q
   each_metal false v vs [] g = All-nil Q
   each_metal fresh v [] (a ∷ ms) g = absurd (none v a ms g)
-  each_metal true v (w ∷ vs) (move.Via padstack layer ∷ ms) g = All-cons Q (metal.Via padstack (point_of m v)) _ (via v w vs padstack layer ms g) (each_metal true w vs ms (next v w vs (move.Via padstack layer) ms g))
-  each_metal false v (w ∷ vs) (move.Via padstack layer ∷ ms) g = All-cons Q (metal.Via padstack (point_of m v)) _ (via v w vs padstack layer ms g) (each_metal true w vs ms (next v w vs (move.Via padstack layer) ms g))
-  each_metal true v (w ∷ vs) (move.Step dir ∷ ms) g = All-cons Q (wire_from m width v (w ∷ vs) (move.Step dir ∷ ms)) _ (wire v w vs dir ms g) (each_metal false w vs ms (next v w vs (move.Step dir) ms g))
+  each_metal true v (w ∷ vs) (move.Via padstack layer ∷ ms) g =
+      All-cons Q (metal.Via padstack (point_of m v)) _ (via v w vs padstack layer ms g)
+      (each_metal true w vs ms (next v w vs (move.Via padstack layer) ms g))
+  each_metal false v (w ∷ vs) (move.Via padstack layer ∷ ms) g =
+      All-cons Q (metal.Via padstack (point_of m v)) _ (via v w vs padstack layer ms g)
+      (each_metal true w vs ms (next v w vs (move.Via padstack layer) ms g))
+  each_metal true v (w ∷ vs) (move.Step dir ∷ ms) g =
+      All-cons Q (wire_from m width v (w ∷ vs) (move.Step dir ∷ ms)) _ (wire v w vs dir ms g)
+      (each_metal false w vs ms (next v w vs (move.Step dir) ms g))
   each_metal false v (w ∷ vs) (move.Step dir ∷ ms) g = each_metal false w vs ms (next v w vs (move.Step dir) ms g)
 
 -- ---- the part of a walk from a node on, with R of what its moves lay
-pub record Walks (d : Design) (m : Mesh) (net : ℕ) (R : Probe → Type 0) (v : ℕ) (vs : List ℕ) (ms : List Move) : Type 0 where
-  pub there : All (λ x. x < node_count m) (v ∷ vs)
-  pub leads : MovesLead d m net (v ∷ vs) ms
-  pub laid : All R (move_probes d m net (v ∷ vs) ms)
+pub record Walks (d : Design) (m : Mesh) (net : ℕ) (R : Probe → Type 0) (v : ℕ) (vs : List ℕ) (ms : List Move) : Type 0
+  where
+    pub there : All (λ x. x < node_count m) (v ∷ vs)
+    pub leads : MovesLead d m net (v ∷ vs) ms
+    pub laid : All R (move_probes d m net (v ∷ vs) ms)
 
 -- ---- what a move of the net is
 abbrev is_step : Option (Move × ℕ) → Bool
@@ -51,24 +63,28 @@ is_step (Some (move.Step dir, to)) = true
 is_step (Some (move.Via padstack layer, to)) = false
 is_step None = false
 
-no_step : (b : Bool) (padstack layer to dir w : ℕ) → cond {A = Option (Move × ℕ)} b (Some (move.Via padstack layer, to)) None ≡ Some (move.Step dir, w) → ⊥
-no_step b padstack layer to dir w e = elim (chosen b (Some (move.Via padstack layer, to)) None (Some (move.Step dir, w)) e) [
-  | inl h ↦ true≢false (sym (ap is_step h.1))
-  | inr h ↦ some_not_none (move.Step dir, w) h.1
-]
+no_step : (b : Bool) (padstack layer to dir w : ℕ)
+    → cond {A = Option (Move × ℕ)} b (Some (move.Via padstack layer, to)) None ≡ Some (move.Step dir, w) → ⊥
+no_step b padstack layer to dir w e =
+    elim (chosen b (Some (move.Via padstack layer, to)) None (Some (move.Step dir, w)) e) [
+      | inl h ↦ true≢false (sym (ap is_step h.1))
+      | inr h ↦ some_not_none (move.Step dir, w) h.1
+    ]
 
 module _ (d : Design) (m : Mesh) (net : ℕ) (R : Probe → Type 0) where
   pub none_left : (v : ℕ) (a : Move) (ms : List Move) → ¬ (Walks d m net R v [] (a ∷ ms))
   none_left v a ms g = g.leads
 
-  pub walks_on : (v w : ℕ) (vs : List ℕ) (a : Move) (ms : List Move) → Walks d m net R v (w ∷ vs) (a ∷ ms) → Walks d m net R w vs ms
+  pub walks_on : (v w : ℕ) (vs : List ℕ) (a : Move) (ms : List Move) → Walks d m net R v (w ∷ vs) (a ∷ ms)
+      → Walks d m net R w vs ms
   walks_on v w vs a ms g = record {
     there = All-tail (λ x. x < node_count m) v (w ∷ vs) g.there;
     leads = g.leads.1;
     laid = All-tail R (probe_of d m net v a w) (move_probes d m net (w ∷ vs) ms) g.laid;
   }
 
-  pub lays : (v w : ℕ) (vs : List ℕ) (a : Move) (ms : List Move) → Walks d m net R v (w ∷ vs) (a ∷ ms) → R (probe_of d m net v a w)
+  pub lays : (v w : ℕ) (vs : List ℕ) (a : Move) (ms : List Move) → Walks d m net R v (w ∷ vs) (a ∷ ms)
+      → R (probe_of d m net v a w)
   lays v w vs a ms g = All-head R (probe_of d m net v a w) (move_probes d m net (w ∷ vs) ms) g.laid
 
   -- what a step of the stretch lays, if all lies on one layer
@@ -79,18 +95,22 @@ module _ (d : Design) (m : Mesh) (net : ℕ) (fits : FitsDesign d m) where
   pub move_straight : (v dir w : ℕ) → v < node_count m → IsMoveOf d m net v (move.Step dir) w → IsStraight m dir v w
   move_straight v dir w h g = elim (chosen (nat_lt g.index 4) _ _ _ g.leads) [
     | inl a ↦ step_straight d m v fits h g.index dir w a.1
-    | inr a ↦ absurd (no_step (can_join (padstack_pieces d (slice_index (vias_of d net) ((g.index - 4) / length m.layers))) (point_of m v) (layer_of m v) (slice_index m.layers ((g.index - 4) % length m.layers)))
+    | inr a ↦ absurd
+        (no_step (can_join (padstack_pieces d (slice_index (vias_of d net) ((g.index - 4) / length m.layers)))
+        (point_of m v) (layer_of m v) (slice_index m.layers ((g.index - 4) % length m.layers)))
         _ _ _ dir w a.1)
   ]
 
-  pub steps_have : (R : Probe → Type 0) (layer v : ℕ) (vs : List ℕ) (ms : List Move) → layer_of m v ≡ layer → Walks d m net R v vs ms → StepsHave (Stepped d m net R layer) (point_of m) v vs ms
+  pub steps_have : (R : Probe → Type 0) (layer v : ℕ) (vs : List ℕ) (ms : List Move) → layer_of m v ≡ layer
+      → Walks d m net R v vs ms → StepsHave (Stepped d m net R layer) (point_of m) v vs ms
   steps_have R layer v vs [] e g = tt
   steps_have R layer v vs (move.Via padstack to ∷ ms) e g = tt
   steps_have R layer v [] (move.Step dir ∷ ms) e g = g.leads
   steps_have R layer v (w ∷ vs) (move.Step dir ∷ ms) e g =
       let s = move_straight v dir w (All-head (λ x. x < node_count m) v (w ∷ vs) g.there) g.leads.0 in (
         s.ahead,
-        subst (λ (l : ℕ). R (probe.Step l (width_for d net) (point_of m v) (point_of m w))) e (lays d m net R v w vs (move.Step dir) ms g),
+        subst (λ (l : ℕ). R (probe.Step l (width_for d net) (point_of m v) (point_of m w))) e
+            (lays d m net R v w vs (move.Step dir) ms g),
         steps_have R layer w vs ms (s.one_layer ∙ e) (walks_on d m net R v w vs (move.Step dir) ms g),
       )
 
@@ -114,11 +134,13 @@ pub record IsViaOf (d : Design) (m : Mesh) (net v padstack layer w : ℕ) : Type
   pub layer_is : slice_index m.layers level ≡ layer
   pub leads_to : node_at m level (row m v) (column m v) ≡ w
 
-no_via : (b : Bool) (dir to padstack layer w : ℕ) → cond {A = Option (Move × ℕ)} b (Some (move.Step dir, to)) None ≡ Some (move.Via padstack layer, w) → ⊥
-no_via b dir to padstack layer w e = elim (chosen b (Some (move.Step dir, to)) None (Some (move.Via padstack layer, w)) e) [
-  | inl h ↦ true≢false (ap is_step h.1)
-  | inr h ↦ some_not_none (move.Via padstack layer, w) h.1
-]
+no_via : (b : Bool) (dir to padstack layer w : ℕ) → cond {A = Option (Move × ℕ)} b (Some (move.Step dir, to)) None
+    ≡ Some (move.Via padstack layer, w) → ⊥
+no_via b dir to padstack layer w e =
+    elim (chosen b (Some (move.Step dir, to)) None (Some (move.Via padstack layer, w)) e) [
+      | inl h ↦ true≢false (ap is_step h.1)
+      | inr h ↦ some_not_none (move.Via padstack layer, w) h.1
+    ]
 
 module _ (d : Design) (m : Mesh) (net : ℕ) where
   step_no_via : (v k padstack layer w : ℕ) → step_at m v k ≡ Some (move.Via padstack layer, w) → ⊥
@@ -134,18 +156,22 @@ module _ (d : Design) (m : Mesh) (net : ℕ) where
   ]
 
   via_made : (v i padstack layer w : ℕ) → i < 4 + length (vias_of d net) * length m.layers → 4 ≤ i
-      → via_at d m v (slice_index (vias_of d net) ((i - 4) / length m.layers)) ((i - 4) % length m.layers) ≡ Some (move.Via padstack layer, w) → IsViaOf d m net v padstack layer w
+      → via_at d m v (slice_index (vias_of d net) ((i - 4) / length m.layers)) ((i - 4) % length m.layers)
+      ≡ Some (move.Via padstack layer, w) → IsViaOf d m net v padstack layer w
   via_made v i padstack layer w h k e =
       let p = slice_index (vias_of d net) ((i - 4) / length m.layers) in
       let t = (i - 4) % length m.layers in
       let below : i - 4 < length (vias_of d net) * length m.layers = omega arith in
       let some = width_positive (length m.layers) (length (vias_of d net)) (i - 4) below in
-      elim (chosen (can_join (padstack_pieces d p) (point_of m v) (layer_of m v) (slice_index m.layers t)) (Some (move.Via p (slice_index m.layers t), node_at m t (row m v) (column m v))) None (Some (move.Via padstack layer, w)) e) [
+      elim (chosen (can_join (padstack_pieces d p) (point_of m v) (layer_of m v) (slice_index m.layers t))
+      (Some (move.Via p (slice_index m.layers t), node_at m t (row m v) (column m v))) None
+      (Some (move.Via padstack layer, w)) e) [
         | inl h ↦ record {
           place = (i - 4) / length m.layers;
           place_below = div_below (i - 4) (length m.layers) (length (vias_of d net)) some below;
           listed = ap via_in h.1;
-          joins = ap₂ (λ (x y : ℕ). can_join (padstack_pieces d x) (point_of m v) (layer_of m v) y) (sym (ap via_in h.1)) (sym (ap layer_in h.1)) ∙ h.0;
+          joins = ap₂ (λ (x y : ℕ). can_join (padstack_pieces d x) (point_of m v) (layer_of m v) y)
+              (sym (ap via_in h.1)) (sym (ap layer_in h.1)) ∙ h.0;
           level = t;
           level_below = mod_below (i - 4) (length m.layers) some;
           layer_is = ap layer_in h.1;
@@ -154,7 +180,8 @@ module _ (d : Design) (m : Mesh) (net : ℕ) where
         | inr h ↦ absurd (some_not_none (move.Via padstack layer, w) h.1)
       ]
 
-  pub move_via : (v padstack layer w : ℕ) → IsMoveOf d m net v (move.Via padstack layer) w → IsViaOf d m net v padstack layer w
+  pub move_via : (v padstack layer w : ℕ) → IsMoveOf d m net v (move.Via padstack layer) w
+      → IsViaOf d m net v padstack layer w
   move_via v padstack layer w g = elim (chosen (nat_lt g.index 4) _ _ _ g.leads) [
     | inl a ↦ absurd (step_no_via v g.index padstack layer w a.1)
     | inr a ↦ via_made v g.index padstack layer w g.listed (ltb-false g.index 4 a.0) a.1

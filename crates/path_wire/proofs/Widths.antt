@@ -40,5 +40,6 @@ module _ (d : Design) (m : Mesh) (net : ℕ) where
   routes [] [] h = absurd h.leads
   routes [] (a ∷ ms) h = absurd h.leads
   routes (v ∷ vs) [] h = All-cons (IsWireOrVia (width_for d net))
-      (metal.Wire (layer_of m v) (width_for d net) (point_of m v ∷ point_of m v ∷ [])) [] (refl, omega arith) (All-nil (IsWireOrVia (width_for d net)))
+      (metal.Wire (layer_of m v) (width_for d net) (point_of m v ∷ point_of m v ∷ [])) [] (refl, omega arith)
+      (All-nil (IsWireOrVia (width_for d net)))
   routes (v ∷ vs) (a ∷ ms) h = routed true v vs (a ∷ ms) h.leads

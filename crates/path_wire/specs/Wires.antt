@@ -49,12 +49,15 @@ wire_from m width v vs moves = metal.Wire (layer_of m v) width (map (point_of m)
 
 -- the copper of the moves from a node on; `fresh` where no step leads to it, so that a step begins a stretch there
 abbrev pub copper_from : Mesh → ℕ → Bool → List ℕ → List Move → List Metal
-copper_from m width fresh (v ∷ vs) (move.Via padstack layer ∷ ms) = metal.Via padstack (point_of m v) ∷ copper_from m width true vs ms
-copper_from m width true (v ∷ vs) (move.Step dir ∷ ms) = wire_from m width v vs (move.Step dir ∷ ms) ∷ copper_from m width false vs ms
+copper_from m width fresh (v ∷ vs) (move.Via padstack layer ∷ ms) =
+    metal.Via padstack (point_of m v) ∷ copper_from m width true vs ms
+copper_from m width true (v ∷ vs) (move.Step dir ∷ ms) =
+    wire_from m width v vs (move.Step dir ∷ ms) ∷ copper_from m width false vs ms
 copper_from m width false (v ∷ vs) (move.Step dir ∷ ms) = copper_from m width false vs ms
 copper_from m width fresh _ _ = []
 
--- the copper of a walk, in order, its wires of the net's width; a walk without moves is a wire from the node's point to itself
+-- the copper of a walk, in order, its wires of the net's width; a walk without moves is a wire from the node's point to
+-- itself
 abbrev pub copper_of : Design → Mesh → ℕ → List ℕ → List Move → List Metal
 copper_of d m net (v ∷ vs) [] = metal.Wire (layer_of m v) (width_for d net) (point_of m v ∷ point_of m v ∷ []) ∷ []
 copper_of d m net nodes moves = copper_from m (width_for d net) true nodes moves

@@ -18,16 +18,27 @@ ghost use Rattle.route_lattice.specs.Fits.{FitsDesign};
 ghost use Rattle.route_lattice.specs.Anchors.{Holds, Anchors};
 ghost use Rattle.route_lattice.specs.Legal.{IsLegalProbe, legal_graph};
 ghost use Rattle.path_wire.specs.Wires.{IsNetWalk, copper_of};
-ghost use Rattle.path_wire.specs.Lays.{move_probes, walk_probes, laid_item, IsProbeInside, IsMetalInside, IsWellLaid, IsWireOrVia};
+ghost use Rattle.path_wire.specs.Lays.{move_probes, walk_probes, laid_item, IsProbeInside, IsMetalInside};
+ghost use Rattle.path_wire.specs.Lays.{IsWellLaid, IsWireOrVia};
 ghost use Rattle.path_wire.specs.Joins.{HasNode, Connect, last_node};
 ghost use Rattle.path_wire.specs.Parts.{Part, AreParts, part_metal};
 ghost use Rattle.pcb_model.specs.Plain.{ArePlain, IsPlainItem, IsPlainCopper};
 
-/// A walk over legal moves, from nodes of the lattice, is a walk of the net; what each of its moves lays is legal; it leads from a start to a goal.
+/// A walk over legal moves, from nodes of the lattice, is a walk of the net; what each of its moves lays is legal;
+/// it leads from a start to a goal.
 pub fn net_walks()
-    ensures walk { (d : TheDesign) (m : Mesh) (items : Seq OneItem) (net via_cost : ℕ) (starts goals : Seq ℕ) (w : OneWalk) → All (λ v. v < node_count m) starts → IsWalk (legal_graph d m items net via_cost) starts goals w → IsNetWalk d m net w.nodes w.moves }
-    ensures legal { (d : TheDesign) (m : Mesh) (items : Seq OneItem) (net via_cost : ℕ) (starts goals : Seq ℕ) (w : OneWalk) → IsWalk (legal_graph d m items net via_cost) starts goals w → All (IsLegalProbe d items net) (move_probes d m net w.nodes w.moves) }
-    ensures ends { (d : TheDesign) (m : Mesh) (items : Seq OneItem) (net via_cost : ℕ) (starts goals : Seq ℕ) (w : OneWalk) → IsWalk (legal_graph d m items net via_cost) starts goals w → (v : ℕ) × (vs : Seq ℕ) × (w.nodes ≡ v ∷ vs) × Contains starts v × Contains goals (last_node v vs) }
+    ensures walk { (d : TheDesign) (m : Mesh) (items : Seq OneItem) (net via_cost : ℕ) (starts goals : Seq ℕ)
+        (w : OneWalk)
+        → All (λ v. v < node_count m) starts → IsWalk (legal_graph d m items net via_cost) starts goals w
+        → IsNetWalk d m net w.nodes w.moves }
+    ensures legal { (d : TheDesign) (m : Mesh) (items : Seq OneItem) (net via_cost : ℕ) (starts goals : Seq ℕ)
+        (w : OneWalk)
+        → IsWalk (legal_graph d m items net via_cost) starts goals w
+        → All (IsLegalProbe d items net) (move_probes d m net w.nodes w.moves) }
+    ensures ends { (d : TheDesign) (m : Mesh) (items : Seq OneItem) (net via_cost : ℕ) (starts goals : Seq ℕ)
+        (w : OneWalk)
+        → IsWalk (legal_graph d m items net via_cost) starts goals w → (v : ℕ) × (vs : Seq ℕ) × (w.nodes ≡ v ∷ vs)
+        × Contains starts v × Contains goals (last_node v vs) }
 {}
 
 /// The copper of a walk with moves is that of the walk's parts, in order: a wire for each longest stretch of steps,
@@ -40,17 +51,24 @@ pub fn copper_by_parts()
 
 /// Where the disc at the first node and what each move lays agree with an item, so does the copper.
 pub fn copper_agrees()
-    ensures { (d : TheDesign) (m : Mesh) (net id : ℕ) (nodes : Seq ℕ) (moves : Seq OneMove) (b : OneItem) → FitsDesign d m → IsNetWalk d m net nodes moves → All (λ p. ProbeAgrees d net p b) (walk_probes d m net nodes moves) → All (λ a. Agrees d (laid_item d net id a) b) (copper_of d m net nodes moves) }
+    ensures { (d : TheDesign) (m : Mesh) (net id : ℕ) (nodes : Seq ℕ) (moves : Seq OneMove) (b : OneItem)
+        → FitsDesign d m → IsNetWalk d m net nodes moves
+        → All (λ p. ProbeAgrees d net p b) (walk_probes d m net nodes moves)
+        → All (λ a. Agrees d (laid_item d net id a) b) (copper_of d m net nodes moves) }
 {}
 
 /// Where the disc at the first node and what each move lays lie inside every boundary, so does the copper.
 pub fn copper_inside()
-    ensures { (d : TheDesign) (m : Mesh) (net : ℕ) (nodes : Seq ℕ) (moves : Seq OneMove) → IsNetWalk d m net nodes moves → All (IsProbeInside d) (walk_probes d m net nodes moves) → All (IsMetalInside d) (copper_of d m net nodes moves) }
+    ensures { (d : TheDesign) (m : Mesh) (net : ℕ) (nodes : Seq ℕ) (moves : Seq OneMove)
+        → IsNetWalk d m net nodes moves → All (IsProbeInside d) (walk_probes d m net nodes moves)
+        → All (IsMetalInside d) (copper_of d m net nodes moves) }
 {}
 
 /// The copper is laid as its net wants it, and its items fit the design.
 pub fn copper_well_laid()
-    ensures { (d : TheDesign) (m : Mesh) (net id : ℕ) (nodes : Seq ℕ) (moves : Seq OneMove) → IsSound d → FitsDesign d m → net < length d.nets → IsNetWalk d m net nodes moves → All (IsWellLaid d net id) (copper_of d m net nodes moves) }
+    ensures { (d : TheDesign) (m : Mesh) (net id : ℕ) (nodes : Seq ℕ) (moves : Seq OneMove) → IsSound d
+        → FitsDesign d m → net < length d.nets → IsNetWalk d m net nodes moves
+        → All (IsWellLaid d net id) (copper_of d m net nodes moves) }
 {}
 
 /// Each wire of the copper has just the net's width, and two points at least.
@@ -66,18 +84,27 @@ pub fn own_copper_agrees()
 
 /// The copper leads from the first node to the last, each metal with a node in common with the next.
 pub fn copper_connects()
-    ensures { (d : TheDesign) (m : Mesh) (net v : ℕ) (nodes : Seq ℕ) (moves : Seq OneMove) → FitsDesign d m → IsNetWalk d m net (v ∷ nodes) moves → Connect d m v (copper_of d m net (v ∷ nodes) moves) (last_node v nodes) }
+    ensures { (d : TheDesign) (m : Mesh) (net v : ℕ) (nodes : Seq ℕ) (moves : Seq OneMove) → FitsDesign d m
+        → IsNetWalk d m net (v ∷ nodes) moves
+        → Connect d m v (copper_of d m net (v ∷ nodes) moves) (last_node v nodes) }
 {}
 
 /// Items of one net whose areas have one loop each touch where pieces of both, on one layer, cover one point.
 pub fn common_points_touch()
-    ensures { (a b : OneItem) (net layer : ℕ) (p : OnePoint) → a.net ≡ Some net → b.net ≡ Some net → ArePlain a.pieces → ArePlain b.pieces → Any (Holds layer p) a.pieces → Any (Holds layer p) b.pieces → AreTouching a b }
+    ensures { (a b : OneItem) (net layer : ℕ) (p : OnePoint) → a.net ≡ Some net → b.net ≡ Some net
+        → ArePlain a.pieces → ArePlain b.pieces → Any (Holds layer p) a.pieces → Any (Holds layer p) b.pieces
+        → AreTouching a b }
 {}
 
-/// A metal that is laid as its net wants it touches each item of the net that one of its nodes anchors, and each metal with which it has a node in common.
+/// A metal that is laid as its net wants it touches each item of the net that one of its nodes anchors, and each
+/// metal with which it has a node in common.
 /// The copper that metals stand for is plain.
 pub fn copper_touches()
-    ensures anchored { (d : TheDesign) (m : Mesh) (net id v : ℕ) (a : OneMetal) (b : OneItem) → IsSound d → IsPlainCopper d → IsMetalLaid d (Some net) a → HasNode d m v a → b.net ≡ Some net → IsPlainItem b → Anchors d m v b → AreTouching (laid_item d net id a) b }
-    ensures neighbours { (d : TheDesign) (m : Mesh) (net i j v : ℕ) (a b : OneMetal) → IsSound d → IsPlainCopper d → IsMetalLaid d (Some net) a → IsMetalLaid d (Some net) b → HasNode d m v a → HasNode d m v b → AreTouching (laid_item d net i a) (laid_item d net j b) }
+    ensures anchored { (d : TheDesign) (m : Mesh) (net id v : ℕ) (a : OneMetal) (b : OneItem) → IsSound d
+        → IsPlainCopper d → IsMetalLaid d (Some net) a → HasNode d m v a → b.net ≡ Some net → IsPlainItem b
+        → Anchors d m v b → AreTouching (laid_item d net id a) b }
+    ensures neighbours { (d : TheDesign) (m : Mesh) (net i j v : ℕ) (a b : OneMetal) → IsSound d → IsPlainCopper d
+        → IsMetalLaid d (Some net) a → IsMetalLaid d (Some net) b → HasNode d m v a → HasNode d m v b
+        → AreTouching (laid_item d net i a) (laid_item d net j b) }
     ensures plain { (d : TheDesign) (net id : ℕ) (a : OneMetal) → IsPlainCopper d → IsPlainItem (laid_item d net id a) }
 {}

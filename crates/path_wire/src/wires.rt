@@ -4,14 +4,16 @@
 ghost use Rattle.std.specs.Prelude.{◌≡◌, ◌+◌, ◌<◌, ◌≤◌, ◌∷◌, [], map, All, IfOk, length, true, slice_index, drop};
 ghost use Rattle.pcb_model.specs.Rules.{width_for};
 ghost use Rattle.route_lattice.specs.Mesh.{node_count, point_of, layer_of};
-ghost use Rattle.path_wire.specs.Wires.{IsNetWalk, goes_on as goes_on_of, corners as corners_of, copper_from, copper_of};
+ghost use Rattle.path_wire.specs.Wires.{IsNetWalk, goes_on as goes_on_of, corners as corners_of, copper_from};
+ghost use Rattle.path_wire.specs.Wires.{copper_of};
 
 use geo_kernel::{List, Point};
 use pcb_model::{Design, Metal, width_of};
 use route_lattice::{Lattice, Move, Walk};
 use std::alloc::{AllocError, Global};
 
-/// The copper of a walk of a net, in order: a wire of the net's width for each longest stretch of steps, and a via for each via move.
+/// The copper of a walk of a net, in order: a wire of the net's width for each longest stretch of steps, and a via
+/// for each via move.
 /// A walk without moves gives a wire from the node's point to itself. `AllocError` comes only for want of memory.
 pub fn walk_items(
     alloc: Global,
@@ -38,7 +40,9 @@ fn point_wire(
     node: u32,
 ) -> Result<List<Metal>, AllocError>
     requires { node < node_count lat.now }
-    ensures { IfOk result (λ metals. metals ≡ Metal.Wire (layer_of lat.now node) width (point_of lat.now node ∷ point_of lat.now node ∷ []) ∷ []) }
+    ensures { IfOk result
+        (λ metals. metals
+        ≡ Metal.Wire (layer_of lat.now node) width (point_of lat.now node ∷ point_of lat.now node ∷ []) ∷ []) }
 {
     let at = lat.point(node);
     let chain = List::from_slice(alloc, &[at, at])?;
@@ -73,7 +77,9 @@ fn stretch(
 ) -> Result<List<Point>, AllocError>
     requires there { All (λ v. v < node_count lat.now) nodes.now }
     requires lengths { length nodes.now ≡ length moves.now + 1 }
-    ensures { IfOk result (λ points. points ≡ map (point_of lat.now) (slice_index nodes.now 0 ∷ corners_of (drop 1 nodes.now) moves.now)) }
+    ensures { IfOk result
+        (λ points. points
+        ≡ map (point_of lat.now) (slice_index nodes.now 0 ∷ corners_of (drop 1 nodes.now) moves.now)) }
 {
     let mut points = List::new(alloc);
     points.push(lat.point(nodes[0]))?;
@@ -100,7 +106,9 @@ fn wire(
 ) -> Result<Metal, AllocError>
     requires there { All (λ v. v < node_count lat.now) nodes.now }
     requires lengths { length nodes.now ≡ length moves.now + 1 }
-    ensures { IfOk result (λ a. a ≡ Metal.Wire (layer_of lat.now (slice_index nodes.now 0)) width (map (point_of lat.now) (slice_index nodes.now 0 ∷ corners_of (drop 1 nodes.now) moves.now))) }
+    ensures { IfOk result
+        (λ a. a ≡ Metal.Wire (layer_of lat.now (slice_index nodes.now 0)) width
+        (map (point_of lat.now) (slice_index nodes.now 0 ∷ corners_of (drop 1 nodes.now) moves.now))) }
 {
     let chain = stretch(alloc, lat, nodes, moves)?;
     Ok(Metal::Wire {

@@ -3,7 +3,7 @@ use Rattle.std.proofs.Common.{◌≡◌, ◌⊎◌, inl, inr, ℕ, ◌+◌, ◌<
 use Rattle.std.proofs.Common.{refl, sym, ◌∙◌, ap, subst, List, [], ◌∷◌, ◌++◌, length, get_or, arith}
 use Rattle.std.proofs.Common.{Result, Ok, Err, drop}
 use Rattle.std.proofs.Math.Seq.{drop-cons}
-use Rattle.std.specs.Prelude.{IfOk, All, Any, Contains, ℤ, unsigned_abs}
+use Rattle.std.specs.Prelude.{OnOk, All, Any, Contains, ℤ, unsigned_abs}
 use Rattle.std.proofs.lemmas.Int.{ints}
 use Rattle.std.proofs.lemmas.Option.{slice_get_within}
 use Rattle.std.specs.List.{filter, flat_map}
@@ -190,11 +190,11 @@ fixed_all d l sound tiles given none area reach = record {
       (subst (λ (items : List Item). Loads d items d.free others start) given rest);
 }
 
-pub kept_more : {E : Type 0} (d : Design) (l : Loaded) (w : FreeWire) (item : Item) (r : Result Loaded E) → IsSound d
+pub kept_more : {T E : Type 0} (d : Design) (l n : Loaded) (w : FreeWire) (item : Item) (r : Result T E) → IsSound d
     → IsFreeSound d w → IsKept d l → item ≡ free_item d l.given.items w → IsLegal d (l.tiles.items ++ item ∷ [])
-    → IfOk r (λ (n : Loaded). n.tiles ≡ holding l.tiles (l.tiles.items ++ item ∷ []))
-    → IfOk r (λ (n : Loaded). n.given.items ≡ l.given.items ++ item ∷ []) → IfOk r (IsKept d)
-kept_more d l w item (Ok n) sound wire kept is legal tiles given = record {
+    → OnOk r (n.tiles ≡ holding l.tiles (l.tiles.items ++ item ∷ []))
+    → OnOk r (n.given.items ≡ l.given.items ++ item ∷ []) → OnOk r (IsKept d n)
+kept_more d l n w item (Ok _) sound wire kept is legal tiles given = record {
   held = ap (λ (t : Spread). t.items) tiles ∙ ap (λ (xs : List Item). xs ++ item ∷ []) kept.held ∙ sym given;
   loaded = subst (IsLoaded d) (sym (given ∙ ap (λ (a : Item). l.given.items ++ a ∷ []) is))
       (loaded_more d l.given.items w sound wire kept.loaded
@@ -203,7 +203,7 @@ kept_more d l w item (Ok n) sound wire kept is legal tiles given = record {
   area = subst (λ (t : Spread). IsArea t.area) (sym tiles) kept.area;
   reach = subst (λ (t : Spread). HasClearancesWithin t.reach d) (sym tiles) kept.reach;
 }
-kept_more d l w item (Err e) sound wire kept is legal tiles given = tt
+kept_more d l n w item (Err e) sound wire kept is legal tiles given = tt
 
 pub rest_one : (free xs : List FreeWire) (i : ℕ) (w : FreeWire) → xs ≡ free → i < length xs → w ≡ get_or xs i w
     → drop i free ≡ w ∷ drop (i + 1) free

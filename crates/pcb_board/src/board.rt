@@ -1,7 +1,8 @@
 //! The board: it takes offers, and goes back.
 //! Whatever it answers, it is legal after every entry of its history, and want of memory changes nothing.
 
-ghost use Rattle.std.specs.Prelude.{◌≡◌, ◌↔◌, ◌+◌, ◌≤◌, ◌<◌, ◌^◌, length, IsTrue, IfOk, IfErr, OnOk, OnErr, None};
+ghost use Rattle.std.specs.Prelude.{◌≡◌, ◌↔◌, ◌+◌, ◌≤◌, ◌<◌, ◌^◌, [], ℕ, length, slice_index_or, IsTrue, IfOk, IfErr};
+ghost use Rattle.std.specs.Prelude.{OnOk, OnErr, None};
 ghost use Rattle.pcb_model.specs.Sound.{IsSound};
 ghost use Rattle.pcb_model.specs.Plain.{IsPlainCopper};
 ghost use Rattle.board_offers.specs.Items.{new_items};
@@ -12,19 +13,20 @@ ghost use Rattle.pcb_board.specs.Answers.{Step, Makes, snap_of, taken_back, HasM
 ghost use Rattle.pcb_board.specs.Answers.{known, joined, BlamesLast};
 ghost use Rattle.pcb_board.specs.Turning.{LeadBack, AreMarks};
 ghost use Rattle.pcb_board.specs.Keeping.{IsBoard, IsStarted, AnswersBack};
+ghost use Rattle.pcb_board.specs.Loading.{AreLoaded};
 
 use crate::answer::{Answer, BackFault, Entry, OfferBack, RunBack};
 use crate::copy::{copy_history, copy_items};
 use crate::load::{Loaded, load_fixed, load_free};
 use crate::marks::{mark_entry, mark_range, marked_tiles, renew_turned};
-use crate::renew::{count_worker, joined_tiles, offer_of, renew};
+use crate::renew::{count_worker, enter, make_room, renew};
 use crate::snap::Snap;
 use board_offers::{Judged, Offer, gone_ids, judge, least_trouble};
 use geo_kernel::List;
 use pcb_model::{Copper, Design, Item, pairs_are_symmetric};
 use pcb_tiles::Tiles;
 use shared_value::Shared;
-use std::alloc::{AllocError, AllocFailed, Global};
+use std::alloc::{AllocError, Global};
 use std::marker::Model;
 
 /// A board. Contracts see its design, its start list, how many entries of workers may stand, its history and its
@@ -59,6 +61,75 @@ impl Model for Board {
     ghost invariant = { IsIndexed };
 }
 
+// For each of so many items, that no entry changed it.
+fn unchanged(alloc: Global, count: usize) -> Result<Vec<u64>, AllocError>
+    ensures size { IfOk result (λ v. length v.items ≡ count) }
+    ensures zeros { IfOk result (λ v. (x k : ℕ) → x < count → slice_index_or v.items x k ≡ 0) }
+{
+    let mut changed = Vec::new(alloc);
+    changed.resize(count, 0)?;
+    Ok(changed)
+}
+
+// A design's items, and for each that no entry changed it.
+fn beginning(alloc: Global, d: &Design) -> Result<(Loaded, Vec<u64>), AllocError>
+    requires { IsSound d.now }
+    ensures loaded { IfOk result (λ r. AreLoaded d.now [] r.0) }
+    ensures size { IfOk result (λ r. length r.1.items ≡ length r.0.given.items) }
+    ensures zeros { IfOk result (λ r. (x k : ℕ) → x < length r.1.items → slice_index_or r.1.items x k ≡ 0) }
+{
+    let fixed = load_fixed(alloc, d)?;
+    let loaded = load_free(alloc, d, fixed)?;
+    let changed = unchanged(alloc, loaded.given.len())?;
+    Ok((loaded, changed))
+}
+
+// The design, to be shared.
+fn shared(alloc: Global, design: Design) -> Result<Shared<Design>, AllocError>
+    ensures { IfOk result (λ s. s ≡ design) }
+{
+    match Shared::new(alloc, design) {
+        Ok(design) => Ok(design),
+        Err(_) => Err(AllocError),
+    }
+}
+
+// The board of what was loaded, and the places of what was dropped.
+fn opened(
+    alloc: Global,
+    design: Shared<Design>,
+    cap: u64,
+    loaded: Loaded,
+    changed: Vec<u64>,
+) -> (Board, List<u64>)
+    requires sound { IsSound design }
+    requires plain { IsPlainCopper design }
+    requires cap { cap ≤ 2 ^ 19 }
+    requires loaded { AreLoaded design [] loaded }
+    requires size { length changed.items ≡ length loaded.given.items }
+    requires zeros { (x k : ℕ) → x < length changed.items → slice_index_or changed.items x k ≡ 0 }
+    ensures { IsStarted design cap result.0 result.1 }
+{
+    let Loaded {
+        tiles,
+        given,
+        dropped,
+    } = loaded;
+    let started = given.len();
+    let board = Board {
+        alloc,
+        design,
+        cap,
+        history: List::new(alloc),
+        workers: 0,
+        given,
+        started,
+        changed,
+        tiles,
+    };
+    (board, dropped)
+}
+
 impl Board {
     /// The board of a design's fixed items and of those of its free items that are legal with what is loaded by then,
     /// and the places of the others. At most `cap` entries of workers may stand. `AllocError` comes only for want of
@@ -69,30 +140,9 @@ impl Board {
         requires cap { cap ≤ 2 ^ 19 }
         ensures { IfOk result (λ r. IsStarted design cap r.0 r.1) }
     {
-        let fixed = load_fixed(alloc, &design)?;
-        let Loaded {
-            tiles,
-            given,
-            dropped,
-        } = load_free(alloc, &design, fixed)?;
-        let started = given.len();
-        let mut changed = Vec::new(alloc);
-        changed.resize(started, 0)?;
-        let Ok(design) = Shared::new(alloc, design) else {
-            return Err(AllocError);
-        };
-        let board = Board {
-            alloc,
-            design,
-            cap,
-            history: List::new(alloc),
-            workers: 0,
-            given,
-            started,
-            changed,
-            tiles,
-        };
-        Ok((board, dropped))
+        let design = shared(alloc, design)?;
+        let (loaded, changed) = beginning(alloc, design.get())?;
+        Ok(opened(alloc, design, cap, loaded, changed))
     }
 
     /// What every board keeps: a call that does nothing but say so.
@@ -141,8 +191,24 @@ impl Board {
         ensures ok { IfOk result (λ a. Step self.old offer a self.new) }
         ensures err { IfErr result (λ e. (e.offer ≡ offer) × (self.new ≡ self.old) × ¬ (IsFull self.old offer)) }
     {
-        if self.is_full(&offer) {
-            return Ok(Answer::Full);
+        match self.weigh(&offer) {
+            Ok(Ok(new)) => self.commit(offer, new),
+            Ok(Err(answer)) => Ok(answer),
+            Err(cause) => Err(OfferBack { offer, cause }),
+        }
+    }
+
+    // The new items of an offer that is to be committed, or else the answer.
+    fn weigh(&self, offer: &Offer) -> Result<Result<List<Item>, Answer>, AllocError>
+        ensures heard { IfOk result (λ r. IfOk r (λ new. IsHeard self.now offer.now)) }
+        ensures clear { IfOk result (λ r. IfOk r (λ new. FailsLeast (IsClearOn self.now offer.now) None)) }
+        ensures new { IfOk result (λ r. IfOk r (λ new.
+            new ≡ new_items self.now.design (given self.now) offer.now)) }
+        ensures refused { IfOk result (λ r. IfErr r (λ a. Step self.now offer.now a self.now)) }
+        ensures err { OnErr result (¬ (IsFull self.now offer.now)) }
+    {
+        if self.is_full(offer) {
+            return Ok(Err(Answer::Full));
         }
         let entries = self.history.len() as u64;
         let judged = judge(
@@ -150,17 +216,17 @@ impl Board {
             self.design.get(),
             self.given.as_slice(),
             entries,
-            &offer,
+            offer,
         );
         let new = match judged {
             Ok(Judged::Fine(new)) => new,
-            Ok(Judged::Fault(clause)) => return Ok(Answer::Malformed { clause }),
-            Err(cause) => return Err(OfferBack { offer, cause }),
+            Ok(Judged::Fault(clause)) => return Ok(Err(Answer::Malformed { clause })),
+            Err(cause) => return Err(cause),
         };
-        match self.least_trouble(&offer, new.as_slice()) {
-            Ok(None) => self.commit(offer, new),
-            Ok(Some(item)) => Ok(self.trouble_at(offer.base, item)),
-            Err(cause) => Err(OfferBack { offer, cause }),
+        match self.least_trouble(offer, new.as_slice()) {
+            Ok(None) => Ok(Ok(new)),
+            Ok(Some(item)) => Ok(Err(self.trouble_at(offer.base, item))),
+            Err(cause) => Err(cause),
         }
     }
 
@@ -213,38 +279,18 @@ impl Board {
         let after = first + new.len();
         let number = self.history.as_slice().len() as u64 + 1;
         let workers = count_worker(self.workers, offer.worker);
-        let gone = match gone_ids(self.alloc, &offer) {
-            Ok(gone) => gone,
-            Err(cause) => return Err(OfferBack { offer, cause }),
-        };
-        let tiles = match joined_tiles(
+        if let Err(cause) = make_room(&mut self.given, &mut self.changed, new.len()) {
+            return Err(OfferBack { offer, cause });
+        }
+        let (gone, tiles) = enter(
             self.alloc,
+            &mut self.history,
             &self.tiles,
-            gone.as_slice(),
-            first as u64,
-            new.as_slice(),
-        ) {
-            Ok(tiles) => tiles,
-            Err(cause) => return Err(OfferBack { offer, cause }),
-        };
-        let mut new = new.into_vec();
-        if let Err(cause) = self.given.reserve(new.len()) {
-            return Err(OfferBack { offer, cause });
-        }
-        if let Err(cause) = self.changed.reserve(new.len()) {
-            return Err(OfferBack { offer, cause });
-        }
-        let entry = Entry::Join {
             offer,
-            first: first as u64,
-            after: after as u64,
-        };
-        if let Err(AllocFailed { value }) = self.history.push(entry) {
-            return Err(OfferBack {
-                offer: offer_of(value),
-                cause: AllocError,
-            });
-        }
+            first,
+            new.as_slice(),
+        )?;
+        let mut new = new.into_vec();
         renew(&mut self.changed, gone.as_slice(), number, after);
         let _ = self.given.append(&mut new);
         self.workers = workers;

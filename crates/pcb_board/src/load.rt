@@ -1,7 +1,7 @@
 //! The items that a board begins with: the design's fixed items, and its free ones as far as they break no rule.
 //! Each free item is looked at in order, beside what is loaded by then; the place of each one that is dropped is told.
 
-ghost use Rattle.std.specs.Prelude.{◌≡◌, ◌↔◌, ◌<◌, ◌≤◌, ◌^◌, [], ◌∷◌, ◌++◌, All, IfOk, IfSome, IsTrue, slice_get};
+ghost use Rattle.std.specs.Prelude.{◌≡◌, ◌↔◌, ◌<◌, ◌≤◌, ◌^◌, [], ◌∷◌, ◌++◌, All, IfOk, OnOk, IfSome, IsTrue, slice_get};
 ghost use Rattle.geo_kernel.specs.declared.spine.Spine.TheVariants.{Area};
 ghost use Rattle.geo_kernel.specs.Boxes.{IsBoxOf};
 ghost use Rattle.pcb_model.specs.declared.item.Item.{Item as OneItem};
@@ -13,6 +13,7 @@ ghost use Rattle.pcb_tiles.specs.Tiling.{IsArea};
 ghost use Rattle.pcb_tiles.specs.Spread.{holding, ServesSpread};
 ghost use Rattle.pcb_board.specs.Loading.{IsKept, LoadsOne, AreLoaded};
 
+use crate::renew::add_copy;
 use geo_kernel::{List, Point, Rect4, Spine, box_of};
 use pcb_model::{
     Copper, Design, FreeWire, Item, Steps, copy_item, copy_loops, copy_metal, greatest_clearance,
@@ -62,29 +63,18 @@ pub(crate) fn empty_tiles(alloc: Global, d: &Design) -> Result<Tiles, AllocError
     Tiles::new(alloc, area, greatest_clearance(d))
 }
 
-// What is loaded, with one more item.
-fn keep(alloc: Global, loaded: Loaded, item: Item) -> Result<Loaded, AllocError>
-    requires above { All (λ (a : OneItem). a.id < item.id) loaded.tiles.items }
+// Puts one more item to what is loaded.
+fn keep(alloc: Global, loaded: &mut Loaded, item: Item) -> Result<(), AllocError>
+    requires above { All (λ (a : OneItem). a.id < item.id) loaded.old.tiles.items }
     requires fits { IsItemFit item }
-    ensures tiles { IfOk result (λ l. l.tiles ≡ holding loaded.tiles (loaded.tiles.items ++ item ∷ [])) }
-    ensures given { IfOk result (λ l. l.given.items ≡ loaded.given.items ++ item ∷ []) }
-    ensures dropped { IfOk result (λ l. l.dropped ≡ loaded.dropped) }
+    ensures tiles { OnOk result (loaded.new.tiles
+        ≡ holding loaded.old.tiles (loaded.old.tiles.items ++ item ∷ [])) }
+    ensures given { OnOk result (loaded.new.given.items ≡ loaded.old.given.items ++ item ∷ []) }
+    ensures dropped { OnOk result (loaded.new.dropped ≡ loaded.old.dropped) }
 {
-    let Loaded {
-        mut tiles,
-        mut given,
-        dropped,
-    } = loaded;
-    let copy = copy_item(alloc, &item)?;
-    if let Err((_, cause)) = tiles.add(copy) {
-        return Err(cause);
-    }
-    given.push(item)?;
-    Ok(Loaded {
-        tiles,
-        given,
-        dropped,
-    })
+    add_copy(alloc, &mut loaded.tiles, &item)?;
+    loaded.given.push(item)?;
+    Ok(())
 }
 
 /// The design's fixed items.
@@ -98,7 +88,7 @@ pub(crate) fn load_fixed(alloc: Global, d: &Design) -> Result<Loaded, AllocError
         dropped: List::new(alloc),
     };
     for item in d.fixed.as_slice() {
-        loaded = keep(alloc, loaded, copy_item(alloc, item)?)?;
+        keep(alloc, &mut loaded, copy_item(alloc, item)?)?;
     }
     Ok(loaded)
 }
@@ -139,13 +129,13 @@ fn fits(d: &Design, tiles: &Tiles, item: &Item) -> bool
     is_agreed_by::<Brand>(d, tiles, item, Blank::new(1))
 }
 
-// What is loaded, with one free item where it stays legal with that, and else with its place among the dropped.
-fn load_one(alloc: Global, d: &Design, loaded: Loaded, w: &FreeWire) -> Result<Loaded, AllocError>
+// Puts one free item to what is loaded where that stays legal, and else its place to the dropped.
+fn load_one(alloc: Global, d: &Design, loaded: &mut Loaded, w: &FreeWire) -> Result<(), AllocError>
     requires sound { IsSound d.now }
     requires wire { IsFreeSound d.now w.now }
-    requires kept { IsKept d.now loaded }
-    ensures kept { IfOk result (IsKept d.now) }
-    ensures one { IfOk result (LoadsOne d.now loaded w.now) }
+    requires kept { IsKept d.now loaded.old }
+    ensures kept { OnOk result (IsKept d.now loaded.new) }
+    ensures one { OnOk result (LoadsOne d.now loaded.old w.now loaded.new) }
 {
     let id = loaded.given.len() as u64;
     let metal = copy_metal(alloc, &w.metal)?;
@@ -157,23 +147,14 @@ fn load_one(alloc: Global, d: &Design, loaded: Loaded, w: &FreeWire) -> Result<L
     }
 }
 
-// What is loaded, with one more place among the dropped.
-fn drop_place(loaded: Loaded, at: u64) -> Result<Loaded, AllocError>
-    ensures tiles { IfOk result (λ l. l.tiles ≡ loaded.tiles) }
-    ensures given { IfOk result (λ l. l.given.items ≡ loaded.given.items) }
-    ensures dropped { IfOk result (λ l. l.dropped ≡ loaded.dropped ++ at ∷ []) }
+// Puts one more place to the dropped.
+fn drop_place(loaded: &mut Loaded, at: u64) -> Result<(), AllocError>
+    ensures tiles { OnOk result (loaded.new.tiles ≡ loaded.old.tiles) }
+    ensures given { OnOk result (loaded.new.given.items ≡ loaded.old.given.items) }
+    ensures dropped { OnOk result (loaded.new.dropped ≡ loaded.old.dropped ++ at ∷ []) }
 {
-    let Loaded {
-        tiles,
-        given,
-        mut dropped,
-    } = loaded;
-    dropped.push(at)?;
-    Ok(Loaded {
-        tiles,
-        given,
-        dropped,
-    })
+    loaded.dropped.push(at)?;
+    Ok(())
 }
 
 /// Behind the fixed items, the free ones in order.
@@ -184,7 +165,7 @@ pub(crate) fn load_free(alloc: Global, d: &Design, fixed: Loaded) -> Result<Load
 {
     let mut loaded = fixed;
     for w in d.free.as_slice() {
-        loaded = load_one(alloc, d, loaded, w)?;
+        load_one(alloc, d, &mut loaded, w)?;
     }
     Ok(loaded)
 }

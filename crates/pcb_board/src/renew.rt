@@ -1,21 +1,22 @@
 //! What a committed offer changes: the tiles, and the index of the last entries.
 //! New tiles are a share of the old ones that is changed, so nothing has to be undone where memory is wanting.
 
-ghost use Rattle.std.specs.Prelude.{◌≡◌, ℕ, ◌+◌, ◌<◌, ◌≤◌, ◌^◌, if◌then◌else◌, ◌++◌, ◌∷◌, [], All, IfOk, OnOk, Some};
-ghost use Rattle.std.specs.Prelude.{length, slice_get, vec_len, vec_capacity};
+ghost use Rattle.std.specs.Prelude.{◌≡◌, ℕ, ◌+◌, ◌<◌, ◌≤◌, ◌^◌, if◌then◌else◌, ◌++◌, ◌∷◌, [], All, IfOk, OnOk, IfErr};
+ghost use Rattle.std.specs.Prelude.{Some, length, slice_get, vec_len, vec_capacity};
 ghost use Rattle.pcb_model.specs.declared.item.Item.{Item as OneItem};
 ghost use Rattle.pcb_model.specs.Bounds.{IsItemFit};
 ghost use Rattle.pcb_tiles.specs.Spread.{holding};
 ghost use Rattle.board_offers.specs.declared.offer.Offer.{Offer as OneOffer};
-ghost use Rattle.board_offers.specs.Items.{without};
+ghost use Rattle.board_offers.specs.Items.{without, gone};
 ghost use Rattle.pcb_board.specs.Boards.{is_worker};
 ghost use Rattle.pcb_board.specs.Renewing.{IsRenewed, IsJoin};
 
-use crate::answer::Entry;
-use board_offers::{CLOSER, Offer};
+use crate::answer::{Entry, OfferBack};
+use board_offers::{CLOSER, Offer, gone_ids};
+use geo_kernel::List;
 use pcb_model::{Copper, Item, copy_item};
 use pcb_tiles::Tiles;
-use std::alloc::{AllocError, Global};
+use std::alloc::{AllocError, AllocFailed, Global};
 
 /// The offer of a join.
 pub(crate) fn offer_of(entry: Entry) -> Offer
@@ -48,8 +49,21 @@ fn take_out(tiles: &mut Tiles, id: u64) -> Result<(), AllocError>
     Ok(())
 }
 
-/// Tiles in which some items go, and others with the next ids come.
-pub(crate) fn joined_tiles(
+/// Puts an equal item into tiles.
+pub(crate) fn add_copy(alloc: Global, tiles: &mut Tiles, item: &Item) -> Result<(), AllocError>
+    requires above { All (λ (a : OneItem). a.id < item.now.id) tiles.old.items }
+    requires fits { IsItemFit item.now }
+    ensures ok { OnOk result (tiles.new ≡ holding tiles.old (tiles.old.items ++ item.now ∷ [])) }
+{
+    let copy = copy_item(alloc, item)?;
+    match tiles.add(copy) {
+        Ok(()) => Ok(()),
+        Err((_, cause)) => Err(cause),
+    }
+}
+
+// Tiles in which some items go, and others with the next ids come.
+fn joined_tiles(
     alloc: Global,
     tiles: &Tiles,
     gone: &[u64],
@@ -66,12 +80,96 @@ pub(crate) fn joined_tiles(
         take_out(&mut next, *id)?;
     }
     for item in come {
-        let copy = copy_item(alloc, item)?;
-        if let Err((_, cause)) = next.add(copy) {
-            return Err(cause);
-        }
+        add_copy(alloc, &mut next, item)?;
     }
     Ok(next)
+}
+
+// The ids that an offer takes from the tiles, and the tiles afterwards.
+fn changes(
+    alloc: Global,
+    tiles: &Tiles,
+    offer: &Offer,
+    first: u64,
+    come: &[Item],
+) -> Result<(Vec<u64>, Tiles), AllocError>
+    requires fit { All IsItemFit come.now }
+    requires below { All (λ (a : OneItem). a.id < first) tiles.now.items }
+    requires numbered { (j : ℕ) (a : OneItem) → slice_get come.now j ≡ Some a → a.id ≡ first + j }
+    ensures gone { IfOk result (λ r. r.0.items ≡ gone offer.now) }
+    ensures tiles { IfOk result (λ r. r.1 ≡ holding tiles.now
+        (without (gone offer.now) tiles.now.items ++ come.now)) }
+{
+    let gone = gone_ids(alloc, offer)?;
+    let tiles = joined_tiles(alloc, tiles, gone.as_slice(), first, come)?;
+    Ok((gone, tiles))
+}
+
+// A history with the entry of an offer, with so many new items.
+fn push_join(
+    history: &mut List<Entry>,
+    offer: Offer,
+    first: usize,
+    count: usize,
+) -> Result<(), OfferBack>
+    requires { first + count < 2 ^ 64 }
+    ensures ok { OnOk result (history.new ≡ history.old ++ Entry.Join offer first (first + count) ∷ []) }
+    ensures err { IfErr result (λ e. (e.offer ≡ offer) × (history.new ≡ history.old)) }
+{
+    let entry = Entry::Join {
+        offer,
+        first: first as u64,
+        after: (first + count) as u64,
+    };
+    match history.push(entry) {
+        Ok(()) => Ok(()),
+        Err(AllocFailed { value }) => Err(OfferBack {
+            offer: offer_of(value),
+            cause: AllocError,
+        }),
+    }
+}
+
+/// Enters an offer into a history, and gives the ids that it takes from the tiles, and the tiles afterwards.
+pub(crate) fn enter(
+    alloc: Global,
+    history: &mut List<Entry>,
+    tiles: &Tiles,
+    offer: Offer,
+    first: usize,
+    come: &[Item],
+) -> Result<(Vec<u64>, Tiles), OfferBack>
+    requires total { first + length come.now < 2 ^ 64 }
+    requires fit { All IsItemFit come.now }
+    requires below { All (λ (a : OneItem). a.id < first) tiles.now.items }
+    requires numbered { (j : ℕ) (a : OneItem) → slice_get come.now j ≡ Some a → a.id ≡ first + j }
+    ensures gone { IfOk result (λ r. r.0.items ≡ gone offer) }
+    ensures tiles { IfOk result (λ r. r.1 ≡ holding tiles.now (without (gone offer) tiles.now.items ++ come.now)) }
+    ensures entered { OnOk result
+        (history.new ≡ history.old ++ Entry.Join offer first (first + length come.now) ∷ []) }
+    ensures err { IfErr result (λ e. (e.offer ≡ offer) × (history.new ≡ history.old)) }
+{
+    let (gone, tiles) = match changes(alloc, tiles, &offer, first as u64, come) {
+        Ok(changes) => changes,
+        Err(cause) => return Err(OfferBack { offer, cause }),
+    };
+    push_join(history, offer, first, come.len())?;
+    Ok((gone, tiles))
+}
+
+/// Makes room for so many more items and ids.
+pub(crate) fn make_room(
+    given: &mut Vec<Item>,
+    changed: &mut Vec<u64>,
+    count: usize,
+) -> Result<(), AllocError>
+    ensures given { given.new.items ≡ given.old.items }
+    ensures changed { changed.new.items ≡ changed.old.items }
+    ensures given_room { OnOk result (vec_len given.old + count ≤ vec_capacity given.new) }
+    ensures changed_room { OnOk result (vec_len changed.old + count ≤ vec_capacity changed.new) }
+{
+    given.reserve(count)?;
+    changed.reserve(count)
 }
 
 /// Gives the ids and all new ones up to a total the number of an entry. There is room for them.

@@ -12,8 +12,10 @@ use Rattle.pcb_islands.proofs.Joined.{read_at, TouchesBack, joined_on, joined_ba
 use Rattle.pcb_islands.proofs.Pads.{one_pad_of}
 
 -- a pad is among the items
-pub pad_in : (d : Design) (items : List Item) → Serves items d → (pin : ℕ) (a : Item) → IsPadOf d pin a → Contains items a
-pad_in d items serves pin a p = in_filter is_fixed items a (subst (λ (fs : List Item). Contains fs a) (sym serves.fixed_there) p.there)
+pub pad_in : (d : Design) (items : List Item) → Serves items d → (pin : ℕ) (a : Item) → IsPadOf d pin a
+    → Contains items a
+pad_in d items serves pin a p =
+    in_filter is_fixed items a (subst (λ (fs : List Item). Contains fs a) (sym serves.fixed_there) p.there)
 
 fixed_at : (d : Design) → IsSound d → (a : Item) (h : Contains d.fixed a) → IsFixedSound d h.0 a
 fixed_at d sound a h = sound.fixed h.0 a (look_at d.fixed a h)
@@ -30,10 +32,13 @@ one_pad d sound pin a b p q =
     sym (read_at d.fixed a p.there b) ∙ ap (λ (k : ℕ). get_or d.fixed k b) same ∙ q.there.2
 
 -- what is joined to a pin's pad, by the pad at hand
-pub to_pad : (d : Design) (items : List Item) → IsSound d → (a : Item) (pin : ℕ) (pad : Item) → IsPadOf d pin pad → HasPadJoined d items a pin → AreJoined items a pad
+pub to_pad : (d : Design) (items : List Item) → IsSound d → (a : Item) (pin : ℕ) (pad : Item) → IsPadOf d pin pad
+    → HasPadJoined d items a pin → AreJoined items a pad
 to_pad d items sound a pin pad p h = subst (AreJoined items a) (one_pad d sound pin h.pad pad h.pad_is p) h.joined
 
 -- two items that are joined to one pad are joined
-pub by_pad : (d : Design) (items : List Item) → IsSound d → Serves items d → TouchesBack → (a b : Item) (pin : ℕ) → Contains items b → HasPadJoined d items a pin → HasPadJoined d items b pin → AreJoined items a b
+pub by_pad : (d : Design) (items : List Item) → IsSound d → Serves items d → TouchesBack → (a b : Item) (pin : ℕ)
+    → Contains items b → HasPadJoined d items a pin → HasPadJoined d items b pin → AreJoined items a b
 by_pad d items sound serves back a b pin b_there h k =
-    joined_on items a h.pad b h.joined (joined_back back items b h.pad b_there (to_pad d items sound b pin h.pad h.pad_is k))
+    joined_on items a h.pad b h.joined
+    (joined_back back items b h.pad b_there (to_pad d items sound b pin h.pad h.pad_is k))

@@ -15,11 +15,15 @@ pub read_at : {X : Type 0} (xs : List X) (x : X) (h : Contains xs x) (d : X) →
 read_at xs x h d = get_or_default xs h.0 d x h.1 ∙ h.2
 
 -- where ids ascend, an element before another has a lesser id
-less_before : (items : List Item) → Ascends items → (a b : Item) (at : Contains items a) (bt : Contains items b) → at.0 < bt.0 → a.id < b.id
-less_before items up a b at bt h = subst (λ (x : Item). x.id < b.id) (read_at items a at b) (subst (λ (x : Item). (get_or items at.0 b).id < x.id) bt.2 (up at.0 bt.0 b h bt.1))
+less_before : (items : List Item) → Ascends items → (a b : Item) (at : Contains items a) (bt : Contains items b)
+    → at.0 < bt.0 → a.id < b.id
+less_before items up a b at bt h =
+    subst (λ (x : Item). x.id < b.id) (read_at items a at b)
+    (subst (λ (x : Item). (get_or items at.0 b).id < x.id) bt.2 (up at.0 bt.0 b h bt.1))
 
 -- two items of one id are one
-pub one_item : (items : List Item) → Ascends items → (a b : Item) → Contains items a → Contains items b → a.id ≡ b.id → a ≡ b
+pub one_item : (items : List Item) → Ascends items → (a b : Item) → Contains items a → Contains items b → a.id ≡ b.id
+    → a ≡ b
 one_item items up a b at bt same = elim (below_or_same at.0 bt.0) [
   | inl h ↦ absurd (omega (arith, less_before items up a b at bt h))
   | inr n ↦ elim n [
@@ -54,11 +58,14 @@ joined_by_touch items a b there touch = record {
 abbrev pub TouchesBack : Type 0
 TouchesBack = (a b : Item) → AreTouching a b → AreTouching b a
 
-leads_back : TouchesBack → (items : List Item) (a b : Item) (chain : List Item) → Contains items a → All (Contains items) chain → LeadsTo a chain b → AreJoined items b a
+leads_back : TouchesBack → (items : List Item) (a b : Item) (chain : List Item) → Contains items a
+    → All (Contains items) chain → LeadsTo a chain b → AreJoined items b a
 leads_back back items a b [] there all leads = subst (λ x. AreJoined items x a) leads (joined_self items a)
 leads_back back items a b (c ∷ chain) there all leads =
     let c_there = All-head (Contains items) c chain all in
-    joined_on items b c a (leads_back back items c b chain c_there (All-tail (Contains items) c chain all) leads.1) (joined_by_touch items c a there (back a c leads.0))
+    joined_on items b c a (leads_back back items c b chain c_there (All-tail (Contains items) c chain all) leads.1)
+    (joined_by_touch items c a there (back a c leads.0))
 
-pub joined_back : TouchesBack → (items : List Item) (a b : Item) → Contains items a → AreJoined items a b → AreJoined items b a
+pub joined_back : TouchesBack → (items : List Item) (a b : Item) → Contains items a → AreJoined items a b
+    → AreJoined items b a
 joined_back back items a b there j = leads_back back items a b j.chain there j.there j.leads

@@ -1,12 +1,14 @@
 -- What taking in ids leaves, id by id.
-use Rattle.std.proofs.Common.{◌≡◌, ℕ, ◌+◌, ◌<◌, ◌≤◌, Bool, true, false, not, cond, List, [], ◌∷◌, ◌++◌, length, get_or, Some, sym, ◌∙◌, ap, refl, subst, inl, inr, true≢false, arith}
+use Rattle.std.proofs.Common.{◌≡◌, ℕ, ◌+◌, ◌<◌, ◌≤◌, Bool, true, false, not, cond, List, [], ◌∷◌, ◌++◌, length, get_or}
+use Rattle.std.proofs.Common.{Some, sym, ◌∙◌, ap, refl, subst, inl, inr, true≢false, arith}
 use Rattle.std.specs.Prelude.{Contains, All, count_by}
 use Prim.Native.Nat.{zero, suc}
 use Rattle.std.proofs.lemmas.Cmp.{nat_eq_equiv}
 use Rattle.std.proofs.lemmas.Map.Views.{list_any-from_Contains, Contains-from_any, exact_unsigned_eq}
 use Rattle.std.proofs.lemmas.List.{length_push}
 use Rattle.std.proofs.lemmas.List.Sums.{sum_by-cons}
-use Rattle.std.proofs.lemmas.List.Elements.{All-nil, All-push, All-pop, All-weaker, Contains-append_left, Contains-push, Contains-push_cases}
+use Rattle.std.proofs.lemmas.List.Elements.{All-nil, All-push, All-pop, All-weaker, Contains-append_left, Contains-push}
+use Rattle.std.proofs.lemmas.List.Elements.{Contains-push_cases}
 use Rattle.pcb_model.specs.declared.item.Item.{Item}
 use Rattle.pcb_islands.specs.Numbers.{IsWith}
 use Rattle.pcb_islands.specs.Flooding.{is_reached, IsIdOf, IsTakenIn}
@@ -24,15 +26,32 @@ counts_on : {X : Type 0} (p : X → Bool) (x : X) (xs : List X) → count_by p (
 counts_on p x xs = sum_by-cons (λ y. cond (p y) 1 0) x xs
 
 -- what passes a stricter test is no more
-fewer : {X : Type 0} (p q : X → Bool) (xs : List X) → ((x : X) → p x ≡ true → q x ≡ true) → count_by p xs ≤ count_by q xs
+fewer : {X : Type 0} (p q : X → Bool) (xs : List X) → ((x : X) → p x ≡ true → q x ≡ true)
+    → count_by p xs ≤ count_by q xs
 fewer p q [] h = omega arith
 fewer p q (x ∷ xs) h = omega (arith, counts_on p x xs, counts_on q x xs, one_or_none (p x) (q x) (h x), fewer p q xs h)
 
 -- and less, where an element passes only the other
-fewer_by : {X : Type 0} (p q : X → Bool) (xs : List X) (k : ℕ) (d : X) → ((x : X) → p x ≡ true → q x ≡ true) → k < length xs → p (get_or xs k d) ≡ false → q (get_or xs k d) ≡ true → count_by p xs + 1 ≤ count_by q xs
+fewer_by : {X : Type 0} (p q : X → Bool) (xs : List X) (k : ℕ) (d : X) → ((x : X) → p x ≡ true → q x ≡ true)
+    → k < length xs → p (get_or xs k d) ≡ false → q (get_or xs k d) ≡ true → count_by p xs + 1 ≤ count_by q xs
 fewer_by p q [] k d h within fails passes = absurd (omega arith)
-fewer_by p q (x ∷ xs) zero d h within fails passes = omega (arith, counts_on p x xs, counts_on q x xs, counted 0 1 (p x) false fails, counted 0 1 (q x) true passes, fewer p q xs h)
-fewer_by p q (x ∷ xs) (suc k) d h within fails passes = omega (arith, counts_on p x xs, counts_on q x xs, one_or_none (p x) (q x) (h x), fewer_by p q xs k d h (omega arith) fails passes)
+fewer_by p q (x ∷ xs) zero d h within fails passes =
+    omega (
+      arith,
+      counts_on p x xs,
+      counts_on q x xs,
+      counted 0 1 (p x) false fails,
+      counted 0 1 (q x) true passes,
+      fewer p q xs h,
+    )
+fewer_by p q (x ∷ xs) (suc k) d h within fails passes =
+    omega (
+      arith,
+      counts_on p x xs,
+      counts_on q x xs,
+      one_or_none (p x) (q x) (h x),
+      fewer_by p q xs k d h (omega arith) fails passes,
+    )
 
 -- ---- reached
 reached_is : (reached : List ℕ) (b : Item) → Contains reached b.id → is_reached reached b ≡ true
@@ -46,7 +65,8 @@ unreached true b h n = absurd (true≢false (sym n ∙ ap not (h refl)))
 unreached false b h n = refl
 
 -- what wasn't reached later wasn't before
-earlier : (old new : List ℕ) → ((q : ℕ) → Contains old q → Contains new q) → (b : Item) → not (is_reached new b) ≡ true → not (is_reached old b) ≡ true
+earlier : (old new : List ℕ) → ((q : ℕ) → Contains old q → Contains new q) → (b : Item) → not (is_reached new b) ≡ true
+    → not (is_reached old b) ≡ true
 earlier old new kept b n = unreached _ _ (λ r. reached_is new b (kept b.id (is_reached_is old b r))) n
 
 none_missing : (a : Bool) → ¬ (a ≡ true) → not a ≡ true
@@ -54,7 +74,8 @@ none_missing true h = absurd (h refl)
 none_missing false h = refl
 
 -- a fresh id of an item leaves less unreached
-fresh_less : (items : List Item) (old new : List ℕ) (n : ℕ) → IsWith old n true new → IsIdOf items n → count_by (λ b. not (is_reached new b)) items + 1 ≤ count_by (λ b. not (is_reached old b)) items
+fresh_less : (items : List Item) (old new : List ℕ) (n : ℕ) → IsWith old n true new → IsIdOf items n
+    → count_by (λ b. not (is_reached new b)) items + 1 ≤ count_by (λ b. not (is_reached old b)) items
 fresh_less items old new n w h =
     let at = h.some in
     let place : get_or items at.0 at.1 ≡ at.1 = at.3 in
@@ -85,8 +106,16 @@ module _ (r w ids r1 w1 r2 : List ℕ) (id : ℕ) (t : IsTakenIn r w ids r1 w1) 
     kept = λ q h. s.kept q (t.kept q h);
     taken = taken_more true s;
     only = λ q h. elim (s.only q h) [
-      | inl old ↦ elim (t.only q old) [ inl a ↦ inl a | inr b ↦ inr (Contains-append_left ids (id ∷ []) q b.0, Contains-append_left w1 (id ∷ []) q b.1) ]
-      | inr same ↦ inr (subst (Contains (ids ++ id ∷ [])) (sym same) (Contains-push ids id), subst (Contains (w1 ++ id ∷ [])) (sym same) (Contains-push w1 id))
+      | inl old ↦ elim (t.only q old) [
+        | inl a ↦ inl a
+        | inr b ↦
+            inr (Contains-append_left ids (id ∷ []) q b.0, Contains-append_left w1 (id ∷ []) q b.1)
+      ]
+      | inr same ↦
+          inr (
+            subst (Contains (ids ++ id ∷ [])) (sym same) (Contains-push ids id),
+            subst (Contains (w1 ++ id ∷ [])) (sym same) (Contains-push w1 id),
+          )
     ];
     waiting_kept = λ q h. Contains-append_left w1 (id ∷ []) q (t.waiting_kept q h);
     waiting_only = λ q h. elim (Contains-push_cases w1 id q h) [
@@ -102,10 +131,17 @@ module _ (r w ids r1 w1 r2 : List ℕ) (id : ℕ) (t : IsTakenIn r w ids r1 w1) 
   taken_stale s = record {
     kept = λ q h. s.kept q (t.kept q h);
     taken = taken_more false s;
-    only = λ q h. let before : Contains r1 q = elim (s.only q h) [ inl old ↦ old | inr same ↦ subst (Contains r1) (sym same) (s.stale_is refl) ] in
+    only = λ q h. let before : Contains r1 q =
+        elim (s.only q h) [ inl old ↦ old | inr same ↦ subst (Contains r1) (sym same) (s.stale_is refl) ] in
         elim (t.only q before) [ inl a ↦ inl a | inr b ↦ inr (Contains-append_left ids (id ∷ []) q b.0, b.1) ];
     waiting_kept = t.waiting_kept;
-    waiting_only = λ q h. elim (t.waiting_only q h) [ inl a ↦ inl a | inr b ↦ inr (Contains-append_left ids (id ∷ []) q b) ];
+    waiting_only =
+        λ q h. elim (t.waiting_only q h) [ inl a ↦ inl a | inr b ↦ inr (Contains-append_left ids (id ∷ []) q b) ];
     work_left = λ items each. let front = All-pop (IsIdOf items) (ids ++ id ∷ []) ids (Some id) refl each in
-        omega (arith, t.work_left items front.0, fewer (λ b. not (is_reached r2 b)) (λ b. not (is_reached r1 b)) items (earlier r1 r2 s.kept));
+        omega (
+          arith,
+          t.work_left items front.0,
+          fewer (λ b. not (is_reached r2 b)) (λ b. not (is_reached r1 b)) items
+              (earlier r1 r2 s.kept),
+        );
   }

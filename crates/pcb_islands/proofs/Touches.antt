@@ -1,5 +1,6 @@
 -- The search for what touches an item, from id to id.
-use Rattle.std.proofs.Common.{◌≡◌, ℕ, ◌+◌, ◌<◌, ◌≤◌, ◌^◌, List, [], ◌∷◌, ◌++◌, Option, Some, None, sym, subst, inl, inr, ◌⊎◌, arith}
+use Rattle.std.proofs.Common.{◌≡◌, ℕ, ◌+◌, ◌<◌, ◌≤◌, ◌^◌, List, [], ◌∷◌, ◌++◌, Option, Some, None, sym, subst, inl, inr}
+use Rattle.std.proofs.Common.{◌⊎◌, arith}
 use Rattle.std.specs.Prelude.{Contains, All}
 use Rattle.std.proofs.lemmas.Bool.{cases_lt}
 use Rattle.std.proofs.lemmas.List.Elements.{All-nil, All-push, All-contains, Contains-append_left, Contains-push}
@@ -10,7 +11,12 @@ use Rattle.pcb_islands.specs.Flooding.{HasIdWithin, HasIdTouching, AreTouchedBel
 
 -- one of two numbers is less, or they are one
 pub below_or_same : (m n : ℕ) → (m < n) ⊎ ((n < m) ⊎ (m ≡ n))
-below_or_same m n = elim (cases_lt m n) [ inl h ↦ inl h | inr h ↦ elim (cases_lt n m) [ inl k ↦ inr (inl k) | inr k ↦ let e : m ≡ n = omega arith in inr (inr e) ] ]
+below_or_same m n =
+    elim (cases_lt m n) [
+      | inl h ↦ inl h
+      | inr h ↦
+          elim (cases_lt n m) [ inl k ↦ inr (inl k) | inr k ↦ let e : m ≡ n = omega arith in inr (inr e) ]
+    ]
 
 -- what the search answers of the items that touch a
 abbrev pub NextTouch : List Item → Item → ℕ → Option ℕ → Type 0
@@ -30,14 +36,21 @@ looked_at a b from = elim (cases_lt b.id from) [
 ]
 
 pub none_touched : (items : List Item) (a : Item) → AreTouchedBelow items a 0 []
-none_touched items a = record { each = All-nil (HasIdTouching items a); below = λ b there touch less. absurd (omega arith) }
+none_touched items a =
+    record { each = All-nil (HasIdTouching items a); below = λ b there touch less. absurd (omega arith) }
 
 -- one id more
-pub one_touched : (items : List Item) (a : Item) (from id : ℕ) (ids : List ℕ) → AreTouchedBelow items a from ids → NextTouch items a from (Some id) → AreTouchedBelow items a (id + 1) (ids ++ id ∷ [])
+pub one_touched : (items : List Item) (a : Item) (from id : ℕ) (ids : List ℕ) → AreTouchedBelow items a from ids
+    → NextTouch items a from (Some id) → AreTouchedBelow items a (id + 1) (ids ++ id ∷ [])
 one_touched items a from id ids t f = record {
-  each = All-push (HasIdTouching items a) ids id t.each (record { item = f.item; there = f.there; id_is = f.id_is; touches = f.holds });
+  each = All-push (HasIdTouching items a) ids id t.each
+      (record { item = f.item; there = f.there; id_is = f.id_is; touches = f.holds });
   below = λ b there touch less. elim (looked_at a b from) [
-    | inl h ↦ elim (t.below b there touch h) [ inl own ↦ inl own | inr old ↦ inr (Contains-append_left ids (id ∷ []) b.id old) ]
+    | inl h ↦ elim (t.below b there touch h) [
+      | inl own ↦ inl own
+      | inr old ↦
+          inr (Contains-append_left ids (id ∷ []) b.id old)
+    ]
     | inr k ↦ elim k [
       | inl own ↦ inl own
       | inr looked ↦ elim (below_or_same b.id id) [
@@ -52,7 +65,8 @@ one_touched items a from id ids t f = record {
 }
 
 -- no more
-pub all_touched : (items : List Item) (a : Item) (from : ℕ) (ids : List ℕ) → AreTouchedBelow items a from ids → NextTouch items a from None → AreTouched items a ids
+pub all_touched : (items : List Item) (a : Item) (from : ℕ) (ids : List ℕ) → AreTouchedBelow items a from ids
+    → NextTouch items a from None → AreTouched items a ids
 all_touched items a from ids t f = record {
   each = t.each;
   whole = λ b there touch. elim (looked_at a b from) [
@@ -62,8 +76,10 @@ all_touched items a from ids t f = record {
 }
 
 -- no id is greater
-pub last_touched : (items : List Item) (a : Item) (from : ℕ) (ids : List ℕ) → AreTouchedBelow items a from ids → 2 ^ 64 ≤ from → All HasIdWithin items → AreTouched items a ids
+pub last_touched : (items : List Item) (a : Item) (from : ℕ) (ids : List ℕ) → AreTouchedBelow items a from ids
+    → 2 ^ 64 ≤ from → All HasIdWithin items → AreTouched items a ids
 last_touched items a from ids t high within = record {
   each = t.each;
-  whole = λ b there touch. let small : b.id < 2 ^ 64 = All-contains HasIdWithin items b within there in t.below b there touch (omega arith);
+  whole = λ b there touch. let small : b.id < 2 ^ 64 = All-contains HasIdWithin items b within there in
+      t.below b there touch (omega arith);
 }

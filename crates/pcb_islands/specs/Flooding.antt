@@ -1,5 +1,6 @@
 -- What flooding from an item has reached, and what waits to be spread from.
-use Rattle.std.specs.Prelude.{◌≡◌, ℕ, ◌+◌, ◌*◌, ◌≤◌, ◌<◌, ◌^◌, ◌==◌, Bool, not, List, length, count_by, All, Any, Contains, ◌⊎◌}
+use Rattle.std.specs.Prelude.{◌≡◌, ℕ, ◌+◌, ◌*◌, ◌≤◌, ◌<◌, ◌^◌, ◌==◌, Bool, not, List, length, count_by, All, Any}
+use Rattle.std.specs.Prelude.{Contains, ◌⊎◌}
 use Rattle.std.specs.List.{list_any}
 use Rattle.pcb_model.specs.declared.item.Item.{Item}
 use Rattle.pcb_model.specs.Pairs.{AreTouching}
@@ -45,7 +46,8 @@ pub record IsTakenIn (reached waiting ids reached' waiting' : List ℕ) : Type 0
   pub only : (q : ℕ) → Contains reached' q → Contains reached q ⊎ (Contains ids q × Contains waiting' q)
   pub waiting_kept : (q : ℕ) → Contains waiting q → Contains waiting' q
   pub waiting_only : (q : ℕ) → Contains waiting' q → Contains waiting q ⊎ Contains ids q
-  pub work_left : (items : List Item) → All (IsIdOf items) ids → work items reached' waiting' ≤ work items reached waiting
+  pub work_left : (items : List Item) → All (IsIdOf items) ids
+      → work items reached' waiting' ≤ work items reached waiting
 
 -- ---- a flood
 -- what touches b is reached

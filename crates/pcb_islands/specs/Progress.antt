@@ -22,7 +22,8 @@ pub record IsPadFrom (fixed : List Item) (from end : ℕ) (r : ℕ × ℕ) : Typ
 
 -- ---- islands
 -- these pins are in islands, and each item of an island has the island's place
-pub record IsProgress (d : Design) (items : List Item) (net : ℕ) (pins : List ℕ) (found : List Island) (places : List (ℕ × ℕ)) : Type 0 where
+pub record IsProgress (d : Design) (items : List Item) (net : ℕ) (pins : List ℕ) (found : List Island)
+    (places : List (ℕ × ℕ)) : Type 0 where
   pub islands : AreIslandsOf d items net pins found
   pub each : (id place : ℕ) → place_at places id ≡ Some place → HasItemAt found place id
   pub whole : (id place : ℕ) → HasItemAt found place id → place_at places id ≡ Some place
@@ -39,7 +40,8 @@ pub record HasPinMore (old : List Island) (place pin : ℕ) (new : List Island) 
   pub new_is : new ≡ slice_set old place (record island { pins = island.pins ++ pin ∷ [] })
 
 -- an island of one pin was opened, whose items have its place
-pub record HasIslandMore (items : List Item) (net pin : ℕ) (pad : Item) (old : List Island) (places : List (ℕ × ℕ)) (new : List Island) (places' : List (ℕ × ℕ)) : Type 0 where
+pub record HasIslandMore (items : List Item) (net pin : ℕ) (pad : Item) (old : List Island) (places : List (ℕ × ℕ))
+    (new : List Island) (places' : List (ℕ × ℕ)) : Type 0 where
   pub ids : List ℕ
   pub joined : AreIdsJoined items pad ids
   pub new_is : new ≡ old ++ (record { net = net; pins = pin ∷ []; items = ids }) ∷ []

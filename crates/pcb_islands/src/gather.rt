@@ -52,7 +52,8 @@ fn open<C: Copper>(
     requires ids { All HasIdWithin (C.items c.now) }
     requires fit { All IsItemFit (C.items c.now) }
     requires there { Contains (C.items c.now) pad.now }
-    ensures { OnOk result (HasIslandMore (C.items c.now) net pin pad.now found.old.items places.old found.new.items places.new) }
+    ensures { OnOk result
+        (HasIslandMore (C.items c.now) net pin pad.now found.old.items places.old found.new.items places.new) }
 {
     let items = flood::<C, Brand>(alloc, c, pad, Blank::new(1))?;
     place_all(places, items.as_slice(), found.len())?;
@@ -86,8 +87,12 @@ impl<'a, C: Copper> Task<'a, C> {
         requires ids { All HasIdWithin (C.items self.now.c.now) }
         requires pins { pins.now ≡ pins_of self.now.d.now self.now.net }
         requires place { k < length pins.now }
-        requires progress { IsProgress self.now.d.now (C.items self.now.c.now) self.now.net (take k pins.now) found.old.items places.old }
-        ensures { OnOk result (IsProgress self.now.d.now (C.items self.now.c.now) self.now.net (take (k + 1) pins.now) found.new.items places.new) }
+        requires progress { IsProgress self.now.d.now (C.items self.now.c.now) self.now.net (take k pins.now)
+            found.old.items
+            places.old }
+        ensures { OnOk result
+            (IsProgress self.now.d.now (C.items self.now.c.now) self.now.net (take (k + 1) pins.now)
+            found.new.items places.new) }
     {
         pairs_are_symmetric();
         let pin = pins[k];

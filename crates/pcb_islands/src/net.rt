@@ -43,7 +43,8 @@ pub fn islands<C: Copper>(
 /// Whether the islands of a net are at most one, which is so exactly where copper joins all its pins.
 pub fn is_whole(found: &List<Island>) -> bool
     ensures few { IsTrue result ↔ (length found.now ≤ 1) }
-    ensures complete { (d : TheDesign) (items : Seq OneItem) (net : ℕ) → IsSound d → Serves items d → AreIslands d items net found.now → (IsTrue result ↔ IsComplete d items net) }
+    ensures complete { (d : TheDesign) (items : Seq OneItem) (net : ℕ) → IsSound d → Serves items d
+        → AreIslands d items net found.now → (IsTrue result ↔ IsComplete d items net) }
 {
     pairs_are_symmetric();
     found.len() <= 1

@@ -11,18 +11,27 @@ use Rattle.pcb_model.specs.Near.{IsExtentOf}
 use Rattle.pcb_model.specs.Copper.{IsPlain}
 use Rattle.pcb_model.proofs.First.{zip_push, zip_remove}
 
-pub plain_push : (items : List Item) (extents : List Extent) (a : Item) (e : Extent) → IsPlain items extents → All (λ b. b.id < a.id) items → a.id < 2 ^ 64 → IsItemFit a → IsExtentOf a.pieces e → IsPlain (items ++ a ∷ []) (extents ++ e ∷ [])
+pub plain_push : (items : List Item) (extents : List Extent) (a : Item) (e : Extent) → IsPlain items extents
+    → All (λ b. b.id < a.id) items → a.id < 2 ^ 64 → IsItemFit a → IsExtentOf a.pieces e
+    → IsPlain (items ++ a ∷ []) (extents ++ e ∷ [])
 plain_push items extents a e h above within fits x = record {
   ascends = all_pairs_push (λ (b c : Item). b.id < c.id) items a h.ascends above;
-  ids_within = All-append (λ (b : Item). b.id < 2 ^ 64) items (a ∷ []) h.ids_within (All-cons (λ (b : Item). b.id < 2 ^ 64) a [] within (All-nil (λ (b : Item). b.id < 2 ^ 64)));
+  ids_within =
+      All-append (λ (b : Item). b.id < 2 ^ 64) items (a ∷ []) h.ids_within
+      (All-cons (λ (b : Item). b.id < 2 ^ 64) a [] within (All-nil (λ (b : Item). b.id < 2 ^ 64)));
   fit = All-append IsItemFit items (a ∷ []) h.fit (All-cons IsItemFit a [] fits (All-nil IsItemFit));
   paired = zip_push (λ (b : Item) (f : Extent). IsExtentOf b.pieces f) items extents a e h.paired x;
 }
 
-pub plain_remove : (items : List Item) (extents : List Extent) (i : ℕ) → IsPlain items extents → i < length items → IsPlain (remove items i) (remove extents i)
+pub plain_remove : (items : List Item) (extents : List Extent) (i : ℕ) → IsPlain items extents → i < length items
+    → IsPlain (remove items i) (remove extents i)
 plain_remove items extents i h l = record {
   ascends = all_pairs_remove (λ (b c : Item). b.id < c.id) items i l h.ascends;
-  ids_within = All-append (λ (b : Item). b.id < 2 ^ 64) (take i items) (drop (suc i) items) (All-take (λ (b : Item). b.id < 2 ^ 64) i items h.ids_within) (All-drop (λ (b : Item). b.id < 2 ^ 64) (suc i) items h.ids_within);
-  fit = All-append IsItemFit (take i items) (drop (suc i) items) (All-take IsItemFit i items h.fit) (All-drop IsItemFit (suc i) items h.fit);
+  ids_within =
+      All-append (λ (b : Item). b.id < 2 ^ 64) (take i items) (drop (suc i) items)
+      (All-take (λ (b : Item). b.id < 2 ^ 64) i items h.ids_within)
+      (All-drop (λ (b : Item). b.id < 2 ^ 64) (suc i) items h.ids_within);
+  fit = All-append IsItemFit (take i items) (drop (suc i) items) (All-take IsItemFit i items h.fit)
+      (All-drop IsItemFit (suc i) items h.fit);
   paired = zip_remove (λ (b : Item) (f : Extent). IsExtentOf b.pieces f) items extents i h.paired;
 }

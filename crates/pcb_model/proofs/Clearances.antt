@@ -1,5 +1,6 @@
 -- The greatest clearance: of all nets, and of none.
-use Rattle.std.proofs.Common.{◌≡◌, ℕ, ◌<◌, ◌≤◌, ◌^◌, ◌++◌, ◌∷◌, [], length, Option, Some, None, flat_map, max, ap, sym, subst, inl, inr, arith}
+use Rattle.std.proofs.Common.{◌≡◌, ℕ, ◌<◌, ◌≤◌, ◌^◌, ◌++◌, ◌∷◌, [], length, Option, Some, None, flat_map, max, ap, sym}
+use Rattle.std.proofs.Common.{subst, inl, inr, arith}
 use Rattle.std.proofs.Math.Nat.{max-le, max-eq_left}
 use Rattle.std.proofs.lemmas.Option.{slice_get_past}
 use Rattle.pcb_model.specs.declared.item.Kind.{Kind}
@@ -20,19 +21,26 @@ by_kinds P wire via pin smd area Smd = smd
 by_kinds P wire via pin smd area Area = area
 
 -- a net that isn't there has the values of none
-value_past : (d : Design) (n : ℕ) → length d.nets ≤ n → (one other : Kind) → value_of d (Some n) one other ≡ value_of d None one other
+value_past : (d : Design) (n : ℕ) → length d.nets ≤ n → (one other : Kind)
+    → value_of d (Some n) one other ≡ value_of d None one other
 value_past d n h one other =
-    ap (λ (net : Option Net). first_present 0 (flat_map (levels one other) (with_class d net ++ d.rules ∷ []))) (slice_get_past d.nets n h)
+    ap (λ (net : Option Net). first_present 0 (flat_map (levels one other) (with_class d net ++ d.rules ∷ [])))
+    (slice_get_past d.nets n h)
 
 -- the values of all nets are within m where those of the design's nets, and of none, are
-within_all : (d : Design) (m : ℕ) → AreValuesWithin d None m → ((n : ℕ) → n < length d.nets → AreValuesWithin d (Some n) m) → (net : Option ℕ) → AreValuesWithin d net m
+within_all : (d : Design) (m : ℕ) → AreValuesWithin d None m
+    → ((n : ℕ) → n < length d.nets → AreValuesWithin d (Some n) m) → (net : Option ℕ) → AreValuesWithin d net m
 within_all d m none nets None = none
 within_all d m none nets (Some n) = elim (below_or_from n (length d.nets)) [
   | inl h ↦ nets n h
-  | inr h ↦ record { each = λ one other. subst (λ (v : ℕ). v ≤ m) (sym (value_past d n h one other)) (none.each one other) }
+  | inr h ↦ record {
+    each = λ one other. subst (λ (v : ℕ). v ≤ m) (sym (value_past d n h one other))
+        (none.each one other);
+  }
 ]
 
-pub greatest_is : (d : Design) (m : ℕ) → IsValue d m → AreValuesWithin d None m → ((n : ℕ) → n < length d.nets → AreValuesWithin d (Some n) m) → IsGreatestClearance d m
+pub greatest_is : (d : Design) (m : ℕ) → IsValue d m → AreValuesWithin d None m
+    → ((n : ℕ) → n < length d.nets → AreValuesWithin d (Some n) m) → IsGreatestClearance d m
 greatest_is d m v none nets =
     let all = within_all d m none nets in
     record {

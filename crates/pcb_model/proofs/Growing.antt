@@ -22,5 +22,6 @@ plain_more m n (Some c) h k = omega arith
 pub rules_more : (m n : ℕ) → m ≤ n → (rs : RuleSet) → AreRulesWithin m rs → AreRulesWithin n rs
 rules_more m n h rs w = record {
   plain_within = plain_more m n rs.plain h w.plain_within;
-  typed_within = All-weaken (λ (t : Typed). t.value ≤ m) (λ (t : Typed). t.value ≤ n) rs.typed (value_more m n h) w.typed_within;
+  typed_within =
+      All-weaken (λ (t : Typed). t.value ≤ m) (λ (t : Typed). t.value ≤ n) rs.typed (value_more m n h) w.typed_within;
 }

@@ -27,18 +27,25 @@ outline_within m (Area (l ∷ ls)) h = All-head (All (IsWithin m)) l ls h
 pub first_within : (m : ℕ) (s : Spine) (p : Point) → IsFirst s p → IsSpineWithin m s → IsWithin m p
 first_within m s p f h = All-head (IsWithin m) p f.rest (subst (All (IsWithin m)) f.is (outline_within m s h))
 
-pub wire_within : (layer width : ℕ) (p : Point) (qs : List Point) → IsFit (wire_piece layer width (p ∷ qs)) → IsWithin (2 ^ 29) p
+pub wire_within : (layer width : ℕ) (p : Point) (qs : List Point) → IsFit (wire_piece layer width (p ∷ qs))
+    → IsWithin (2 ^ 29) p
 wire_within layer width p qs h = All-head (IsWithin (2 ^ 29)) p qs h.within
 
-pub wire_end_within : (layer width : ℕ) (p q : Point) → IsFit (wire_piece layer width (p ∷ q ∷ [])) → IsWithin (2 ^ 29) q
+pub wire_end_within : (layer width : ℕ) (p q : Point) → IsFit (wire_piece layer width (p ∷ q ∷ []))
+    → IsWithin (2 ^ 29) q
 wire_end_within layer width p q h = All-head (IsWithin (2 ^ 29)) q [] (All-tail (IsWithin (2 ^ 29)) p (q ∷ []) h.within)
 
-pub wire_inside : (bounds : List (List (List Point))) (layer width : ℕ) (p : Point) (qs : List Point) → IsInsideEach bounds p ↔ AreInside bounds (wire_piece layer width (p ∷ qs) ∷ [])
+pub wire_inside : (bounds : List (List (List Point))) (layer width : ℕ) (p : Point) (qs : List Point)
+    → IsInsideEach bounds p ↔ AreInside bounds (wire_piece layer width (p ∷ qs) ∷ [])
 wire_inside bounds layer width p qs =
     let w = wire_piece layer width (p ∷ qs) in (
-      λ h. record { each = All-cons (BeginsInEach bounds) w [] (record { each = h.each }) (All-nil (BeginsInEach bounds)) },
+      λ h. record {
+        each = All-cons (BeginsInEach bounds) w [] (record { each = h.each })
+            (All-nil (BeginsInEach bounds));
+      },
       λ h. record { each = (All-head (BeginsInEach bounds) w [] h.each).each },
     )
 
-pub point_is : (x y x' y' : ℤ) → x ≡ x' → y ≡ y' → (let p : Point = record { x = x; y = y } in p) ≡ record { x = x'; y = y' }
+pub point_is : (x y x' y' : ℤ) → x ≡ x' → y ≡ y' → (let p : Point = record { x = x; y = y } in p)
+    ≡ record { x = x'; y = y' }
 point_is x y x' y' e f = cc

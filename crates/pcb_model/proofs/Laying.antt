@@ -1,5 +1,6 @@
 -- Copper that serves a design, with one more routed item.
-use Rattle.std.proofs.Common.{◌≡◌, ℕ, pos, ◌+ℤ◌, unsigned_abs, ◌+◌, ◌<◌, ◌≤◌, ◌^◌, Bool, false, List, [], ◌∷◌, ◌++◌, length, map, All, Some, cond, refl, sym, ap, ◌∙◌, subst, arith}
+use Rattle.std.proofs.Common.{◌≡◌, ℕ, pos, ◌+ℤ◌, unsigned_abs, ◌+◌, ◌<◌, ◌≤◌, ◌^◌, Bool, false, List, [], ◌∷◌, ◌++◌}
+use Rattle.std.proofs.Common.{length, map, All, Some, cond, refl, sym, ap, ◌∙◌, subst, arith}
 use Rattle.std.specs.List.{filter}
 use Rattle.std.proofs.lemmas.Int.{ints}
 use Rattle.std.proofs.lemmas.List.{append-nil}
@@ -22,20 +23,30 @@ one P a h = All-cons P a [] h (All-nil P)
 filtered : (a : Item) → IsRouted a → filter is_fixed (a ∷ []) ≡ []
 filtered a routed = subst (λ (b : Bool). cond b (a ∷ []) [] ≡ []) (sym routed) refl
 
-pub serves_more : (d : Design) (items : List Item) (a : Item) → Serves items d → IsRouted a → IsItemOf d a → Serves (items ++ a ∷ []) d
+pub serves_more : (d : Design) (items : List Item) (a : Item) → Serves items d → IsRouted a → IsItemOf d a
+    → Serves (items ++ a ∷ []) d
 serves_more d items a s routed of = record {
   design_fits = s.design_fits;
-  fixed_there = filter-append is_fixed items (a ∷ []) ∙ ap (λ rest. filter is_fixed items ++ rest) (filtered a routed) ∙ append-nil (filter is_fixed items) ∙ s.fixed_there;
+  fixed_there = filter-append is_fixed items (a ∷ []) ∙ ap (λ rest. filter is_fixed items ++ rest) (filtered a routed)
+      ∙ append-nil (filter is_fixed items) ∙ s.fixed_there;
   items_fit = All-append (IsItemOf d) items (a ∷ []) s.items_fit (one (IsItemOf d) a of);
 }
 
-pub below_more : (items : List Item) (a : Item) (n : ℕ) → All (λ (b : Item). b.id < n) items → a.id ≡ n → All (λ (b : Item). b.id < n + 1) (items ++ a ∷ [])
-below_more items a n below is = All-append (λ (b : Item). b.id < n + 1) items (a ∷ []) (λ k d within. omega (arith, below k d within)) (one (λ (b : Item). b.id < n + 1) a (omega (arith, is)))
+pub below_more : (items : List Item) (a : Item) (n : ℕ) → All (λ (b : Item). b.id < n) items → a.id ≡ n
+    → All (λ (b : Item). b.id < n + 1) (items ++ a ∷ [])
+below_more items a n below is =
+    All-append (λ (b : Item). b.id < n + 1) items (a ∷ []) (λ k d within. omega (arith, below k d within))
+    (one (λ (b : Item). b.id < n + 1) a (omega (arith, is)))
 
 -- a wire's item fits the design
-pub wire_of : (d : Design) (id net layer width : ℕ) (chain : List Point) → 0 < length chain → All (IsWithin (2 ^ 29)) chain → width ≤ 2 ^ 28 → layer < length d.layers → net < length d.nets → IsItemOf d (item_of d id (Some net) false (Wire layer width chain))
+pub wire_of : (d : Design) (id net layer width : ℕ) (chain : List Point) → 0 < length chain
+    → All (IsWithin (2 ^ 29)) chain → width ≤ 2 ^ 28 → layer < length d.layers → net < length d.nets
+    → IsItemOf d (item_of d id (Some net) false (Wire layer width chain))
 wire_of d id net layer width chain some within w l n = record {
-  fits = record { pieces_fit = All-cons IsFit (wire_piece layer width chain) [] (record { well_formed = some; within = within; width_within = w }) (All-nil IsFit) };
+  fits = record {
+    pieces_fit = All-cons IsFit (wire_piece layer width chain) []
+        (record { well_formed = some; within = within; width_within = w }) (All-nil IsFit);
+  };
   metal_fits = (some, within, w);
   metal_in_range = l;
   layers_in_range = All-cons (IsLayerOf d) (wire_piece layer width chain) [] l (All-nil (IsLayerOf d));
@@ -43,7 +54,8 @@ wire_of d id net layer width chain some within w l n = record {
 }
 
 -- a disc about the origin, moved
-pub disc_fit : (layer width : ℕ) (p : Point) → width ≤ 2 ^ 28 → IsWithin (2 ^ 28) p → IsFit (moved_piece p (wire_piece layer width (origin ∷ [])))
+pub disc_fit : (layer width : ℕ) (p : Point) → width ≤ 2 ^ 28 → IsWithin (2 ^ 28) p
+    → IsFit (moved_piece p (wire_piece layer width (origin ∷ [])))
 disc_fit layer width p w within =
     let x : unsigned_abs (pos 0 +ℤ p.x) ≤ 2 ^ 29 = omega (arith, ints, within.0) in
     let y : unsigned_abs (pos 0 +ℤ p.y) ≤ 2 ^ 29 = omega (arith, ints, within.1) in
@@ -54,12 +66,15 @@ disc_fit layer width p w within =
     }
 
 -- two such discs
-pub discs_fit : (p : Point) (a b : Piece) → IsWithin (2 ^ 28) p → a ≡ wire_piece 0 600000 (origin ∷ []) → b ≡ wire_piece 2 600000 (origin ∷ []) → All IsFit (map (moved_piece p) (a ∷ b ∷ []))
+pub discs_fit : (p : Point) (a b : Piece) → IsWithin (2 ^ 28) p → a ≡ wire_piece 0 600000 (origin ∷ [])
+    → b ≡ wire_piece 2 600000 (origin ∷ []) → All IsFit (map (moved_piece p) (a ∷ b ∷ []))
 discs_fit p a b within first second =
     subst (λ (x : Piece). All IsFit (map (moved_piece p) (x ∷ b ∷ []))) (sym first)
     (subst (λ (y : Piece). All IsFit (map (moved_piece p) (wire_piece 0 600000 (origin ∷ []) ∷ y ∷ []))) (sym second)
-    (All-cons IsFit (moved_piece p (wire_piece 0 600000 (origin ∷ []))) (moved_piece p (wire_piece 2 600000 (origin ∷ [])) ∷ []) (disc_fit 0 600000 p (omega arith) within)
-    (All-cons IsFit (moved_piece p (wire_piece 2 600000 (origin ∷ []))) [] (disc_fit 2 600000 p (omega arith) within) (All-nil IsFit))))
+    (All-cons IsFit (moved_piece p (wire_piece 0 600000 (origin ∷ [])))
+    (moved_piece p (wire_piece 2 600000 (origin ∷ [])) ∷ []) (disc_fit 0 600000 p (omega arith) within)
+    (All-cons IsFit (moved_piece p (wire_piece 2 600000 (origin ∷ []))) [] (disc_fit 2 600000 p (omega arith) within)
+    (All-nil IsFit))))
 
 pub serves_none : (d : Design) → IsDesignFit d → d.fixed ≡ [] → Serves [] d
 serves_none d fit none = record { design_fits = fit; fixed_there = sym none; items_fit = All-nil (IsItemOf d) }

@@ -37,29 +37,34 @@ pub least_in : (f : Point → ℤ) (ps : List Point) → All (λ p. least f ps �
 least_in f [] = All-nil (λ p. least f [] ≤ℤ f p)
 least_in f (p ∷ ps) =
     let P : Point → Type 0 = λ q. least f (p ∷ ps) ≤ℤ f q in
-    All-cons P p ps (omega (arith, ints, clamps)) (All-weaker (λ q. least f ps ≤ℤ f q) P (λ q h. omega (arith, ints, clamps)) ps (least_in f ps))
+    All-cons P p ps (omega (arith, ints, clamps))
+    (All-weaker (λ q. least f ps ≤ℤ f q) P (λ q h. omega (arith, ints, clamps)) ps (least_in f ps))
 
 pub greatest_in : (f : Point → ℤ) (ps : List Point) → All (λ p. f p ≤ℤ greatest f ps) ps
 greatest_in f [] = All-nil (λ p. f p ≤ℤ greatest f [])
 greatest_in f (p ∷ ps) =
     let P : Point → Type 0 = λ q. f q ≤ℤ greatest f (p ∷ ps) in
-    All-cons P p ps (omega (arith, ints, clamps)) (All-weaker (λ q. f q ≤ℤ greatest f ps) P (λ q h. omega (arith, ints, clamps)) ps (greatest_in f ps))
+    All-cons P p ps (omega (arith, ints, clamps))
+    (All-weaker (λ q. f q ≤ℤ greatest f ps) P (λ q h. omega (arith, ints, clamps)) ps (greatest_in f ps))
 
-pub least_from : (f : Point → ℤ) (m : ℤ) (ps : List Point) → m ≤ℤ pos (2 ^ 29) → All (λ p. m ≤ℤ f p) ps → m ≤ℤ least f ps
+pub least_from : (f : Point → ℤ) (m : ℤ) (ps : List Point) → m ≤ℤ pos (2 ^ 29) → All (λ p. m ≤ℤ f p) ps
+    → m ≤ℤ least f ps
 least_from f m [] e h = e
 least_from f m (p ∷ ps) e h =
     let r = least_from f m ps e (All-tail (λ q. m ≤ℤ f q) p ps h) in
     let s = All-head (λ q. m ≤ℤ f q) p ps h in
     omega (arith, ints, clamps)
 
-pub greatest_to : (f : Point → ℤ) (m : ℤ) (ps : List Point) → neg_ℤ (pos (2 ^ 29)) ≤ℤ m → All (λ p. f p ≤ℤ m) ps → greatest f ps ≤ℤ m
+pub greatest_to : (f : Point → ℤ) (m : ℤ) (ps : List Point) → neg_ℤ (pos (2 ^ 29)) ≤ℤ m → All (λ p. f p ≤ℤ m) ps
+    → greatest f ps ≤ℤ m
 greatest_to f m [] e h = e
 greatest_to f m (p ∷ ps) e h =
     let r = greatest_to f m ps e (All-tail (λ q. f q ≤ℤ m) p ps h) in
     let s = All-head (λ q. f q ≤ℤ m) p ps h in
     omega (arith, ints, clamps)
 
-least_is : (f : Point → ℤ) (z : ℤ) (ps : List Point) → All (λ p. z ≤ℤ f p) ps → Any (λ p. f p ≡ z) ps → All (λ p. f p ≤ℤ pos (2 ^ 29)) ps → z ≡ least f ps
+least_is : (f : Point → ℤ) (z : ℤ) (ps : List Point) → All (λ p. z ≤ℤ f p) ps → Any (λ p. f p ≡ z) ps
+    → All (λ p. f p ≤ℤ pos (2 ^ 29)) ps → z ≡ least f ps
 least_is f z ps low (k, p, l, e, h) edge =
     let here : least f ps ≤ℤ f (get_or ps k p) = least_in f ps k p l in
     let near : f (get_or ps k p) ≤ℤ pos (2 ^ 29) = edge k p l in
@@ -67,7 +72,8 @@ least_is f z ps low (k, p, l, e, h) edge =
     let up = least_from f z ps (omega (arith, ints, at, near)) low in
     omega (arith, ints, at, here, up)
 
-greatest_is : (f : Point → ℤ) (z : ℤ) (ps : List Point) → All (λ p. f p ≤ℤ z) ps → Any (λ p. f p ≡ z) ps → All (λ p. neg_ℤ (pos (2 ^ 29)) ≤ℤ f p) ps → z ≡ greatest f ps
+greatest_is : (f : Point → ℤ) (z : ℤ) (ps : List Point) → All (λ p. f p ≤ℤ z) ps → Any (λ p. f p ≡ z) ps
+    → All (λ p. neg_ℤ (pos (2 ^ 29)) ≤ℤ f p) ps → z ≡ greatest f ps
 greatest_is f z ps high (k, p, l, e, h) edge =
     let here : f (get_or ps k p) ≤ℤ greatest f ps = greatest_in f ps k p l in
     let near : neg_ℤ (pos (2 ^ 29)) ≤ℤ f (get_or ps k p) = edge k p l in
@@ -100,11 +106,16 @@ pub box_is : (s : Spine) (r : Rect4) → IsSpineWithin (2 ^ 29) s → IsBoxOf s 
 box_is s r w h =
     let ps = vertices s in
     let v = vertices_within (2 ^ 29) s w in
-    let a = least_is (λ p. p.x) r.x0 ps (All-weaker (IsIn r) (λ p. r.x0 ≤ℤ p.x) (λ p k. k.left) ps h.within) h.left (x_above ps v) in
-    let b = least_is (λ p. p.y) r.y0 ps (All-weaker (IsIn r) (λ p. r.y0 ≤ℤ p.y) (λ p k. k.bottom) ps h.within) h.bottom (y_above ps v) in
-    let c = greatest_is (λ p. p.x) r.x1 ps (All-weaker (IsIn r) (λ p. p.x ≤ℤ r.x1) (λ p k. k.right) ps h.within) h.right (x_below ps v) in
-    let d = greatest_is (λ p. p.y) r.y1 ps (All-weaker (IsIn r) (λ p. p.y ≤ℤ r.y1) (λ p k. k.top) ps h.within) h.top (y_below ps v) in
-    box_is_of r.x0 r.y0 r.x1 r.y1 (least (λ p. p.x) ps) (least (λ p. p.y) ps) (greatest (λ p. p.x) ps) (greatest (λ p. p.y) ps) a b c d
+    let a = least_is (λ p. p.x) r.x0 ps (All-weaker (IsIn r) (λ p. r.x0 ≤ℤ p.x) (λ p k. k.left) ps h.within) h.left
+    (x_above ps v) in
+    let b = least_is (λ p. p.y) r.y0 ps (All-weaker (IsIn r) (λ p. r.y0 ≤ℤ p.y) (λ p k. k.bottom) ps h.within) h.bottom
+    (y_above ps v) in
+    let c = greatest_is (λ p. p.x) r.x1 ps (All-weaker (IsIn r) (λ p. p.x ≤ℤ r.x1) (λ p k. k.right) ps h.within) h.right
+    (x_below ps v) in
+    let d = greatest_is (λ p. p.y) r.y1 ps (All-weaker (IsIn r) (λ p. p.y ≤ℤ r.y1) (λ p k. k.top) ps h.within) h.top
+    (y_below ps v) in
+    box_is_of r.x0 r.y0 r.x1 r.y1 (least (λ p. p.x) ps) (least (λ p. p.y) ps) (greatest (λ p. p.x) ps)
+    (greatest (λ p. p.y) ps) a b c d
 
 -- a side that meets a vertex meets the moved one when both are moved
 side_moved : (by : Point) (side : Point → ℤ) (z step : ℤ) (s : Spine)
@@ -145,7 +156,9 @@ last_append [] qs = omega arith
 last_append (p ∷ ps) qs = let e = last_append ps qs in omega arith
 
 vertices_append : (ps : List Piece) (p : Piece) → vertices_of (ps ++ p ∷ []) ≡ vertices_of ps ++ vertices p.spine
-vertices_append ps p = flat_map-append (λ (q : Piece). vertices q.spine) ps (p ∷ []) ∙ ap (λ (v : List Point). vertices_of ps ++ v) (append-nil (vertices p.spine))
+vertices_append ps p =
+    flat_map-append (λ (q : Piece). vertices q.spine) ps (p ∷ []) ∙ ap (λ (v : List Point). vertices_of ps ++ v)
+    (append-nil (vertices p.spine))
 
 -- an extent joined with that of one piece
 pub record IsJoined (o e : Extent) (p : Piece) : Type 0 where
@@ -157,18 +170,24 @@ pub record IsJoined (o e : Extent) (p : Piece) : Type 0 where
   pub first : o.first ≡ min e.first p.layer
   pub last : o.last ≡ max e.last p.layer
 
-extent_is_of : (b c : Rect4) (w v f g l m : ℕ) → b ≡ c → w ≡ v → f ≡ g → l ≡ m → (let e : Extent = record { bounds = b; width = w; first = f; last = l } in e) ≡ record { bounds = c; width = v; first = g; last = m }
+extent_is_of : (b c : Rect4) (w v f g l m : ℕ) → b ≡ c → w ≡ v → f ≡ g → l ≡ m
+    → (let e : Extent = record { bounds = b; width = w; first = f; last = l } in e)
+    ≡ record { bounds = c; width = v; first = g; last = m }
 extent_is_of b c w v f g l m h i j k = cc
 
-joined_is : (o : Extent) (ps : List Piece) (p : Piece) → p.layer ≤ 255 → IsJoined o (extent_of ps) p → o ≡ extent_of (ps ++ p ∷ [])
+joined_is : (o : Extent) (ps : List Piece) (p : Piece) → p.layer ≤ 255 → IsJoined o (extent_of ps) p
+    → o ≡ extent_of (ps ++ p ∷ [])
 joined_is o ps p y h =
     let v = vertices_append ps p in
     let q = vertices p.spine in
     let vs = vertices_of ps in
     let fx : Point → ℤ = λ p. p.x in
     let fy : Point → ℤ = λ p. p.y in
-    extent_is_of o.bounds (box_of_points (vertices_of (ps ++ p ∷ []))) o.width (greatest_width (ps ++ p ∷ [])) o.first (first_layer (ps ++ p ∷ [])) o.last (last_layer (ps ++ p ∷ []))
-    (box_is_of o.bounds.x0 o.bounds.y0 o.bounds.x1 o.bounds.y1 (least fx (vertices_of (ps ++ p ∷ []))) (least fy (vertices_of (ps ++ p ∷ []))) (greatest fx (vertices_of (ps ++ p ∷ []))) (greatest fy (vertices_of (ps ++ p ∷ [])))
+    extent_is_of o.bounds (box_of_points (vertices_of (ps ++ p ∷ []))) o.width (greatest_width (ps ++ p ∷ [])) o.first
+    (first_layer (ps ++ p ∷ [])) o.last (last_layer (ps ++ p ∷ []))
+    (box_is_of o.bounds.x0 o.bounds.y0 o.bounds.x1 o.bounds.y1 (least fx (vertices_of (ps ++ p ∷ [])))
+    (least fy (vertices_of (ps ++ p ∷ []))) (greatest fx (vertices_of (ps ++ p ∷ [])))
+    (greatest fy (vertices_of (ps ++ p ∷ [])))
     (h.x0 ∙ sym (ap (least fx) v ∙ least_append fx vs q))
     (h.y0 ∙ sym (ap (least fy) v ∙ least_append fy vs q))
     (h.x1 ∙ sym (ap (greatest fx) v ∙ greatest_append fx vs q))
@@ -177,10 +196,12 @@ joined_is o ps p y h =
     (h.first ∙ (let e = first_append ps (p ∷ []) in omega (arith, e)))
     (h.last ∙ (let e = last_append ps (p ∷ []) in omega (arith, e)))
 
-pub extent_more : (o e : Extent) (ps : List Piece) (i : ℕ) (p : Piece) → i < length ps → p ≡ get_or ps i p → p.layer ≤ 255 → e ≡ extent_of (take i ps) → IsJoined o e p → o ≡ extent_of (take (i + 1) ps)
+pub extent_more : (o e : Extent) (ps : List Piece) (i : ℕ) (p : Piece) → i < length ps → p ≡ get_or ps i p
+    → p.layer ≤ 255 → e ≡ extent_of (take i ps) → IsJoined o e p → o ≡ extent_of (take (i + 1) ps)
 extent_more o e ps i p l is y h j =
     let f : Extent → Type 0 = λ x. IsJoined o x p in
-    joined_is o (take i ps) p y (subst f h j) ∙ sym (ap extent_of (take_more ps i p l ∙ ap (λ (q : Piece). take i ps ++ q ∷ []) (sym is)))
+    joined_is o (take i ps) p y (subst f h j)
+    ∙ sym (ap extent_of (take_more ps i p l ∙ ap (λ (q : Piece). take i ps ++ q ∷ []) (sym is)))
 
 -- the same, of moved pieces
 pub extent_more_moved : (f : Piece → Piece) (o e : Extent) (ps : List Piece) (i : ℕ) (p : Piece) → i < length ps
@@ -230,12 +251,14 @@ width_in : (ps : List Piece) → All (λ p. p.width ≤ greatest_width ps) ps
 width_in [] = All-nil (λ (p : Piece). p.width ≤ 0)
 width_in (p ∷ ps) =
     let P : Piece → Type 0 = λ q. q.width ≤ greatest_width (p ∷ ps) in
-    All-cons P p ps (omega arith) (All-weaker (λ q. q.width ≤ greatest_width ps) P (λ q h. omega arith) ps (width_in ps))
+    All-cons P p ps (omega arith)
+    (All-weaker (λ q. q.width ≤ greatest_width ps) P (λ q h. omega arith) ps (width_in ps))
 
 vertices_fit : (ps : List Piece) → All IsFit ps → All (IsWithin (2 ^ 29)) (vertices_of ps)
 vertices_fit [] h = All-nil (IsWithin (2 ^ 29))
 vertices_fit (p ∷ ps) h =
-    All-append (IsWithin (2 ^ 29)) (vertices p.spine) (vertices_of ps) (vertices_within (2 ^ 29) p.spine (All-head IsFit p ps h).within) (vertices_fit ps (All-tail IsFit p ps h))
+    All-append (IsWithin (2 ^ 29)) (vertices p.spine) (vertices_of ps)
+    (vertices_within (2 ^ 29) p.spine (All-head IsFit p ps h).within) (vertices_fit ps (All-tail IsFit p ps h))
 
 between : (z : ℤ) → neg_ℤ (pos (2 ^ 29)) ≤ℤ z → z ≤ℤ pos (2 ^ 29) → unsigned_abs z ≤ 2 ^ 29
 between z a b = omega (arith, ints, a, b)
@@ -255,13 +278,16 @@ extent_within ps h =
       y1_within = between (greatest fy vs) (greatest_edge fy vs) (greatest_to fy (pos (2 ^ 29)) vs low (y_above vs v));
     }
 
-pub min_within : (z a b : ℤ) → z ≡ int_min a b → unsigned_abs a ≤ 2 ^ 29 → unsigned_abs b ≤ 2 ^ 29 → unsigned_abs z ≤ 2 ^ 29
+pub min_within : (z a b : ℤ) → z ≡ int_min a b → unsigned_abs a ≤ 2 ^ 29 → unsigned_abs b ≤ 2 ^ 29
+    → unsigned_abs z ≤ 2 ^ 29
 min_within z a b e h k = omega (arith, ints, clamps, e)
 
-pub max_within : (z a b : ℤ) → z ≡ int_max a b → unsigned_abs a ≤ 2 ^ 29 → unsigned_abs b ≤ 2 ^ 29 → unsigned_abs z ≤ 2 ^ 29
+pub max_within : (z a b : ℤ) → z ≡ int_max a b → unsigned_abs a ≤ 2 ^ 29 → unsigned_abs b ≤ 2 ^ 29
+    → unsigned_abs z ≤ 2 ^ 29
 max_within z a b e h k = omega (arith, ints, clamps, e)
 
-pub box_joined_within : (o a b : Rect4) → IsBoxWithin (2 ^ 29) a → IsBoxWithin (2 ^ 29) b → o.x0 ≡ int_min a.x0 b.x0 → o.y0 ≡ int_min a.y0 b.y0 → o.x1 ≡ int_max a.x1 b.x1 → o.y1 ≡ int_max a.y1 b.y1 → IsBoxWithin (2 ^ 29) o
+pub box_joined_within : (o a b : Rect4) → IsBoxWithin (2 ^ 29) a → IsBoxWithin (2 ^ 29) b → o.x0 ≡ int_min a.x0 b.x0
+    → o.y0 ≡ int_min a.y0 b.y0 → o.x1 ≡ int_max a.x1 b.x1 → o.y1 ≡ int_max a.y1 b.y1 → IsBoxWithin (2 ^ 29) o
 box_joined_within o a b h k e f g i = record {
   x0_within = min_within o.x0 a.x0 b.x0 e h.x0_within k.x0_within;
   y0_within = min_within o.y0 a.y0 b.y0 f h.y0_within k.y0_within;
@@ -269,5 +295,12 @@ box_joined_within o a b h k e f g i = record {
   y1_within = max_within o.y1 a.y1 b.y1 i h.y1_within k.y1_within;
 }
 
-pub box_min_within : (o : Rect4) (a b : Point) → IsWithin (2 ^ 29) a → IsWithin (2 ^ 29) b → o.x0 ≡ int_min a.x b.x → o.y0 ≡ int_min a.y b.y → o.x1 ≡ int_max a.x b.x → o.y1 ≡ int_max a.y b.y → IsBoxWithin (2 ^ 29) o
-box_min_within o a b h k e f g i = record { x0_within = min_within o.x0 a.x b.x e h.0 k.0; y0_within = min_within o.y0 a.y b.y f h.1 k.1; x1_within = max_within o.x1 a.x b.x g h.0 k.0; y1_within = max_within o.y1 a.y b.y i h.1 k.1 }
+pub box_min_within : (o : Rect4) (a b : Point) → IsWithin (2 ^ 29) a → IsWithin (2 ^ 29) b → o.x0 ≡ int_min a.x b.x
+    → o.y0 ≡ int_min a.y b.y → o.x1 ≡ int_max a.x b.x → o.y1 ≡ int_max a.y b.y → IsBoxWithin (2 ^ 29) o
+box_min_within o a b h k e f g i =
+    record {
+      x0_within = min_within o.x0 a.x b.x e h.0 k.0;
+      y0_within = min_within o.y0 a.y b.y f h.1 k.1;
+      x1_within = max_within o.x1 a.x b.x g h.0 k.0;
+      y1_within = max_within o.y1 a.y b.y i h.1 k.1;
+    }

@@ -1,5 +1,7 @@
 -- The pair rule doesn't ask which item comes first.
-use Rattle.std.proofs.Common.{◌≡◌, ℕ, ◌+◌, ◌*◌, max, ◌==◌, Bool, true, false, not, ◌&&◌, ◌||◌, List, flat_map, Any, Option, Some, None, refl, sym, ap, eq-eqb, ◌∙◌, subst, arith, length, get_or, ◌<◌, [], ◌∷◌}
+use Rattle.std.proofs.Common.{◌≡◌, ℕ, ◌+◌, ◌*◌, max, ◌==◌, Bool, true, false, not, ◌&&◌, ◌||◌, List, flat_map, Any}
+use Rattle.std.proofs.Common.{Option, Some, None, refl, sym, ap, eq-eqb, ◌∙◌, subst, arith, length, get_or, ◌<◌, []}
+use Rattle.std.proofs.Common.{◌∷◌}
 use Rattle.std.proofs.lemmas.Bool.{eqb-true}
 use Rattle.std.specs.Option.{option_or}
 use Rattle.geo_kernel.specs.Spine.{SpinesKeep, SpinesTouch}
@@ -13,8 +15,10 @@ use Rattle.pcb_model.specs.declared.item.Item.{Item}
 use Rattle.pcb_model.specs.declared.design.Typed.{Typed}
 use Rattle.pcb_model.specs.declared.design.RuleSet.{RuleSet}
 use Rattle.pcb_model.specs.declared.design.Design.{Design}
-use Rattle.pcb_model.specs.Rules.{is_kind, is_pair, names_pair, names_one, last_value, typed_value, first_present, levels, rule_sets, value_of, clearance_of}
-use Rattle.pcb_model.specs.Pairs.{PieceKeeps, PiecesKeep, PieceTouches, TouchesSome, PiecesTouch, is_same_net, is_compared, must_keep, must_stay_off, Agrees, AreTouching}
+use Rattle.pcb_model.specs.Rules.{is_kind, is_pair, names_pair, names_one, last_value, typed_value, first_present}
+use Rattle.pcb_model.specs.Rules.{levels, rule_sets, value_of, clearance_of}
+use Rattle.pcb_model.specs.Pairs.{PieceKeeps, PiecesKeep, PieceTouches, TouchesSome, PiecesTouch, is_same_net}
+use Rattle.pcb_model.specs.Pairs.{is_compared, must_keep, must_stay_off, Agrees, AreTouching}
 
 -- ---- the rules
 swapped : (x y z w : Bool) → ((x && y) || (z && w)) ≡ ((w && z) || (y && x))
@@ -53,15 +57,20 @@ one_swapped ka kb a None = either (is_kind ka a) (is_kind kb a)
 one_swapped ka kb a (Some b) = refl
 
 typed_swapped : (ka kb : Kind) (ts : List Typed) → typed_value ka kb ts ≡ typed_value kb ka ts
-typed_swapped ka kb ts = λ i. option_or (last_value (λ t. names_swapped ka kb t.a t.b i) ts) (last_value (λ t. one_swapped ka kb t.a t.b i) ts)
+typed_swapped ka kb ts =
+    λ i. option_or (last_value (λ t. names_swapped ka kb t.a t.b i) ts)
+    (last_value (λ t. one_swapped ka kb t.a t.b i) ts)
 
 levels_swapped : (ka kb : Kind) (rs : RuleSet) → levels ka kb rs ≡ levels kb ka rs
 levels_swapped ka kb rs = λ i. typed_swapped ka kb rs.typed i ∷ rs.plain ∷ []
 
 value_swapped : (d : Design) (net : Option ℕ) (ka kb : Kind) → value_of d net ka kb ≡ value_of d net kb ka
-value_swapped d net ka kb = ap (λ (f : RuleSet → List (Option ℕ)). first_present 0 (flat_map f (rule_sets d net))) (λ i rs. levels_swapped ka kb rs i)
+value_swapped d net ka kb =
+    ap (λ (f : RuleSet → List (Option ℕ)). first_present 0 (flat_map f (rule_sets d net)))
+    (λ i rs. levels_swapped ka kb rs i)
 
-clearance_swapped : (d : Design) (a : Option ℕ) (ka : Kind) (b : Option ℕ) (kb : Kind) → clearance_of d a ka b kb ≡ clearance_of d b kb a ka
+clearance_swapped : (d : Design) (a : Option ℕ) (ka : Kind) (b : Option ℕ) (kb : Kind)
+    → clearance_of d a ka b kb ≡ clearance_of d b kb a ka
 clearance_swapped d a ka b kb = omega (arith, value_swapped d a ka kb, value_swapped d b ka kb)
 
 -- ---- the nets and metals
@@ -72,7 +81,8 @@ same_bools false true f g = g refl
 same_bools false false f g = refl
 
 eq_swapped : (x y : ℕ) → (x == y) ≡ (y == x)
-eq_swapped x y = same_bools (x == y) (y == x) (λ h. eq-eqb y x (sym (eqb-true x y h))) (λ h. eq-eqb x y (sym (eqb-true y x h)))
+eq_swapped x y =
+    same_bools (x == y) (y == x) (λ h. eq-eqb y x (sym (eqb-true x y h))) (λ h. eq-eqb x y (sym (eqb-true y x h)))
 
 net_swapped : (x y : Option ℕ) → is_same_net x y ≡ is_same_net y x
 net_swapped None None = refl
@@ -101,19 +111,22 @@ compared_swapped (Ban x y) (Ban x' y') = refl
 -- ---- the pieces
 piece_swapped : (c : ℕ) (p r : Piece) → PieceKeeps c p r → PieceKeeps c r p
 piece_swapped c p r h = record {
-  keep = λ l. subst (SpinesKeep r.spine p.spine) (width c p.width r.width) (keep_symmetric p.spine r.spine (max 1 (2 * c + p.width + r.width)) (h.keep (sym l)));
+  keep = λ l. subst (SpinesKeep r.spine p.spine) (width c p.width r.width)
+      (keep_symmetric p.spine r.spine (max 1 (2 * c + p.width + r.width)) (h.keep (sym l)));
 }
   where
     width : (c x y : ℕ) → max 1 (2 * c + x + y) ≡ max 1 (2 * c + y + x)
     width c x y = omega arith
 
 keep_swapped : (c : ℕ) (ps rs : List Piece) → PiecesKeep c ps rs → PiecesKeep c rs ps
-keep_swapped c ps rs h = record { each = λ k d l. record { each = λ j e m. piece_swapped c _ _ ((h.each j e m).each k d l) } }
+keep_swapped c ps rs h =
+    record { each = λ k d l. record { each = λ j e m. piece_swapped c _ _ ((h.each j e m).each k d l) } }
 
 one_touches : (p r : Piece) → PieceTouches p r → PieceTouches r p
 one_touches p r t = record {
   one_layer = sym t.one_layer;
-  touch = subst (SpinesTouch r.spine p.spine) (plus p.width r.width) (touch_symmetric p.spine r.spine (p.width + r.width) t.touch);
+  touch = subst (SpinesTouch r.spine p.spine) (plus p.width r.width)
+      (touch_symmetric p.spine r.spine (p.width + r.width) t.touch);
 }
   where
     plus : (x y : ℕ) → x + y ≡ y + x
@@ -122,7 +135,8 @@ one_touches p r t = record {
 touch_swapped : (ps rs : List Piece) → PiecesTouch ps rs → PiecesTouch rs ps
 touch_swapped ps rs h = swap h.some
   where
-    inner : (k : ℕ) (p : Piece) (l : k < length ps) (e : get_or ps k p ≡ p) → Any (PieceTouches p) rs → PiecesTouch rs ps
+    inner : (k : ℕ) (p : Piece) (l : k < length ps) (e : get_or ps k p ≡ p) → Any (PieceTouches p) rs
+        → PiecesTouch rs ps
     inner k p l e (j, r, m, f, t) = record { some = (j, r, m, f, record { some = (k, p, l, e, one_touches p r t) }) }
 
     swap : Any (TouchesSome rs) ps → PiecesTouch rs ps
@@ -133,12 +147,15 @@ pub agrees_swapped : (d : Design) (a b : Item) → Agrees d a b → Agrees d b a
 agrees_swapped d a b h =
     let n = net_swapped b.net a.net in
     let m : must_keep b a ≡ must_keep a b = λ i. not (n i) && compared_swapped b.metal a.metal i in
-    let s : must_stay_off d b a ≡ must_stay_off d a b = λ i. not d.via_at_smd && n i && pair_swapped b.kind a.kind kind.Via kind.Smd i in
+    let s : must_stay_off d b a ≡ must_stay_off d a b = λ i. not d.via_at_smd && n i
+    && pair_swapped b.kind a.kind kind.Via kind.Smd i in
     let F : ℕ → Type 0 = λ c. PiecesKeep c b.pieces a.pieces in
     record {
-      keep = λ k. subst F (clearance_swapped d a.net a.kind b.net b.kind) (keep_swapped (clearance_of d a.net a.kind b.net b.kind) a.pieces b.pieces (h.keep (sym m ∙ k)));
+      keep = λ k. subst F (clearance_swapped d a.net a.kind b.net b.kind)
+          (keep_swapped (clearance_of d a.net a.kind b.net b.kind) a.pieces b.pieces (h.keep (sym m ∙ k)));
       stay_off = λ k t. h.stay_off (sym s ∙ k) (touch_swapped b.pieces a.pieces t);
     }
 
 pub touching_swapped : (a b : Item) → AreTouching a b → AreTouching b a
-touching_swapped a b h = record { same_net = net_swapped b.net a.net ∙ h.same_net; touch = touch_swapped a.pieces b.pieces h.touch }
+touching_swapped a b h =
+    record { same_net = net_swapped b.net a.net ∙ h.same_net; touch = touch_swapped a.pieces b.pieces h.touch }

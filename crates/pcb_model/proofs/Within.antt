@@ -1,5 +1,6 @@
 -- Clearances stay within what the rules are within.
-use Rattle.std.proofs.Common.{ℕ, ◌≤◌, max, Bool, true, false, cond, List, [], ◌∷◌, reverse, flat_map, All, Option, Some, None, arith, sym, subst, slice_get}
+use Rattle.std.proofs.Common.{ℕ, ◌≤◌, max, Bool, true, false, cond, List, [], ◌∷◌, reverse, flat_map, All, Option, Some}
+use Rattle.std.proofs.Common.{None, arith, sym, subst, slice_get}
 use Prim.Native.Nat.{zero, suc}
 use Rattle.std.specs.Prelude.{IfSome}
 use Rattle.std.specs.Option.{option_or, option_map, option_to_list}
@@ -11,7 +12,8 @@ use Rattle.pcb_model.specs.declared.design.Typed.{Typed}
 use Rattle.pcb_model.specs.declared.design.RuleSet.{RuleSet}
 use Rattle.pcb_model.specs.declared.design.Net.{Net}
 use Rattle.pcb_model.specs.declared.design.Design.{Design}
-use Rattle.pcb_model.specs.Rules.{names_pair, names_one, last_value, typed_value, first_present, levels, class_rules, with_class, net_rules, rule_sets, value_of, clearance_of}
+use Rattle.pcb_model.specs.Rules.{names_pair, names_one, last_value, typed_value, first_present, levels, class_rules}
+use Rattle.pcb_model.specs.Rules.{with_class, net_rules, rule_sets, value_of, clearance_of}
 use Rattle.pcb_model.specs.Bounds.{AreRulesWithin, HasRulesWithin}
 
 pub All-at : {X : Type 0} (P : X → Type 0) (xs : List X) (i : ℕ) → All P xs → IfSome (slice_get xs i) P
@@ -21,24 +23,33 @@ All-at P (x ∷ xs) (suc i) h = All-at P xs i (All-tail P x xs h)
 
 All-reverse : {X : Type 0} (P : X → Type 0) (xs : List X) → All P xs → All P (reverse xs)
 All-reverse P [] h = h
-All-reverse P (x ∷ xs) h = subst (All P) (sym (reverse-append (x ∷ []) xs)) (All-append P (reverse xs) (x ∷ []) (All-reverse P xs (All-tail P x xs h)) (All-cons P x [] (All-head P x xs h) (All-nil P)))
+All-reverse P (x ∷ xs) h =
+    subst (All P) (sym (reverse-append (x ∷ []) xs))
+    (All-append P (reverse xs) (x ∷ []) (All-reverse P xs (All-tail P x xs h))
+    (All-cons P x [] (All-head P x xs h) (All-nil P)))
 
 abbrev IsAtMost : ℕ → Option ℕ → Type 0
 IsAtMost m v = IfSome v (λ n. n ≤ m)
 
-found_here : (m : ℕ) (b : Bool) (t : Typed) (o : Option Typed) → t.value ≤ m → IsAtMost m (option_map (λ (x : Typed). x.value) o) → IsAtMost m (option_map (λ (x : Typed). x.value) (cond b (Some t) o))
+found_here : (m : ℕ) (b : Bool) (t : Typed) (o : Option Typed) → t.value ≤ m
+    → IsAtMost m (option_map (λ (x : Typed). x.value) o)
+    → IsAtMost m (option_map (λ (x : Typed). x.value) (cond b (Some t) o))
 found_here m true t o h k = h
 found_here m false t o h k = k
 
-found : (m : ℕ) (test : Typed → Bool) (ts : List Typed) → All (λ (t : Typed). t.value ≤ m) ts → IsAtMost m (option_map (λ (x : Typed). x.value) (find test ts))
+found : (m : ℕ) (test : Typed → Bool) (ts : List Typed) → All (λ (t : Typed). t.value ≤ m) ts
+    → IsAtMost m (option_map (λ (x : Typed). x.value) (find test ts))
 found m test [] h = tt
-found m test (t ∷ ts) h = found_here m (test t) t (find test ts) (All-head (λ (t : Typed). t.value ≤ m) t ts h) (found m test ts (All-tail (λ (t : Typed). t.value ≤ m) t ts h))
+found m test (t ∷ ts) h =
+    found_here m (test t) t (find test ts) (All-head (λ (t : Typed). t.value ≤ m) t ts h)
+    (found m test ts (All-tail (λ (t : Typed). t.value ≤ m) t ts h))
 
 either : (m : ℕ) (a b : Option ℕ) → IsAtMost m a → IsAtMost m b → IsAtMost m (option_or a b)
 either m None b h k = k
 either m (Some x) b h k = h
 
-typed_within : (m : ℕ) (ka kb : Kind) (ts : List Typed) → All (λ (t : Typed). t.value ≤ m) ts → IsAtMost m (typed_value ka kb ts)
+typed_within : (m : ℕ) (ka kb : Kind) (ts : List Typed) → All (λ (t : Typed). t.value ≤ m) ts
+    → IsAtMost m (typed_value ka kb ts)
 typed_within m ka kb ts h =
     let r = All-reverse (λ (t : Typed). t.value ≤ m) ts h in
     either m (last_value (λ t. names_pair ka kb t.a t.b) ts) (last_value (λ t. names_one ka kb t.a t.b) ts)
@@ -49,12 +60,14 @@ first m [] h = omega arith
 first m (None ∷ vs) h = first m vs (All-tail (IsAtMost m) None vs h)
 first m (Some v ∷ vs) h = All-head (IsAtMost m) (Some v) vs h
 
-all_levels : (m : ℕ) (ka kb : Kind) (rs : List RuleSet) → All (AreRulesWithin m) rs → All (IsAtMost m) (flat_map (levels ka kb) rs)
+all_levels : (m : ℕ) (ka kb : Kind) (rs : List RuleSet) → All (AreRulesWithin m) rs
+    → All (IsAtMost m) (flat_map (levels ka kb) rs)
 all_levels m ka kb [] h = All-nil (IsAtMost m)
 all_levels m ka kb (r ∷ rs) h =
     let w = All-head (AreRulesWithin m) r rs h in
     All-append (IsAtMost m) (levels ka kb r) (flat_map (levels ka kb) rs)
-    (All-cons (IsAtMost m) (typed_value ka kb r.typed) (r.plain ∷ []) (typed_within m ka kb r.typed w.typed_within) (All-cons (IsAtMost m) r.plain [] w.plain_within (All-nil (IsAtMost m))))
+    (All-cons (IsAtMost m) (typed_value ka kb r.typed) (r.plain ∷ []) (typed_within m ka kb r.typed w.typed_within)
+    (All-cons (IsAtMost m) r.plain [] w.plain_within (All-nil (IsAtMost m))))
     (all_levels m ka kb rs (All-tail (AreRulesWithin m) r rs h))
 
 if_any : {X : Type 0} (P : X → Type 0) (o : Option X) → IfSome o P → All P (option_to_list o)
@@ -63,23 +76,29 @@ if_any P (Some x) h = All-cons P x [] h (All-nil P)
 
 class_within : (m : ℕ) (d : Design) (c : Option ℕ) → HasRulesWithin m d → All (AreRulesWithin m) (class_rules d c)
 class_within m d None h = All-nil (AreRulesWithin m)
-class_within m d (Some c) h = if_any (AreRulesWithin m) (slice_get d.classes c) (All-at (AreRulesWithin m) d.classes c h.classes_within)
+class_within m d (Some c) h =
+    if_any (AreRulesWithin m) (slice_get d.classes c) (All-at (AreRulesWithin m) d.classes c h.classes_within)
 
-net_within : (m : ℕ) (d : Design) (n : Option Net) → HasRulesWithin m d → IfSome n (λ (x : Net). AreRulesWithin m x.rules) → All (AreRulesWithin m) (with_class d n)
+net_within : (m : ℕ) (d : Design) (n : Option Net) → HasRulesWithin m d
+    → IfSome n (λ (x : Net). AreRulesWithin m x.rules) → All (AreRulesWithin m) (with_class d n)
 net_within m d None h k = All-nil (AreRulesWithin m)
 net_within m d (Some n) h k = All-cons (AreRulesWithin m) n.rules (class_rules d n.class) k (class_within m d n.class h)
 
 rules_within : (m : ℕ) (d : Design) (net : Option ℕ) → HasRulesWithin m d → All (AreRulesWithin m) (net_rules d net)
 rules_within m d None h = All-nil (AreRulesWithin m)
-rules_within m d (Some i) h = net_within m d (slice_get d.nets i) h (All-at (λ (x : Net). AreRulesWithin m x.rules) d.nets i h.nets_within)
+rules_within m d (Some i) h =
+    net_within m d (slice_get d.nets i) h (All-at (λ (x : Net). AreRulesWithin m x.rules) d.nets i h.nets_within)
 
 pub value_within : (m : ℕ) (d : Design) (net : Option ℕ) (ka kb : Kind) → HasRulesWithin m d → value_of d net ka kb ≤ m
 value_within m d net ka kb h =
     first m (flat_map (levels ka kb) (rule_sets d net)) (all_levels m ka kb (rule_sets d net)
-    (All-append (AreRulesWithin m) (net_rules d net) (d.rules ∷ []) (rules_within m d net h) (All-cons (AreRulesWithin m) d.rules [] h.structure (All-nil (AreRulesWithin m)))))
+    (All-append (AreRulesWithin m) (net_rules d net) (d.rules ∷ []) (rules_within m d net h)
+    (All-cons (AreRulesWithin m) d.rules [] h.structure (All-nil (AreRulesWithin m)))))
 
 max_within : (m x y : ℕ) → x ≤ m → y ≤ m → max x y ≤ m
 max_within m x y h k = omega arith
 
-pub clearance_within : (m : ℕ) (d : Design) (a : Option ℕ) (ka : Kind) (b : Option ℕ) (kb : Kind) → HasRulesWithin m d → clearance_of d a ka b kb ≤ m
-clearance_within m d a ka b kb h = max_within m (value_of d a ka kb) (value_of d b ka kb) (value_within m d a ka kb h) (value_within m d b ka kb h)
+pub clearance_within : (m : ℕ) (d : Design) (a : Option ℕ) (ka : Kind) (b : Option ℕ) (kb : Kind) → HasRulesWithin m d
+    → clearance_of d a ka b kb ≤ m
+clearance_within m d a ka b kb h =
+    max_within m (value_of d a ka kb) (value_of d b ka kb) (value_within m d a ka kb h) (value_within m d b ka kb h)

@@ -1,5 +1,6 @@
 -- Legal boards, and items that are joined.
-use Rattle.std.specs.Prelude.{◌≡◌, ℕ, ◌≤◌, ◌<◌, Bool, false, List, [], ◌∷◌, Option, Some, length, filter, All, AllPairs, Any, Contains, slice_get, ◌⊎◌}
+use Rattle.std.specs.Prelude.{◌≡◌, ℕ, ◌≤◌, ◌<◌, Bool, false, List, [], ◌∷◌, Option, Some, length, filter, All, AllPairs}
+use Rattle.std.specs.Prelude.{Any, Contains, slice_get, ◌⊎◌}
 use Rattle.std.specs.Option.{IsSomeAnd, IfSome}
 use Rattle.geo_kernel.specs.declared.point.Point.{Point}
 use Rattle.geo_kernel.specs.Spine.{outline, BeginInside, IsInside}

@@ -1,5 +1,6 @@
 -- What a search among items answers.
-use Rattle.std.specs.Prelude.{◌≡◌, ℕ, ◌≤◌, ◌<◌, ◌^◌, List, Option, Some, None, All, AllPairs, Contains, length, slice_index_or, slice_get, remove}
+use Rattle.std.specs.Prelude.{◌≡◌, ℕ, ◌≤◌, ◌<◌, ◌^◌, List, Option, Some, None, All, AllPairs, Contains, length}
+use Rattle.std.specs.Prelude.{slice_index_or, slice_get, remove}
 use Rattle.std.specs.List.{AllZip}
 use Rattle.pcb_model.specs.declared.item.Item.{Item}
 use Rattle.pcb_model.specs.declared.near.Extent.{Extent}

@@ -1,5 +1,6 @@
 -- How far items are told apart: by a box, a greatest width and the layers of all their pieces.
-use Rattle.std.specs.Prelude.{◌≡◌, ℕ, ℤ, pos, neg_ℤ, max, min, ◌≤◌, ◌<◌, ◌+◌, ◌*◌, ◌⊎◌, ◌+ℤ◌, ◌≤ℤ◌, ◌^◌, unsigned_abs, List, [], ◌∷◌, flat_map, All, Option}
+use Rattle.std.specs.Prelude.{◌≡◌, ℕ, ℤ, pos, neg_ℤ, max, min, ◌≤◌, ◌<◌, ◌+◌, ◌*◌, ◌⊎◌, ◌+ℤ◌, ◌≤ℤ◌, ◌^◌, unsigned_abs}
+use Rattle.std.specs.Prelude.{List, [], ◌∷◌, flat_map, All, Option}
 use Rattle.std.specs.Int.{int_min, int_max}
 use Rattle.geo_kernel.specs.declared.point.Point.{Point}
 use Rattle.geo_kernel.specs.declared.point.Rect4.{Rect4}
@@ -64,7 +65,13 @@ greatest f (p ∷ ps) = int_max (f p) (greatest f ps)
 
 -- the least box that holds some points
 abbrev pub box_of_points : List Point → Rect4
-box_of_points ps = record { x0 = least (λ p. p.x) ps; y0 = least (λ p. p.y) ps; x1 = greatest (λ p. p.x) ps; y1 = greatest (λ p. p.y) ps }
+box_of_points ps =
+    record {
+      x0 = least (λ p. p.x) ps;
+      y0 = least (λ p. p.y) ps;
+      x1 = greatest (λ p. p.x) ps;
+      y1 = greatest (λ p. p.y) ps;
+    }
 
 -- the vertices of all spines
 abbrev pub vertices_of : List Piece → List Point
@@ -84,11 +91,18 @@ last_layer (p ∷ ps) = max p.layer (last_layer ps)
 
 -- the least extent of some pieces
 abbrev pub extent_of : List Piece → Extent
-extent_of ps = record { bounds = box_of_points (vertices_of ps); width = greatest_width ps; first = first_layer ps; last = last_layer ps }
+extent_of ps =
+    record {
+      bounds = box_of_points (vertices_of ps);
+      width = greatest_width ps;
+      first = first_layer ps;
+      last = last_layer ps;
+    }
 
 -- no layer is in both, or the boxes are parted by more than the reach and half of both widths
 abbrev pub AreFar : ℕ → Extent → Extent → Type 0
-AreFar reach e f = (e.last < f.first ⊎ f.last < e.first) ⊎ IsParted e.bounds f.bounds (2 * reach + e.width + f.width + 1)
+AreFar reach e f =
+    (e.last < f.first ⊎ f.last < e.first) ⊎ IsParted e.bounds f.bounds (2 * reach + e.width + f.width + 1)
 
 -- the pieces keep each clearance up to reach, and don't touch
 pub record AreApart (reach : ℕ) (ps rs : List Piece) : Type 0 where
@@ -97,7 +111,8 @@ pub record AreApart (reach : ℕ) (ps rs : List Piece) : Type 0 where
 
 -- whatever has these extents is apart
 abbrev pub SeparatesAll : ℕ → Extent → Extent → Type 0
-SeparatesAll reach e f = (ps rs : List Piece) → All IsFit ps → All IsFit rs → IsExtentOf ps e → IsExtentOf rs f → AreApart reach ps rs
+SeparatesAll reach e f = (ps rs : List Piece) → All IsFit ps → All IsFit rs → IsExtentOf ps e → IsExtentOf rs f
+    → AreApart reach ps rs
 
 abbrev pub side_value : Side → Kind → ℕ
 side_value s Wire = s.wire

@@ -44,7 +44,8 @@ kind_of (metal.Ban wires vias) = kind.Area
 
 -- the item of a wire or a via
 abbrev pub item_of : Design → ℕ → Option ℕ → Bool → Metal → Item
-item_of d id net fixed m = record { id = id; net = net; fixed = fixed; kind = kind_of m; metal = m; pieces = pieces_of d m }
+item_of d id net fixed m =
+    record { id = id; net = net; fixed = fixed; kind = kind_of m; metal = m; pieces = pieces_of d m }
 
 -- a disc is a wire of one point, a step a wire of two
 abbrev pub metal_of : Probe → Metal

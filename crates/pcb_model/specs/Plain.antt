@@ -1,4 +1,5 @@
--- Plain copper: each piece of what has a net is a chain, or an area of one loop. Of such copper, what covers one point touches.
+-- Plain copper: each piece of what has a net is a chain, or an area of one loop. Of such copper, what covers one point
+-- touches.
 use Rattle.std.specs.Prelude.{◌≡◌, ℕ, List, All, Some}
 use Rattle.geo_kernel.specs.Solid.{IsSimple}
 use Rattle.pcb_model.specs.declared.item.Piece.{Piece}

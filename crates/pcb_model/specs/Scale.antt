@@ -1,5 +1,6 @@
 -- The scale of a session: the design's resolution, where all that a session prints is whole in it.
-use Rattle.std.specs.Prelude.{ℕ, ◌/◌, ◌%◌, ◌==◌, nat_lt, Bool, true, ◌&&◌, if◌then◌else◌, map, unsigned_abs, Some, slice_get, ◌++◌, ◌∷◌, []}
+use Rattle.std.specs.Prelude.{ℕ, ◌/◌, ◌%◌, ◌==◌, nat_lt, Bool, true, ◌&&◌, if◌then◌else◌, map, unsigned_abs, Some}
+use Rattle.std.specs.Prelude.{slice_get, ◌++◌, ◌∷◌, []}
 use Rattle.std.specs.List.{list_all}
 use Rattle.std.specs.Option.{option_map_or}
 use Rattle.geo_kernel.specs.declared.point.Point.{Point}
@@ -36,7 +37,8 @@ is_whole_piece nm c = is_whole nm c.width && is_whole_spine nm c.spine
 
 -- the padstack with this number, if there is one
 abbrev pub is_whole_padstack : Design → ℕ → ℕ → Bool
-is_whole_padstack d nm p = option_map_or (λ (s : Padstack). list_all (is_whole_piece nm) s.pieces) (slice_get d.padstacks p) true
+is_whole_padstack d nm p =
+    option_map_or (λ (s : Padstack). list_all (is_whole_piece nm) s.pieces) (slice_get d.padstacks p) true
 
 -- a wire, or a via and its padstack
 abbrev pub is_whole_metal : Design → ℕ → Metal → Bool
@@ -55,8 +57,10 @@ is_whole_net d nm n = is_whole nm (net_width d n) && list_all (is_whole_padstack
 
 -- the component places, the nets, and the wiring, fixed and free
 abbrev pub is_on_scale : Design → ℕ → Bool
-is_on_scale d nm = list_all (λ (c : Component). is_whole_point nm c.at) d.components && list_all (is_whole_net d nm) d.nets
-    && list_all (λ (a : Item). is_whole_metal d nm a.metal) d.fixed && list_all (λ (w : FreeWire). is_whole_metal d nm w.metal) d.free
+is_on_scale d nm =
+    list_all (λ (c : Component). is_whole_point nm c.at) d.components && list_all (is_whole_net d nm) d.nets
+    && list_all (λ (a : Item). is_whole_metal d nm a.metal) d.fixed
+    && list_all (λ (w : FreeWire). is_whole_metal d nm w.metal) d.free
 
 -- a unit of the resolution is a whole number of nm, and all is whole in it
 abbrev pub keeps_resolution : Design → Bool
@@ -64,4 +68,5 @@ keeps_resolution d = nat_lt 0 d.per && is_whole d.per (unit_nm d.unit) && is_on_
 
 -- the design's resolution where it can be kept, or else 1000 units to the micrometre, of 1 nm
 unfoldable pub scale_of : Design → SesScale
-scale_of d = if keeps_resolution d then record { unit = d.unit; per = d.per; nm = unit_nm d.unit / d.per } else record { unit = Um; per = 1000; nm = 1 }
+scale_of d = if keeps_resolution d then record { unit = d.unit; per = d.per; nm = unit_nm d.unit / d.per }
+    else record { unit = Um; per = 1000; nm = 1 }

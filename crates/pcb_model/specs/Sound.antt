@@ -1,5 +1,6 @@
 -- Sound designs, and the items that fit one.
-use Rattle.std.specs.Prelude.{◌≡◌, ◌≢◌, ◌↔◌, ℕ, ◌≤◌, ◌<◌, ◌^◌, pos, true, List, [], ◌∷◌, length, filter, All, AllPairs, Any, Contains, IfSome, Some, slice_get}
+use Rattle.std.specs.Prelude.{◌≡◌, ◌≢◌, ◌↔◌, ℕ, ◌≤◌, ◌<◌, ◌^◌, pos, true, List, [], ◌∷◌, length, filter, All, AllPairs}
+use Rattle.std.specs.Prelude.{Any, Contains, IfSome, Some, slice_get}
 use Rattle.std.specs.Option.{IsSomeAnd}
 use Rattle.geo_kernel.specs.declared.point.Point.{Point}
 use Rattle.geo_kernel.specs.declared.spine.Spine.TheVariants.{Chain}

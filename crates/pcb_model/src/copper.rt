@@ -40,11 +40,13 @@ pub trait Copper {
 
     /// The item of this id, or None exactly where there is none.
     fn item(&self, id: u64) -> Option<&Item>
-        ensures { MatchOption (option_copied result) (All (λ b. b.id ≡ id → ⊥) (items self.now)) (λ b. Contains (items self.now) b × (b.id ≡ id)) };
+        ensures { MatchOption (option_copied result) (All (λ b. b.id ≡ id → ⊥) (items self.now))
+            (λ b. Contains (items self.now) b × (b.id ≡ id)) };
 
     /// The item of the least id at or above `from`, or None exactly where there is none.
     fn next_item(&self, from: u64) -> Option<&Item>
-        ensures { MatchOption (option_copied result) (All (λ b. b.id < from) (items self.now)) (IsFirstFrom from (items self.now)) };
+        ensures { MatchOption (option_copied result) (All (λ b. b.id < from) (items self.now))
+            (IsFirstFrom from (items self.now)) };
 
     /// The least id at or above `from` of an item that disagrees with `a`, other than the one with the id of `a`,
     /// or None exactly where there is none.
@@ -57,7 +59,8 @@ pub trait Copper {
     ) -> Option<u64>
         requires serves { serves self.now d.now }
         requires a_fits { IsItemFit a.now }
-        ensures finds { Finds (λ b. Agrees d.now a.now b → ⊥) (Agrees d.now a.now) from (Some a.now.id) (items self.now) result }
+        ensures finds { Finds (λ b. Agrees d.now a.now b → ⊥) (Agrees d.now a.now) from (Some a.now.id) (items self.now)
+            result }
         ensures cost { steps.new ≤ steps.old + ticks self.now a.now };
 
     /// The least id at or above `from` of an item that disagrees with what the probe of the net stands for,
@@ -76,7 +79,8 @@ pub trait Copper {
             (items self.now) result }
         ensures cost { steps.new ≤ steps.old + probe_ticks self.now d.now p.now };
 
-    /// Whether some item disagrees with what the probe of the net stands for: the search ends at the first that it meets.
+    /// Whether some item disagrees with what the probe of the net stands for: the search ends at the first that it
+    /// meets.
     fn is_blocked<L: Ledger>(&self, d: &Design, net: u32, p: &Probe, steps: &mut Steps<L>) -> bool
         requires serves { serves self.now d.now }
         requires p_fits { IsProbeFit d.now p.now }

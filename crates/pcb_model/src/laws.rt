@@ -15,5 +15,6 @@ pub fn pairs_are_symmetric()
 
 /// A list has at most one count of the items that disagree with an item.
 pub fn counts_are_unique()
-    ensures { (d : TheDesign) (a : OneItem) (items : List OneItem) (m n : ℕ) → Counts (λ b. Agrees d a b → ⊥) items m → Counts (λ b. Agrees d a b → ⊥) items n → m ≡ n }
+    ensures { (d : TheDesign) (a : OneItem) (items : List OneItem) (m n : ℕ)
+        → Counts (λ b. Agrees d a b → ⊥) items m → Counts (λ b. Agrees d a b → ⊥) items n → m ≡ n }
 {}

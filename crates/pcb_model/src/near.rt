@@ -9,7 +9,8 @@ ghost use Rattle.geo_kernel.specs.Boxes.{IsIn, IsInBox};
 ghost use Rattle.geo_kernel.specs.Moved.{moved_spine};
 ghost use Rattle.pcb_model.specs.Pieces.{moved_piece, wire_piece, pieces_of, metal_of, kind_of};
 ghost use Rattle.pcb_model.specs.Bounds.{IsFit, IsItemFit, IsProbeFit, IsDesignFit};
-ghost use Rattle.pcb_model.specs.Near.{IsPieceIn, IsExtentOf, IsBoxWithin, moved_box_by, Encloses, AreFar, SeparatesAll, IsQueryOf, box_of_points, vertices_of, extent_of};
+ghost use Rattle.pcb_model.specs.Near.{IsPieceIn, IsExtentOf, IsBoxWithin, moved_box_by, Encloses, AreFar};
+ghost use Rattle.pcb_model.specs.Near.{SeparatesAll, IsQueryOf, box_of_points, vertices_of, extent_of};
 
 use crate::probe::{padstack_pieces, probe_kind};
 use crate::rules::{Side, reach_of};

@@ -4,7 +4,9 @@
 ghost use Rattle.std.specs.Prelude.{◌≡◌, ◌+◌, ◌≤◌, ◌^◌, ◌↔◌, IsTrue, true, All};
 ghost use Rattle.pcb_model.specs.Bounds.{HasRulesWithin, IsFit, IsItemFit};
 ghost use Rattle.pcb_model.specs.Rules.{value_of, clearance_of};
-ghost use Rattle.pcb_model.specs.Pairs.{PieceKeeps, KeepsFrom, TouchesSome, PiecesKeep, PieceTouches, PiecesTouch, is_same_net, is_banned as is_banned_by, is_compared as are_compared, must_keep as must_keep_of, must_stay_off as must_stay_off_of, Agrees};
+ghost use Rattle.pcb_model.specs.Pairs.{PieceKeeps, KeepsFrom, TouchesSome, PiecesKeep, PieceTouches, PiecesTouch};
+ghost use Rattle.pcb_model.specs.Pairs.{is_same_net, is_banned as is_banned_by, is_compared as are_compared};
+ghost use Rattle.pcb_model.specs.Pairs.{must_keep as must_keep_of, must_stay_off as must_stay_off_of, Agrees};
 
 use crate::rules::{same_pair, value};
 use crate::{Design, Item, Kind, Metal, Piece, Steps};
@@ -123,7 +125,9 @@ fn keeps(d: &Design, own: u64, a: &Item, b: &Item) -> bool
     requires own_is { own ≡ value_of d.now a.now.net a.now.kind b.now.kind }
     requires a_fits { All IsFit a.now.pieces }
     requires b_fits { All IsFit b.now.pieces }
-    ensures { IsTrue result ↔ (must_keep_of a.now b.now ≡ true → PiecesKeep (clearance_of d.now a.now.net a.now.kind b.now.net b.now.kind) a.now.pieces b.now.pieces) }
+    ensures { IsTrue result
+        ↔ (must_keep_of a.now b.now ≡ true
+        → PiecesKeep (clearance_of d.now a.now.net a.now.kind b.now.net b.now.kind) a.now.pieces b.now.pieces) }
 {
     if must_keep(a, b) {
         let c = own.max(value(d, b.net, a.kind, b.kind));

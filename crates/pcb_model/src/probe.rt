@@ -8,8 +8,10 @@ ghost use Rattle.geo_kernel.specs.Moved.{moved};
 ghost use Rattle.pcb_model.specs.Bounds.{IsDesignFit, IsItemFit, IsFit, IsBoundFit, IsProbeFit};
 ghost use Rattle.pcb_model.specs.Inner.{meets_wires as meet_wires, meets_vias as meet_vias};
 ghost use Rattle.pcb_model.specs.Rules.{value_of, clearance_of, is_kind};
-ghost use Rattle.pcb_model.specs.Pairs.{PieceKeeps, KeepsFrom, PiecesKeep, PieceTouches, TouchesSome, PiecesTouch, is_same_net, Agrees, ProbeAgrees};
-ghost use Rattle.pcb_model.specs.Pieces.{padstack_pieces as padstack_pieces_of, wire_piece, moved_piece, pieces_of, metal_of, kind_of, item_of};
+ghost use Rattle.pcb_model.specs.Pairs.{PieceKeeps, KeepsFrom, PiecesKeep, PieceTouches, TouchesSome, PiecesTouch};
+ghost use Rattle.pcb_model.specs.Pairs.{is_same_net, Agrees, ProbeAgrees};
+ghost use Rattle.pcb_model.specs.Pieces.{padstack_pieces as padstack_pieces_of, wire_piece, moved_piece, pieces_of};
+ghost use Rattle.pcb_model.specs.Pieces.{metal_of, kind_of, item_of};
 ghost use Rattle.pcb_model.specs.Board.{BeginsInEach, AreInside};
 
 use crate::legal::inside_each;
@@ -83,7 +85,8 @@ fn wire_ok(
     requires own_is { own ≡ value_of d.now (Some net) Kind.Wire b.now.kind }
     requires p_fit { IsFit (wire_piece layer width points.now) }
     requires b_fits { IsItemFit b.now }
-    ensures { IsTrue result ↔ Agrees d.now (item_of d.now 0 (Some net) false (Metal.Wire layer width points.now)) b.now }
+    ensures { IsTrue result ↔ Agrees d.now (item_of d.now 0 (Some net) false (Metal.Wire layer width points.now))
+        b.now }
 {
     if wire_must_keep(net, b) {
         let c = own.max(value(d, b.net, Kind::Wire, b.kind));
@@ -169,7 +172,10 @@ fn via_keeps(d: &Design, own: u64, net: u32, ps: &[Piece], at: Point, b: &Item) 
     requires ps_fit { All IsFit ps.now }
     requires moved_fit { All (λ p. IsFit (moved_piece at p)) ps.now }
     requires b_fits { IsItemFit b.now }
-    ensures { IsTrue result ↔ ((not (is_same_net (Some net) b.now.net) && meet_vias b.now.metal) ≡ true → PiecesKeep (clearance_of d.now (Some net) Kind.Via b.now.net b.now.kind) (map (moved_piece at) ps.now) b.now.pieces) }
+    ensures { IsTrue result
+        ↔ ((not (is_same_net (Some net) b.now.net) && meet_vias b.now.metal) ≡ true
+        → PiecesKeep (clearance_of d.now (Some net) Kind.Via b.now.net b.now.kind) (map (moved_piece at) ps.now)
+        b.now.pieces) }
 {
     if via_must_keep(net, b) {
         let c = own.max(value(d, b.net, Kind::Via, b.kind));
@@ -189,7 +195,9 @@ fn via_stays_off(d: &Design, net: u32, ps: &[Piece], at: Point, b: &Item) -> boo
     requires ps_fit { All IsFit ps.now }
     requires moved_fit { All (λ p. IsFit (moved_piece at p)) ps.now }
     requires b_fits { IsItemFit b.now }
-    ensures { IsTrue result ↔ ((not d.now.via_at_smd && is_same_net (Some net) b.now.net && is_kind b.now.kind Kind.Smd) ≡ true → ¬ (PiecesTouch (map (moved_piece at) ps.now) b.now.pieces)) }
+    ensures { IsTrue result
+        ↔ ((not d.now.via_at_smd && is_same_net (Some net) b.now.net && is_kind b.now.kind Kind.Smd) ≡ true
+        → ¬ (PiecesTouch (map (moved_piece at) ps.now) b.now.pieces)) }
 {
     if via_must_stay_off(d, net, b) {
         !moved_touch(ps, at, b.pieces.as_slice())

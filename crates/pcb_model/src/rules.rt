@@ -7,7 +7,8 @@ ghost use Rattle.pcb_model.specs.declared.design.Net.{Net as TheNet};
 ghost use Rattle.pcb_model.specs.declared.design.Typed.{Typed as TheTyped};
 ghost use Rattle.pcb_model.specs.Bounds.{AreRulesWithin, HasRulesWithin};
 ghost use Rattle.pcb_model.specs.Near.{IsSideOf, side_value};
-ghost use Rattle.pcb_model.specs.Rules.{is_kind, is_pair, names_pair, names_one, last_value, typed_value, value_of, clearance_of, width_for, first_present, levels, class_rules, net_rules};
+ghost use Rattle.pcb_model.specs.Rules.{is_kind, is_pair, names_pair, names_one, last_value, typed_value, value_of};
+ghost use Rattle.pcb_model.specs.Rules.{clearance_of, width_for, first_present, levels, class_rules, net_rules};
 
 use crate::{Design, Kind, Net, RuleSet, Typed};
 

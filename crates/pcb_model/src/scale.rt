@@ -3,7 +3,8 @@
 
 ghost use Rattle.std.specs.Prelude.{◌≡◌, ◌<◌, ◌≤◌};
 ghost use Rattle.std.specs.List.{list_all};
-ghost use Rattle.pcb_model.specs.Scale.{is_whole_point, is_whole_spine, is_whole_piece, is_whole_padstack, is_whole_metal, net_width, is_whole_net, is_on_scale, scale_of};
+ghost use Rattle.pcb_model.specs.Scale.{is_whole_point, is_whole_spine, is_whole_piece, is_whole_padstack};
+ghost use Rattle.pcb_model.specs.Scale.{is_whole_metal, net_width, is_whole_net, is_on_scale, scale_of};
 
 use crate::rules::{DEFAULT_WIDTH, width_in_class};
 use crate::{Component, Design, FreeWire, Item, Metal, Net, Piece, SesScale};
@@ -139,8 +140,10 @@ fn has_whole_parts(d: &Design, nm: u64) -> bool
 }
 
 impl SesScale {
-    /// The design's resolution where one of its units is a whole number of nm and all that a session prints of the design
-    /// is whole in it: places, net widths, the wiring and the padstacks of vias. Otherwise 1000 to the micrometre, 1 nm.
+    /// The design's resolution where one of its units is a whole number of nm and all that a session prints of the
+    /// design
+    /// is whole in it: places, net widths, the wiring and the padstacks of vias. Otherwise 1000 to the micrometre,
+    /// 1 nm.
     #[tactic(auto, unfolding(crate::specs::Scale::scale_of))]
     pub fn pick(d: &Design) -> SesScale
         ensures value { result ≡ scale_of d.now }

@@ -1,5 +1,6 @@
 -- A list of ascending lines, split at a number.
-use Rattle.std.proofs.Common.{◌≡◌, ℕ, ℤ, ◌<◌, ◌≤◌, ◌≤ℤ◌, ◌<ℤ◌, List, length, get_or, true, false, true≢false, ◌⊎◌, inl, inr, ⊎_elim, Ordering, refl, sym, ap, ◌∙◌, subst, arith}
+use Rattle.std.proofs.Common.{◌≡◌, ℕ, ℤ, ◌<◌, ◌≤◌, ◌≤ℤ◌, ◌<ℤ◌, List, length, get_or, true, false, true≢false, ◌⊎◌, inl}
+use Rattle.std.proofs.Common.{inr, ⊎_elim, Ordering, refl, sym, ap, ◌∙◌, subst, arith}
 use Prim.Native.Nat.{zero, suc}
 use Rattle.std.specs.Prelude.{int_lt, int_le}
 use Rattle.std.specs.Ordering.{int_cmp, MatchOrdering}
@@ -21,8 +22,12 @@ same_or_more (suc i) zero h = absurd (omega arith)
 same_or_more (suc i) (suc k) h = ⊎_elim (λ e. inl (ap suc e)) (λ l. inr (omega arith)) (same_or_more i k (omega arith))
 
 -- lines ascend
-pub lines_rise : (zs : List ℤ) (i k : ℕ) (d : ℤ) → IsStrictlySortedBy int_cmp zs → i ≤ k → k < length zs → get_or zs i d ≤ℤ get_or zs k d
-lines_rise zs i k d s h l = ⊎_elim (λ e. by (get_or zs i d) (get_or zs k d) (ap (λ n. get_or zs n d) e)) (λ m. let t = less (get_or zs i d) (get_or zs k d) (Less-from_sorted int_cmp zs i k d s m l) in omega (arith, ints)) (same_or_more i k h)
+pub lines_rise : (zs : List ℤ) (i k : ℕ) (d : ℤ) → IsStrictlySortedBy int_cmp zs → i ≤ k → k < length zs
+    → get_or zs i d ≤ℤ get_or zs k d
+lines_rise zs i k d s h l =
+    ⊎_elim (λ e. by (get_or zs i d) (get_or zs k d) (ap (λ n. get_or zs n d) e))
+    (λ m. let t = less (get_or zs i d) (get_or zs k d) (Less-from_sorted int_cmp zs i k d s m l) in omega (arith, ints))
+    (same_or_more i k h)
   where
     by : (x y : ℤ) → x ≡ y → x ≤ℤ y
     by x y e = omega (arith, ints)
@@ -50,13 +55,17 @@ le_tells x y h = sym (true_is_le x y (omega (arith, ints)))
 
 -- lines below a number come first, and so do those up to a number
 pub parted_below : (zs : List ℤ) (low : ℤ) → IsStrictlySortedBy int_cmp zs → IsPartitionedBy (λ z. int_lt z low) zs
-parted_below zs low s i j d h l e = lt_tells (get_or zs i d) low (by (get_or zs i d) (get_or zs j d) low (lines_rise zs i j d s h l) (lt_told (get_or zs j d) low e))
+parted_below zs low s i j d h l e =
+    lt_tells (get_or zs i d) low
+    (by (get_or zs i d) (get_or zs j d) low (lines_rise zs i j d s h l) (lt_told (get_or zs j d) low e))
   where
     by : (x y z : ℤ) → x ≤ℤ y → y <ℤ z → x <ℤ z
     by x y z h k = omega (arith, ints)
 
 pub parted_up_to : (zs : List ℤ) (high : ℤ) → IsStrictlySortedBy int_cmp zs → IsPartitionedBy (λ z. int_le z high) zs
-parted_up_to zs high s i j d h l e = le_tells (get_or zs i d) high (by (get_or zs i d) (get_or zs j d) high (lines_rise zs i j d s h l) (le_told (get_or zs j d) high e))
+parted_up_to zs high s i j d h l e =
+    le_tells (get_or zs i d) high
+    (by (get_or zs i d) (get_or zs j d) high (lines_rise zs i j d s h l) (le_told (get_or zs j d) high e))
   where
     by : (x y z : ℤ) → x ≤ℤ y → y ≤ℤ z → x ≤ℤ z
     by x y z h k = omega (arith, ints)

@@ -1,5 +1,6 @@
 -- What rounding down and up mean: the two sides of a product.
-use Rattle.std.proofs.Common.{◌≡◌, ℕ, zero, suc, ℤ, pos, negsuc, ◌<◌, ◌≤◌, ◌*◌, ◌+ℤ◌, ◌-ℤ◌, ◌*ℤ◌, ◌≤ℤ◌, ◌<ℤ◌, arith, refl, ap, ◌∙◌, unsigned_abs, ◌^◌}
+use Rattle.std.proofs.Common.{◌≡◌, ℕ, zero, suc, ℤ, pos, negsuc, ◌<◌, ◌≤◌, ◌*◌, ◌+ℤ◌, ◌-ℤ◌, ◌*ℤ◌, ◌≤ℤ◌, ◌<ℤ◌, arith}
+use Rattle.std.proofs.Common.{refl, ap, ◌∙◌, unsigned_abs, ◌^◌}
 use Rattle.std.proofs.Math.IntN.{suc_ℤ, suc_ℤ-*ℤ}
 use Rattle.std.proofs.lemmas.Int.{ints, by_lt_z}
 use Rattle.std.proofs.lemmas.Nat.{div-add-mod', mod_below}
@@ -7,10 +8,12 @@ use Rattle.std.proofs.Math.Nat.{mul-le-mul_right}
 use Rattle.route_lattice.specs.Round.{floor_div, ceil_div, nearest}
 
 pub times_le : (n : ℕ) (x y : ℤ) → x ≤ℤ y → (x *ℤ pos n) ≤ℤ (y *ℤ pos n)
-times_le n (pos a) (pos b) h = let k : a ≤ b = omega (arith, ints) in let m = mul-le-mul_right n k in omega (arith, ints)
+times_le n (pos a) (pos b) h = let k : a ≤ b = omega (arith, ints) in let m = mul-le-mul_right n k in
+    omega (arith, ints)
 times_le n (pos a) (negsuc b) h = absurd (omega (arith, ints))
 times_le n (negsuc a) (pos b) h = omega (arith, ints)
-times_le n (negsuc a) (negsuc b) h = let k : b ≤ a = omega (arith, ints) in let m = mul-le-mul_right n k in omega (arith, ints)
+times_le n (negsuc a) (negsuc b) h = let k : b ≤ a = omega (arith, ints) in let m = mul-le-mul_right n k in
+    omega (arith, ints)
 
 one_more : (x : ℤ) → x +ℤ pos 1 ≡ suc_ℤ x
 one_more (pos a) = omega (arith, ints)
@@ -43,7 +46,8 @@ floor_least q z n h k =
     clash f g q z n e a b c = omega (arith, ints)
 
 pub floor_reaches : (q z : ℤ) (n : ℕ) → 0 < n → q ≤ℤ floor_div z n → (q *ℤ pos n) ≤ℤ z
-floor_reaches q z n h k = chain (q *ℤ pos n) (floor_div z n *ℤ pos n) z (times_le n q (floor_div z n) k) (floor_le z n h)
+floor_reaches q z n h k =
+    chain (q *ℤ pos n) (floor_div z n *ℤ pos n) z (times_le n q (floor_div z n) k) (floor_le z n h)
   where
     chain : (a b c : ℤ) → a ≤ℤ b → b ≤ℤ c → a ≤ℤ c
     chain a b c h k = omega (arith, ints)
@@ -95,8 +99,29 @@ nearest_above unit z h =
     by : (x y w : ℤ) → x ≡ y → (w +ℤ pos unit) <ℤ (x +ℤ pos (2 * unit)) → w <ℤ (y +ℤ pos unit)
     by x y w e h = omega (arith, ints)
 
-pub nearest_small : (unit : ℕ) (z : ℤ) → 0 < unit → unit ≤ 2 ^ 29 → unsigned_abs z ≤ 2 ^ 29 → unsigned_abs (nearest unit z) ≤ 2 ^ 30
+pub nearest_small : (unit : ℕ) (z : ℤ) → 0 < unit → unit ≤ 2 ^ 29 → unsigned_abs z ≤ 2 ^ 29
+    → unsigned_abs (nearest unit z) ≤ 2 ^ 30
 nearest_small unit z h k l = by (nearest unit z) (nearest_reaches unit z h) (nearest_above unit z h)
   where
-    by : (r : ℤ) → (pos 2 *ℤ r) ≤ℤ (pos 2 *ℤ z +ℤ pos unit) → (pos 2 *ℤ z) <ℤ (pos 2 *ℤ r +ℤ pos unit) → unsigned_abs r ≤ 2 ^ 30
+    by : (r : ℤ) → (pos 2 *ℤ r) ≤ℤ (pos 2 *ℤ z +ℤ pos unit) → (pos 2 *ℤ z) <ℤ (pos 2 *ℤ r +ℤ pos unit)
+        → unsigned_abs r ≤ 2 ^ 30
     by r a b = omega (arith, ints)
+
+-- the least multiple above
+pub above_small : (z : ℤ) (n : ℕ) → 0 < n → n ≤ 2 ^ 30 → unsigned_abs z ≤ 2 ^ 29
+    → unsigned_abs ((floor_div z n +ℤ pos 1) *ℤ pos n) ≤ 2 ^ 31
+above_small z n h k l =
+    by (floor_div z n *ℤ pos n) ((floor_div z n +ℤ pos 1) *ℤ pos n) (times_more n (floor_div z n)) (floor_le z n h)
+    (floor_above z n h)
+  where
+    by : (f g : ℤ) → g ≡ f +ℤ pos n → f ≤ℤ z → z <ℤ (f +ℤ pos n) → unsigned_abs g ≤ 2 ^ 31
+    by f g e a b = omega (arith, ints, e, a, b, k, l)
+
+-- the least multiple from z on
+pub ceil_small : (z : ℤ) (n : ℕ) → 0 < n → n ≤ 2 ^ 30 → unsigned_abs z ≤ 2 ^ 29
+    → unsigned_abs (ceil_div z n *ℤ pos n) ≤ 2 ^ 31
+ceil_small z n h k l =
+    let w = z +ℤ (pos n -ℤ pos 1) in by (ceil_div z n *ℤ pos n) (floor_le w n h) (floor_above w n h)
+  where
+    by : (g : ℤ) → g ≤ℤ (z +ℤ (pos n -ℤ pos 1)) → (z +ℤ (pos n -ℤ pos 1)) <ℤ (g +ℤ pos n) → unsigned_abs g ≤ 2 ^ 31
+    by g a b = omega (arith, ints, a, b, k, l, h)

@@ -10,6 +10,7 @@ at_get (y ∷ ys) zero x h e = ap Some (sym e)
 at_get (y ∷ ys) (suc i) x h e = at_get ys i x (omega arith) e
 
 -- what f gives of the value is one
-pub one_value : {X Y : Type 0} (f : X → Y) (o : Option X) (a b : Y) → IsSomeAnd o (λ x. f x ≡ a) → IsSomeAnd o (λ x. f x ≡ b) → a ≡ b
+pub one_value : {X Y : Type 0} (f : X → Y) (o : Option X) (a b : Y) → IsSomeAnd o (λ x. f x ≡ a)
+    → IsSomeAnd o (λ x. f x ≡ b) → a ≡ b
 one_value f None a b p q = absurd p
 one_value f (Some x) a b p q = sym p ∙ q

@@ -3,7 +3,8 @@ use Rattle.std.proofs.Common.{◌≡◌, ℕ, ℤ, pos, ◌<◌, ◌≤◌, ◌+
 use Rattle.std.proofs.lemmas.Int.{ints, by_lt_z}
 use Rattle.route_lattice.specs.Round.{floor_div, ceil_div}
 use Rattle.route_lattice.specs.Lines.{IsGridLine, is_grid_line}
-use Rattle.route_lattice.proofs.Floors.{times_le, times_more, floor_le, floor_least, floor_reaches, ceil_least, ceil_reaches}
+use Rattle.route_lattice.proofs.Floors.{times_le, times_more, floor_le, floor_least, floor_reaches, ceil_least}
+use Rattle.route_lattice.proofs.Floors.{ceil_reaches}
 use Rattle.route_lattice.proofs.Sets.{int_eq_exact, int_eq_same}
 
 self : (x : ℤ) → x ≤ℤ x
@@ -39,7 +40,8 @@ pub line_found : (unit grid : ℕ) (x : ℤ) → is_grid_line unit grid x ≡ tr
 line_found unit grid x h = (ceil_div x grid, int_eq_exact _ _ h)
 
 -- the least multiple of the grid that isn't below a line gives the line
-pub line_tested : (unit grid : ℕ) (x : ℤ) → 0 < unit → 0 < grid → IsGridLine unit grid x → is_grid_line unit grid x ≡ true
+pub line_tested : (unit grid : ℕ) (x : ℤ) → 0 < unit → 0 < grid → IsGridLine unit grid x
+    → is_grid_line unit grid x ≡ true
 line_tested unit grid x hu hg (k, e) = int_eq_same _ _ (ap (λ q. q *ℤ pos unit) same ∙ e)
   where
     under : x ≤ℤ (k *ℤ pos grid)
@@ -49,7 +51,9 @@ line_tested unit grid x hu hg (k, e) = int_eq_same _ _ (ap (λ q. q *ℤ pos uni
     first = ceil_least k x grid hg under
 
     low : floor_div (k *ℤ pos grid) unit ≤ℤ floor_div (ceil_div x grid *ℤ pos grid) unit
-    low = floor_least (floor_div (k *ℤ pos grid) unit) (ceil_div x grid *ℤ pos grid) unit hu (subst (λ z. z ≤ℤ (ceil_div x grid *ℤ pos grid)) (sym e) (ceil_reaches (ceil_div x grid) x grid hg (self (ceil_div x grid))))
+    low = floor_least (floor_div (k *ℤ pos grid) unit) (ceil_div x grid *ℤ pos grid) unit hu
+        (subst (λ z. z ≤ℤ (ceil_div x grid *ℤ pos grid)) (sym e)
+        (ceil_reaches (ceil_div x grid) x grid hg (self (ceil_div x grid))))
 
     high : floor_div (ceil_div x grid *ℤ pos grid) unit ≤ℤ floor_div (k *ℤ pos grid) unit
     high = floor_rises (ceil_div x grid *ℤ pos grid) (k *ℤ pos grid) unit hu (times_le grid (ceil_div x grid) k first)
@@ -81,4 +85,5 @@ fine_line unit grid x hg hu (k, e) =
     clash x y z e a b = omega (arith, ints)
 
 pub fine_line_back : (unit grid : ℕ) (x : ℤ) → 0 < unit → IsGridLine unit grid x → IsGridLine unit unit x
-fine_line_back unit grid x hu (k, e) = (floor_div (k *ℤ pos grid) unit, ap (λ q. q *ℤ pos unit) (floor_times (floor_div (k *ℤ pos grid) unit) unit hu) ∙ e)
+fine_line_back unit grid x hu (k, e) =
+    (floor_div (k *ℤ pos grid) unit, ap (λ q. q *ℤ pos unit) (floor_times (floor_div (k *ℤ pos grid) unit) unit hu) ∙ e)

@@ -1,4 +1,7 @@
 pub mod Places
+pub mod Steps
+pub mod Anchoring
+pub mod Numbered
 pub mod Floors
 pub mod Gaining
 pub mod Covering

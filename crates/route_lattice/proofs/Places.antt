@@ -29,7 +29,8 @@ module _ (w h v : ℕ) where
 
 -- a node by its places is below the number of nodes
 pub node_below : (w h n l j i : ℕ) → l < n → j < h → i < w → (l * h + j) * w + i < n * h * w
-node_below w h n l j i hl hj hi = let a = mul-add-lt l h j n hl hj in let b = mul-add-lt (l * h + j) w i (h * n) a hi in omega (arith, b)
+node_below w h n l j i hl hj hi = let a = mul-add-lt l h j n hl hj in let b = mul-add-lt (l * h + j) w i (h * n) a hi in
+    omega (arith, b)
 
 positive : (m a b : ℕ) → (m ≡ 0 → b ≡ 0) → a < b → 0 < m
 positive zero a b z k = let e = z refl in absurd (omega (arith, e))
@@ -49,7 +50,8 @@ row_below w h n v k =
     mod_below (v / w) h (width_positive h n (v / w) a)
 
 pub on_level_below : (w h n l v : ℕ) → l < n → v < n * h * w → (l * h + v / w % h) * w + v % w < n * h * w
-on_level_below w h n l v hl k = node_below w h n l (v / w % h) (v % w) hl (row_below w h n v k) (mod_below v w (width_positive w (n * h) v k))
+on_level_below w h n l v hl k =
+    node_below w h n l (v / w % h) (v % w) hl (row_below w h n v k) (mod_below v w (width_positive w (n * h) v k))
 
 pub rows_below : (w h n l v : ℕ) → l < n → v < n * h * w → l * h + v / w % h < n * h * w
 rows_below w h n l v hl k =

@@ -1,5 +1,6 @@
 -- Ascending lists of whole numbers.
-use Rattle.std.proofs.Common.{◌≡◌, zero, suc, ℤ, ◌<ℤ◌, arith, refl, sym, ap₂, ◌∙◌, subst, List, [], ◌∷◌, true, inl, inr, Ordering}
+use Rattle.std.proofs.Common.{◌≡◌, zero, suc, ℤ, ◌<ℤ◌, arith, refl, sym, ap₂, ◌∙◌, subst, List, [], ◌∷◌, true, inl, inr}
+use Rattle.std.proofs.Common.{Ordering}
 use Rattle.std.specs.Prelude.{◌⊎◌, Contains}
 use Rattle.std.specs.Ordering.{int_cmp, int_eq, MatchOrdering}
 use Rattle.std.specs.Cmp.{int_ranks}
@@ -34,7 +35,8 @@ less x y e = subst (λ (o : Ordering). MatchOrdering o (x <ℤ y) (x ≡ y) (y <
 -- all of xs are above x
 pub all_above : (x y : ℤ) (xs : List ℤ) → AllByRecursion (λ z. int_cmp x z ≡ Less) xs → Contains xs y → x <ℤ y
 all_above x y [] a m = absurd (none_in_empty y m)
-all_above x y (z ∷ zs) a m = elim (first_or_rest z y zs m) [ inl e ↦ subst (λ w. x <ℤ w) e (less x z a.0) | inr k ↦ all_above x y zs a.1 k ]
+all_above x y (z ∷ zs) a m =
+    elim (first_or_rest z y zs m) [ inl e ↦ subst (λ w. x <ℤ w) e (less x z a.0) | inr k ↦ all_above x y zs a.1 k ]
 
 clash : (x y : ℤ) → x <ℤ y → y <ℤ x → ⊥
 clash x y h k = omega (arith, ints)
@@ -54,14 +56,20 @@ same_ascending (x ∷ xs) (y ∷ ys) s t f g = ap₂ (λ z zs. z ∷ zs) e (same
     e : x ≡ y
     e = elim (first_or_rest y x ys (f x (is_first x xs))) [
       | inl p ↦ sym p
-      | inr m ↦ elim (first_or_rest x y xs (g y (is_first y ys))) [ inl p ↦ p | inr n ↦ absurd (clash y x (all_above y x ys t.0 m) (all_above x y xs s.0 n)) ]
+      | inr m ↦ elim (first_or_rest x y xs (g y (is_first y ys))) [
+        | inl p ↦ p
+        | inr n ↦
+            absurd (clash y x (all_above y x ys t.0 m) (all_above x y xs s.0 n))
+      ]
     ]
 
     down : (z : ℤ) → Contains xs z → Contains ys z
-    down z m = elim (first_or_rest y z ys (f z (in_rest x z xs m))) [ inl p ↦ absurd (irrefl x (subst (λ w. x <ℤ w) (sym (e ∙ p)) (all_above x z xs s.0 m))) | inr k ↦ k ]
+    down z m = elim (first_or_rest y z ys (f z (in_rest x z xs m)))
+        [ inl p ↦ absurd (irrefl x (subst (λ w. x <ℤ w) (sym (e ∙ p)) (all_above x z xs s.0 m))) | inr k ↦ k ]
 
     up : (z : ℤ) → Contains ys z → Contains xs z
-    up z m = elim (first_or_rest x z xs (g z (in_rest y z ys m))) [ inl p ↦ absurd (irrefl y (subst (λ w. y <ℤ w) (sym p ∙ e) (all_above y z ys t.0 m))) | inr k ↦ k ]
+    up z m = elim (first_or_rest x z xs (g z (in_rest y z ys m)))
+        [ inl p ↦ absurd (irrefl y (subst (λ w. y <ℤ w) (sym p ∙ e) (all_above y z ys t.0 m))) | inr k ↦ k ]
 
 pub int_eq_exact : (x y : ℤ) → int_eq x y ≡ true → x ≡ y
 int_eq_exact x y h = search (rules, Decides-int_eq)
@@ -70,7 +78,8 @@ pub int_eq_same : (x y : ℤ) → x ≡ y → int_eq x y ≡ true
 int_eq_same x y h = search (rules, Decides-int_eq)
 
 -- a sort and a dedup
-pub ascending_is : (xs ms ys : List ℤ) → IsPermutation xs ms → IsSorted int_cmp ms → ys ≡ dedup int_eq ms → IsAscending xs ys
+pub ascending_is : (xs ms ys : List ℤ) → IsPermutation xs ms → IsSorted int_cmp ms → ys ≡ dedup int_eq ms
+    → IsAscending xs ys
 ascending_is xs ms ys p s e = subst (λ zs. IsAscending xs zs) (sym e) (record {
   ascends = IsStrictlySortedBy-dedup int_cmp_total (λ x y. refl) ms s;
   sound = λ x m. Contains-permutation ms xs x (IsPermutation-sym xs ms p) (Contains-from_dedup int_eq ms x m);

@@ -3,7 +3,8 @@ use Rattle.std.proofs.Common.{◌≡◌, ℕ, ℤ, pos, ◌<◌, ◌≤◌, ◌+
 use Rattle.std.proofs.lemmas.Int.{ints, by_lt_z}
 use Rattle.route_lattice.specs.Round.{floor_div, ceil_div, rounded_down}
 use Rattle.route_lattice.specs.Spans.{IsSpan}
-use Rattle.route_lattice.proofs.Floors.{times_le, times_more, floor_le, floor_above, floor_least, floor_reaches, ceil_least, ceil_reaches}
+use Rattle.route_lattice.proofs.Floors.{times_le, times_more, floor_le, floor_above, floor_least, floor_reaches}
+use Rattle.route_lattice.proofs.Floors.{ceil_least, ceil_reaches}
 
 -- which multiples of the grid, rounded down, lie strictly between low and high
 module _ (unit grid : ℕ) (low high : ℤ) (hu : 0 < unit) (hg : 0 < grid) where
@@ -29,7 +30,8 @@ module _ (unit grid : ℕ) (low high : ℤ) (hu : 0 < unit) (hg : 0 < grid) wher
       let a = times_le unit (floor_div low unit +ℤ pos 1) q h in
       let b = times_more unit (floor_div low unit) in
       let c = floor_above low unit hu in
-      chain (floor_div low unit *ℤ pos unit) ((floor_div low unit +ℤ pos 1) *ℤ pos unit) (q *ℤ pos unit) low (pos unit) b a c
+      chain (floor_div low unit *ℤ pos unit) ((floor_div low unit +ℤ pos 1) *ℤ pos unit) (q *ℤ pos unit) low (pos unit)
+      b a c
     where
       chain : (f g x l u : ℤ) → g ≡ f +ℤ u → g ≤ℤ x → l <ℤ (f +ℤ u) → l <ℤ x
       chain f g x l u e a c = omega (arith, ints)
@@ -56,7 +58,8 @@ module _ (unit grid : ℕ) (low high : ℤ) (hu : 0 < unit) (hg : 0 < grid) wher
 
   span_over : (k : ℤ) → first ≤ℤ k → low <ℤ rounded_down unit (k *ℤ pos grid)
   span_over k h = over (floor_div (k *ℤ pos grid) unit)
-      (floor_least (floor_div low unit +ℤ pos 1) (k *ℤ pos grid) unit hu (ceil_reaches k ((floor_div low unit +ℤ pos 1) *ℤ pos unit) grid hg h))
+      (floor_least (floor_div low unit +ℤ pos 1) (k *ℤ pos grid) unit hu
+      (ceil_reaches k ((floor_div low unit +ℤ pos 1) *ℤ pos unit) grid hg h))
 
   span_below : (k : ℤ) → rounded_down unit (k *ℤ pos grid) <ℤ high → k <ℤ last
   span_below k h = by_lt_z k last (λ l. l)
@@ -77,16 +80,21 @@ module _ (unit grid : ℕ) (low high : ℤ) (hu : 0 < unit) (hg : 0 < grid) wher
       clash x y h k = omega (arith, ints)
 
   pub span_is : IsSpan unit grid low high first last
-  span_is = record { within = λ k a b. (span_above k a, span_below k b); lies = λ k a b. (span_over k a, span_under k b) }
+  span_is = record {
+    within = λ k a b. (span_above k a, span_below k b);
+    lies = λ k a b. (span_over k a, span_under k b);
+  }
 
 -- the lines of greater multiples are greater, where the grid isn't below the unit
-pub line_rises : (unit grid : ℕ) (k : ℤ) → 0 < unit → unit ≤ grid → rounded_down unit (k *ℤ pos grid) <ℤ rounded_down unit ((k +ℤ pos 1) *ℤ pos grid)
+pub line_rises : (unit grid : ℕ) (k : ℤ) → 0 < unit → unit ≤ grid → rounded_down unit (k *ℤ pos grid)
+    <ℤ rounded_down unit ((k +ℤ pos 1) *ℤ pos grid)
 line_rises unit grid k hu hg =
     let q = floor_div (k *ℤ pos grid) unit in
     let a = floor_le (k *ℤ pos grid) unit hu in
     let b = times_more grid k in
     let c = times_more unit q in
-    let d : ((q +ℤ pos 1) *ℤ pos unit) ≤ℤ ((k +ℤ pos 1) *ℤ pos grid) = step (q *ℤ pos unit) ((q +ℤ pos 1) *ℤ pos unit) (k *ℤ pos grid) ((k +ℤ pos 1) *ℤ pos grid) c a b in
+    let d : ((q +ℤ pos 1) *ℤ pos unit) ≤ℤ ((k +ℤ pos 1) *ℤ pos grid) =
+    step (q *ℤ pos unit) ((q +ℤ pos 1) *ℤ pos unit) (k *ℤ pos grid) ((k +ℤ pos 1) *ℤ pos grid) c a b in
     let e = floor_least (q +ℤ pos 1) ((k +ℤ pos 1) *ℤ pos grid) unit hu d in
     let f = times_le unit (q +ℤ pos 1) (floor_div ((k +ℤ pos 1) *ℤ pos grid) unit) e in
     rise (q *ℤ pos unit) ((q +ℤ pos 1) *ℤ pos unit) (rounded_down unit ((k +ℤ pos 1) *ℤ pos grid)) c f

@@ -27,7 +27,8 @@ few_nm Um = omega arith
 
 -- the scale, as its resolution is kept or not
 abbrev scale_at : Design → Bool → SesScale
-scale_at d b = if b then record { unit = d.unit; per = d.per; nm = unit_nm d.unit / d.per } else record { unit = Um; per = 1000; nm = 1 }
+scale_at d b = if b then record { unit = d.unit; per = d.per; nm = unit_nm d.unit / d.per }
+    else record { unit = Um; per = 1000; nm = 1 }
 
 -- a quotient without a remainder isn't 0
 quotient_some : (u per : ℕ) → 0 < u → u % per ≡ 0 → 0 < u / per
@@ -50,7 +51,10 @@ none_left nm n e = grind (arith, nat_tests)
 
 module _ (d : Design) where
   some_kept : (b : Bool) → keeps_resolution d ≡ b → 0 < cond b (unit_nm d.unit / d.per) 1
-  some_kept true e = quotient_some (unit_nm d.unit) d.per (some_nm d.unit) (none_left d.per (unit_nm d.unit) (whole (nat_lt 0 d.per) (is_whole d.per (unit_nm d.unit)) (is_on_scale d (unit_nm d.unit / d.per)) e))
+  some_kept true e =
+      quotient_some (unit_nm d.unit) d.per (some_nm d.unit)
+      (none_left d.per (unit_nm d.unit)
+      (whole (nat_lt 0 d.per) (is_whole d.per (unit_nm d.unit)) (is_on_scale d (unit_nm d.unit / d.per)) e))
   some_kept false e = omega arith
 
   few_kept : (b : Bool) → cond b (unit_nm d.unit / d.per) 1 ≤ 25400000

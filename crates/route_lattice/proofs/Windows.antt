@@ -14,7 +14,8 @@ use Rattle.pcb_model.specs.declared.design.Design.{Design}
 use Rattle.route_lattice.specs.declared.found.Window.{Window}
 use Rattle.route_lattice.specs.Mesh.{Mesh, node_count, column, row, level, point_of}
 use Rattle.route_lattice.specs.Anchors.{IsAnchorOf, AreAnchorsOf, rounded}
-use Rattle.route_lattice.specs.Found.{Gains, IsAnchorNode, IsInWindow, IsWindowOf, IsWindowIn, IsAnchorIn, IsAnchorAlong, AreSorted, box_between}
+use Rattle.route_lattice.specs.Found.{Gains, IsAnchorNode, IsInWindow, IsWindowOf, IsWindowIn, IsAnchorIn}
+use Rattle.route_lattice.specs.Found.{IsAnchorAlong, AreSorted, box_between}
 use Rattle.route_lattice.proofs.Covering.{on_chain, at_itself}
 use Rattle.route_lattice.proofs.Gets.{one_value}
 use Rattle.route_lattice.proofs.Places.{back, width_positive, level_below, row_below}
@@ -23,10 +24,12 @@ pub column_below : (m : Mesh) (v : ℕ) → v < node_count m → column m v < le
 column_below m v h = mod_below v (length m.xs) (width_positive (length m.xs) (length m.layers * length m.ys) v h)
 
 -- a node in a box is in the window of the box
-pub in_window : (d : Design) (m : Mesh) (item : Item) (w : Window) (a b : Point) (v : ℕ) → IsWindowOf m (box_between a b) w → IsAnchorIn d m item a b v → IsInWindow d m item w v
+pub in_window : (d : Design) (m : Mesh) (item : Item) (w : Window) (a b : Point) (v : ℕ)
+    → IsWindowOf m (box_between a b) w → IsAnchorIn d m item a b v → IsInWindow d m item w v
 in_window d m item w a b v o h =
     let i = o.columns.complete (column m v) (column_below m v h.node) h.is_in.left h.is_in.right in
-    let j = o.rows.complete (row m v) (row_below (length m.xs) (length m.ys) (length m.layers) v h.node) h.is_in.bottom h.is_in.top in
+    let j = o.rows.complete (row m v) (row_below (length m.xs) (length m.ys) (length m.layers) v h.node) h.is_in.bottom
+    h.is_in.top in
     record {
       index = level m v;
       from = omega arith;
@@ -51,7 +54,9 @@ pub window_in : (m : Mesh) (a b : Point) (w : Window) → IsWindowOf m (box_betw
 window_in m a b w o = record { columns = o.columns.within; rows = o.rows.within }
 
 -- what was gained from nothing, in order
-pub anchors_are : (d : Design) (m : Mesh) (item : Item) (found nodes : List ℕ) → Gains (IsAnchorNode d m item) (IsAnchorNode d m item) [] found → AreSorted found nodes → AreAnchorsOf d m item nodes
+pub anchors_are : (d : Design) (m : Mesh) (item : Item) (found nodes : List ℕ)
+    → Gains (IsAnchorNode d m item) (IsAnchorNode d m item) [] found → AreSorted found nodes
+    → AreAnchorsOf d m item nodes
 anchors_are d m item found nodes g s = record {
   ascends = s.ascends;
   exact = λ v. (
@@ -65,21 +70,30 @@ module _ (d : Design) (m : Mesh) (item : Item) (v : ℕ) (h : IsAnchorNode d m i
   is_anchor : (x : Metal) → item.metal ≡ x → IsAnchorOf d x (point_of m v)
   is_anchor x e = let M : Metal → Type 0 = λ y. IsAnchorOf d y (point_of m v) in subst M e h.anchors.is_anchor
 
-  pub along : (layer width : ℕ) (chain : List Point) → item.metal ≡ Wire layer width chain → IsAnchorAlong d m item chain v
+  pub along : (layer width : ℕ) (chain : List Point) → item.metal ≡ Wire layer width chain
+      → IsAnchorAlong d m item chain v
   along layer width chain e =
       let on = on_chain (point_of m v) chain (is_anchor (Wire layer width chain) e) in
-      record { index = on.0; from = omega arith; below = on.1; holds = record { node = h.node; is_in = on.2; anchors = h.anchors } }
+      record {
+        index = on.0;
+        from = omega arith;
+        below = on.1;
+        holds = record { node = h.node; is_in = on.2; anchors = h.anchors };
+      }
 
   at_point : (at : Point) → at ≡ point_of m v → IsAnchorIn d m item at at v
-  at_point at e = record { node = h.node; is_in = subst (IsIn (box_between at at)) e (at_itself at); anchors = h.anchors }
+  at_point at e =
+      record { node = h.node; is_in = subst (IsIn (box_between at at)) e (at_itself at); anchors = h.anchors }
 
   pub at_via : (padstack : ℕ) (at : Point) → item.metal ≡ Via padstack at → IsAnchorIn d m item at at v
   at_via padstack at e = at_point at (is_anchor (Via padstack at) e)
 
-  pub at_pad : (pin unit : ℕ) (at : Point) → item.metal ≡ Pad pin → unit ≡ (scale_of d).nm → IsSomeAnd (slice_get d.pins pin) (λ (q : Pin). rounded unit q.centre ≡ at) → IsAnchorIn d m item at at v
+  pub at_pad : (pin unit : ℕ) (at : Point) → item.metal ≡ Pad pin → unit ≡ (scale_of d).nm
+      → IsSomeAnd (slice_get d.pins pin) (λ (q : Pin). rounded unit q.centre ≡ at) → IsAnchorIn d m item at at v
   at_pad pin unit at e u is =
       let At : ℕ → Type 0 = λ n. IsSomeAnd (slice_get d.pins pin) (λ (q : Pin). rounded n q.centre ≡ at) in
-      at_point at (one_value (λ (q : Pin). rounded (scale_of d).nm q.centre) (slice_get d.pins pin) at (point_of m v) (subst At u is) (is_anchor (Pad pin) e))
+      at_point at (one_value (λ (q : Pin). rounded (scale_of d).nm q.centre) (slice_get d.pins pin) at (point_of m v)
+      (subst At u is) (is_anchor (Pad pin) e))
 
   pub at_ban : (wires vias : Bool) → item.metal ≡ Ban wires vias → ⊥
   at_ban wires vias e = is_anchor (Ban wires vias) e

@@ -25,14 +25,16 @@ pub record Holds (layer : ℕ) (p : Point) (q : Piece) : Type 0 where
   pub on_layer : q.layer ≡ layer
   pub covers : Covers p q
 
--- a wire is anchored on its spine, a via at its centre, a pad at its pin's centre, rounded to the unit of the session; a ban nowhere
+-- a wire is anchored on its spine, a via at its centre, a pad at its pin's centre, rounded to the unit of the session;
+-- a ban nowhere
 abbrev pub IsAnchorOf : Design → Metal → Point → Type 0
 IsAnchorOf d (Wire layer width chain) p = IsOnSpine p (Chain chain)
 IsAnchorOf d (Via padstack at) p = at ≡ p
 IsAnchorOf d (Pad pin) p = IsSomeAnd (slice_get d.pins pin) (λ (q : Pin). rounded (scale_of d).nm q.centre ≡ p)
 IsAnchorOf d (Ban wires vias) p = ⊥
 
--- a node anchors an item where its point lies in the item's copper on the node's layer, and is an anchor of the item's metal
+-- a node anchors an item where its point lies in the item's copper on the node's layer, and is an anchor of the item's
+-- metal
 pub record Anchors (d : Design) (m : Mesh) (node : ℕ) (item : Item) : Type 0 where
   pub in_copper : Any (Holds (layer_of m node) (point_of m node)) item.pieces
   pub is_anchor : IsAnchorOf d item.metal (point_of m node)

@@ -7,7 +7,8 @@ use Rattle.pcb_model.specs.Scale.{scale_of}
 use Rattle.pcb_model.specs.Board.{IsSignal}
 use Rattle.route_lattice.specs.Mesh.{Mesh, node_count}
 
--- its unit is that of the design's session; its lines ascend, within 2^29; its layers are signal layers of the design; it has at most 2^24 nodes
+-- its unit is that of the design's session; its lines ascend, within 2^29; its layers are signal layers of the design;
+-- it has at most 2^24 nodes
 pub record FitsDesign (d : Design) (m : Mesh) : Type 0 where
   pub unit_is : m.unit ≡ (scale_of d).nm
   pub some_unit : 0 < m.unit

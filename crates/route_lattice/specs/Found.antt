@@ -60,7 +60,8 @@ IsInWindow d m item w = AtSome (λ l. IsOnLevel d m item w l) 0 (length m.layers
 -- the places of all lines between two numbers are from first to below last
 pub record AreBetween (lines : List ℤ) (low high : ℤ) (first last : ℕ) : Type 0 where
   pub within : last ≤ length lines
-  pub complete : (i : ℕ) → i < length lines → low ≤ℤ slice_index_or lines i (pos 0) → slice_index_or lines i (pos 0) ≤ℤ high → (first ≤ i) × (i < last)
+  pub complete : (i : ℕ) → i < length lines → low ≤ℤ slice_index_or lines i (pos 0)
+      → slice_index_or lines i (pos 0) ≤ℤ high → (first ≤ i) × (i < last)
 
 -- all lines that cross a box
 pub record IsWindowOf (m : Mesh) (r : Rect4) (w : Window) : Type 0 where

@@ -45,8 +45,10 @@ coordinate upright p = if upright then p.y else p.x
 
 -- the coordinates of the anchors of all pins with a net: their centres, rounded to the session unit
 abbrev pub anchors_of : ℕ → Bool → List Pin → List ℤ
-anchors_of unit upright pins = map (λ (p : Pin). nearest unit (coordinate upright p.centre)) (filter (λ (p : Pin). is_some p.net) pins)
+anchors_of unit upright pins =
+    map (λ (p : Pin). nearest unit (coordinate upright p.centre)) (filter (λ (p : Pin). is_some p.net) pins)
 
 -- the numbers of the signal layers, ascending
 abbrev pub signals_of : List BoardLayer → List ℕ
-signals_of layers = map (λ (q : ℕ × BoardLayer). q.0) (filter (λ (q : ℕ × BoardLayer). not q.1.power) (enumerate_from 0 layers))
+signals_of layers =
+    map (λ (q : ℕ × BoardLayer). q.0) (filter (λ (q : ℕ × BoardLayer). not q.1.power) (enumerate_from 0 layers))

@@ -1,5 +1,6 @@
 -- The lines of one direction.
-use Rattle.std.specs.Prelude.{◌≡◌, ℕ, zero, suc, ℤ, pos, ◌+ℤ◌, ◌*ℤ◌, ◌<ℤ◌, List, [], ◌∷◌, filter, Bool, ◌||◌, ◌⊎◌, Contains}
+use Rattle.std.specs.Prelude.{◌≡◌, ℕ, zero, suc, ℤ, pos, ◌+ℤ◌, ◌*ℤ◌, ◌<ℤ◌, List, [], ◌∷◌, filter, Bool, ◌||◌, ◌⊎◌}
+use Rattle.std.specs.Prelude.{Contains}
 use Rattle.std.specs.Ordering.{int_eq, int_cmp}
 use Rattle.std.specs.List.Sorted.{IsStrictlySortedBy}
 use Rattle.std.specs.List.{list_any}
@@ -36,4 +37,5 @@ abbrev pub is_grid_line : ℕ → ℕ → ℤ → Bool
 is_grid_line unit grid x = int_eq (rounded_down unit (ceil_div x grid *ℤ pos grid)) x
 
 abbrev pub line_list : ℕ → ℕ → ℤ → ℤ → List ℤ → List ℤ
-line_list unit grid low high anchors = filter (λ x. is_grid_line unit grid x || list_any (λ a. int_eq a x) anchors) (between low high)
+line_list unit grid low high anchors =
+    filter (λ x. is_grid_line unit grid x || list_any (λ a. int_eq a x) anchors) (between low high)

@@ -1,5 +1,6 @@
 -- What the private functions of `lines` and `axis` give: spans of multiples of the grid, and the anchors beside them.
-use Rattle.std.specs.Prelude.{◌≡◌, ℕ, ℤ, pos, ◌*ℤ◌, ◌<ℤ◌, ◌≤ℤ◌, ◌*◌, ◌^◌, ◌≤◌, ◌<◌, unsigned_abs, int_lt, List, length, filter, Bool, ◌&&◌, not, Contains}
+use Rattle.std.specs.Prelude.{◌≡◌, ℕ, ℤ, pos, ◌*ℤ◌, ◌<ℤ◌, ◌≤ℤ◌, ◌*◌, ◌^◌, ◌≤◌, ◌<◌, unsigned_abs, int_lt, List, length}
+use Rattle.std.specs.Prelude.{filter, Bool, ◌&&◌, not, Contains}
 use Rattle.std.specs.Ordering.{int_cmp}
 use Rattle.std.specs.List.Sorted.{IsStrictlySortedBy}
 use Rattle.route_lattice.specs.declared.lines.Ruler.{Ruler}
@@ -21,10 +22,13 @@ pub record IsRulerFit (r : Ruler) : Type 0 where
 abbrev pub line_of : ℕ → ℕ → ℤ → ℤ
 line_of unit grid k = rounded_down unit (k *ℤ pos grid)
 
--- of the multiples of the grid those from the first to below the last lie, rounded down, strictly between low and high, and no others
+-- of the multiples of the grid those from the first to below the last lie, rounded down, strictly between low and high,
+-- and no others
 pub record IsSpan (unit grid : ℕ) (low high first last : ℤ) : Type 0 where
-  pub within : (k : ℤ) → low <ℤ rounded_down unit (k *ℤ pos grid) → rounded_down unit (k *ℤ pos grid) <ℤ high → (first ≤ℤ k) × (k <ℤ last)
-  pub lies : (k : ℤ) → first ≤ℤ k → k <ℤ last → (low <ℤ rounded_down unit (k *ℤ pos grid)) × (rounded_down unit (k *ℤ pos grid) <ℤ high)
+  pub within : (k : ℤ) → low <ℤ rounded_down unit (k *ℤ pos grid) → rounded_down unit (k *ℤ pos grid) <ℤ high
+      → (first ≤ℤ k) × (k <ℤ last)
+  pub lies : (k : ℤ) → first ≤ℤ k → k <ℤ last → (low <ℤ rounded_down unit (k *ℤ pos grid))
+      × (rounded_down unit (k *ℤ pos grid) <ℤ high)
 
 -- ys has the numbers of xs, ascending, each once
 pub record IsAscending (xs ys : List ℤ) : Type 0 where
@@ -56,4 +60,5 @@ pub record IsAxisFit (a : Axis) : Type 0 where
 -- an axis with the lines of a ruler and anchors: its others are the anchors that are no lines of its grid
 pub record IsAxisOf (r : Ruler) (anchors : List ℤ) (a : Axis) : Type 0 where
   pub beside : IsAscending (filter (is_other a.ruler.unit a.ruler.grid a.ruler.low a.ruler.high) anchors) a.others
-  pub same : line_list a.ruler.unit a.ruler.grid a.ruler.low a.ruler.high anchors ≡ line_list r.unit r.grid r.low r.high anchors
+  pub same : line_list a.ruler.unit a.ruler.grid a.ruler.low a.ruler.high anchors
+      ≡ line_list r.unit r.grid r.low r.high anchors

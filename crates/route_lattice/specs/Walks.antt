@@ -16,9 +16,11 @@ pub record MoveGraph : Type 1 where
 -- what a search asks of the nodes and moves
 pub record IsSound (graph : MoveGraph) : Type 0 where
   pub nodes : graph.count ≤ 2 ^ 24 + 1
-  pub leads : (node i : ℕ) (m : Move) (to : ℕ) → node < graph.count → i < graph.arity → graph.at node i ≡ Some (m, to) → to < graph.count
+  pub leads : (node i : ℕ) (m : Move) (to : ℕ) → node < graph.count → i < graph.arity → graph.at node i ≡ Some (m, to)
+      → to < graph.count
   pub small_price : (node i p : ℕ) → node < graph.count → i < graph.arity → graph.priced node i p → p ≤ 2 ^ 35
-  pub one_price : (node i p q : ℕ) → node < graph.count → i < graph.arity → graph.priced node i p → graph.priced node i q → p ≡ q
+  pub one_price : (node i p q : ℕ) → node < graph.count → i < graph.arity → graph.priced node i p
+      → graph.priced node i q → p ≡ q
 
 -- one move of a walk: its index at the node that it leaves, what it is, where it leads, and what it costs
 pub record Hop : Type 0 where
@@ -68,7 +70,8 @@ pub record IsWalk (graph : MoveGraph) (starts goals : List ℕ) (w : Walk) : Typ
 
 -- no walk from a start to a goal costs less than p
 abbrev pub NoneCostsLess : MoveGraph → List ℕ → List ℕ → ℕ → Type 0
-NoneCostsLess graph starts goals p = (s : ℕ) (hs : List Hop) (g : ℕ) → Contains starts s → Contains goals g → Leads graph s hs g → p ≤ cost hs
+NoneCostsLess graph starts goals p =
+    (s : ℕ) (hs : List Hop) (g : ℕ) → Contains starts s → Contains goals g → Leads graph s hs g → p ≤ cost hs
 
 -- w is a walk from a start to a goal, no such walk costs less, and its price is below 2^60
 pub record IsLeastWalk (graph : MoveGraph) (starts goals : List ℕ) (w : Walk) : Type 0 where
@@ -78,7 +81,8 @@ pub record IsLeastWalk (graph : MoveGraph) (starts goals : List ℕ) (w : Walk) 
 
 -- no walk leads from a start to a goal
 abbrev pub NoneLeads : MoveGraph → List ℕ → List ℕ → Type 0
-NoneLeads graph starts goals = (s : ℕ) (hs : List Hop) (g : ℕ) → Contains starts s → Contains goals g → Leads graph s hs g → ⊥
+NoneLeads graph starts goals =
+    (s : ℕ) (hs : List Hop) (g : ℕ) → Contains starts s → Contains goals g → Leads graph s hs g → ⊥
 
 -- the nodes are, in ascending order, exactly those that open moves reach from the starts
 pub record IsReach (graph : MoveGraph) (starts nodes : List ℕ) : Type 0 where

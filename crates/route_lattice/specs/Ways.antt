@@ -1,5 +1,6 @@
 -- The moves of a net at a node.
-use Rattle.std.specs.Prelude.{ℕ, ◌+◌, ◌-◌, ◌*◌, ◌/◌, ◌%◌, List, [], length, slice_index, slice_get, Bool, not, ◌&&◌, cond, nat_lt, ◌==◌, Option, Some, None}
+use Rattle.std.specs.Prelude.{ℕ, ◌+◌, ◌-◌, ◌*◌, ◌/◌, ◌%◌, List, [], length, slice_index, slice_get, Bool, not, ◌&&◌}
+use Rattle.std.specs.Prelude.{cond, nat_lt, ◌==◌, Option, Some, None}
 use Rattle.std.specs.List.{list_any}
 use Rattle.geo_kernel.specs.declared.point.Point.{Point}
 use Rattle.pcb_model.specs.declared.item.Piece.{Piece}
@@ -40,7 +41,8 @@ can_join ps at from to = not (from == to) && (has_copper ps from && (has_copper 
 abbrev pub via_at : Design → Mesh → ℕ → ℕ → ℕ → Option (Move × ℕ)
 via_at d m v p t =
     let to = slice_index m.layers t in
-    cond (can_join (padstack_pieces d p) (point_of m v) (layer_of m v) to) (Some (Via p to, node_at m t (row m v) (column m v))) None
+    cond (can_join (padstack_pieces d p) (point_of m v) (layer_of m v) to)
+    (Some (Via p to, node_at m t (row m v) (column m v))) None
 
 -- move i of a node: from 4 on, for each via of the net's list, one number for each signal layer
 abbrev pub way : Design → Mesh → ℕ → ℕ → ℕ → Option (Move × ℕ)

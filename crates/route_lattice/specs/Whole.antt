@@ -1,5 +1,6 @@
 -- The lattice of a design and a grid, when it has too many nodes, and the default grid.
-use Rattle.std.specs.Prelude.{◌≡◌, ℕ, zero, suc, ◌*◌, ◌≤◌, ◌<◌, ◌^◌, List, [], ◌∷◌, nat_le, true, false, Result, Ok, Err, unwrap_or}
+use Rattle.std.specs.Prelude.{◌≡◌, ℕ, zero, suc, ◌*◌, ◌≤◌, ◌<◌, ◌^◌, List, [], ◌∷◌, nat_le, true, false, Result, Ok}
+use Rattle.std.specs.Prelude.{Err, unwrap_or}
 use Rattle.std.specs.List.{find}
 use Rattle.pcb_model.specs.declared.design.Design.{Design}
 use Rattle.route_lattice.specs.declared.make.LatticeFault.{LatticeFault}
@@ -31,4 +32,5 @@ doublings (suc n) grid = grid ∷ doublings n (2 * grid)
 
 -- the first of 100, 200, 400 .. 204,800 um whose lattice has at most 2^22 nodes, else 409,600 um; in nm
 unfoldable pub default_grid : Design → ℕ
-default_grid d = unwrap_or (find (λ grid. nat_le (node_count (lattice_of d grid)) (2 ^ 22)) (doublings 12 100000)) 409600000
+default_grid d =
+    unwrap_or (find (λ grid. nat_le (node_count (lattice_of d grid)) (2 ^ 22)) (doublings 12 100000)) 409600000

@@ -23,7 +23,8 @@ fn coarsened(r: Ruler) -> Ruler
     requires { IsRulerFit r }
     ensures fit { IsRulerFit result }
     ensures coarse { result.unit ≤ result.grid }
-    ensures same { (anchors : Seq ℤ) → line_list result.unit result.grid result.low result.high anchors ≡ line_list r.unit r.grid r.low r.high anchors }
+    ensures same { (anchors : Seq ℤ) → line_list result.unit result.grid result.low result.high anchors
+        ≡ line_list r.unit r.grid r.low r.high anchors }
 {
     if r.grid < r.unit {
         return Ruler {
@@ -56,7 +57,8 @@ pub(crate) fn axis_of(alloc: Global, r: Ruler, anchors: &[i64]) -> Result<Axis, 
 /// How many lines there are, without a list of them.
 pub(crate) fn axis_len(a: &Axis) -> u64
     requires { IsAxisFit a.now }
-    ensures value { (r : TheRuler) (anchors : Seq ℤ) → IsAxisOf r anchors a.now → result ≡ length (line_list r.unit r.grid r.low r.high anchors) }
+    ensures value { (r : TheRuler) (anchors : Seq ℤ) → IsAxisOf r anchors a.now
+        → result ≡ length (line_list r.unit r.grid r.low r.high anchors) }
     ensures small { result ≤ 2 ^ 34 }
 {
     span_len(a.span) + a.others.len() as u64
@@ -65,7 +67,8 @@ pub(crate) fn axis_len(a: &Axis) -> u64
 /// All lines, ascending.
 pub(crate) fn axis_lines(alloc: Global, a: &Axis) -> Result<List<i64>, AllocError>
     requires { IsAxisFit a.now }
-    ensures { (r : TheRuler) (anchors : Seq ℤ) → IsAxisOf r anchors a.now → IfOk result (λ xs. xs ≡ line_list r.unit r.grid r.low r.high anchors) }
+    ensures { (r : TheRuler) (anchors : Seq ℤ) → IsAxisOf r anchors a.now
+        → IfOk result (λ xs. xs ≡ line_list r.unit r.grid r.low r.high anchors) }
 {
     lines_of(alloc, a.ruler, a.span, a.others.as_slice())
 }

@@ -8,7 +8,9 @@ ghost use Rattle.pcb_model.specs.Copper.{Ascends};
 ghost use Rattle.pcb_model.specs.Sound.{IsSound, IsItemOf};
 ghost use Rattle.route_lattice.specs.Fits.{FitsDesign};
 ghost use Rattle.route_lattice.specs.Anchors.{AreAnchorsOf, AreAnchorsAmong};
-ghost use Rattle.route_lattice.specs.Found.{Gains, IsAnchorNode, IsAnchorWithId, IsAnchorAt, IsInRow, IsOnLevel, IsInWindow, IsWindowOf, IsWindowIn, IsAnchorIn, IsAnchorAlong, AreSorted, box_between as the_box_between};
+ghost use Rattle.route_lattice.specs.Found.{Gains, IsAnchorNode, IsAnchorWithId, IsAnchorAt, IsInRow, IsOnLevel};
+ghost use Rattle.route_lattice.specs.Found.{IsInWindow, IsWindowOf, IsWindowIn, IsAnchorIn, IsAnchorAlong};
+ghost use Rattle.route_lattice.specs.Found.{AreSorted, box_between as the_box_between};
 
 use crate::anchor::pin_anchor;
 use crate::mesh::Lattice;
@@ -82,7 +84,9 @@ fn push_node(
     requires level { level < length lat.now.layers }
     requires row { row < length lat.now.ys }
     requires column { column < length lat.now.xs }
-    ensures { OnOk result (Gains (IsAnchorAt d.now lat.now item.now level row column) (IsAnchorNode d.now lat.now item.now) found.old.items found.new.items) }
+    ensures { OnOk result
+        (Gains (IsAnchorAt d.now lat.now item.now level row column) (IsAnchorNode d.now lat.now item.now)
+        found.old.items found.new.items) }
 {
     let node = lat.node(level, row, column);
     if !lat.anchor(d, node, item) {
@@ -107,7 +111,9 @@ fn push_row(
     requires window { IsWindowIn lat.now w }
     requires level { level < length lat.now.layers }
     requires row { row < length lat.now.ys }
-    ensures { OnOk result (Gains (IsInRow d.now lat.now item.now w level row) (IsAnchorNode d.now lat.now item.now) found.old.items found.new.items) }
+    ensures { OnOk result
+        (Gains (IsInRow d.now lat.now item.now w level row) (IsAnchorNode d.now lat.now item.now) found.old.items
+        found.new.items) }
 {
     for column in w.left..w.right {
         push_node(found, lat, d, item, level, row, column)?;
@@ -128,7 +134,9 @@ fn push_level(
     requires item { IsItemOf d.now item.now }
     requires window { IsWindowIn lat.now w }
     requires level { level < length lat.now.layers }
-    ensures { OnOk result (Gains (IsOnLevel d.now lat.now item.now w level) (IsAnchorNode d.now lat.now item.now) found.old.items found.new.items) }
+    ensures { OnOk result
+        (Gains (IsOnLevel d.now lat.now item.now w level) (IsAnchorNode d.now lat.now item.now) found.old.items
+        found.new.items) }
 {
     for row in w.bottom..w.top {
         push_row(found, lat, d, item, w, level, row)?;
@@ -147,7 +155,9 @@ fn push_window(
     requires fits { FitsDesign d.now lat.now }
     requires item { IsItemOf d.now item.now }
     requires window { IsWindowIn lat.now w }
-    ensures { OnOk result (Gains (IsInWindow d.now lat.now item.now w) (IsAnchorNode d.now lat.now item.now) found.old.items found.new.items) }
+    ensures { OnOk result
+        (Gains (IsInWindow d.now lat.now item.now w) (IsAnchorNode d.now lat.now item.now) found.old.items
+        found.new.items) }
 {
     for level in 0..lat.layers().len() {
         push_level(found, lat, d, item, w, level)?;
@@ -167,7 +177,9 @@ fn push_between(
     requires sound { IsSound d.now }
     requires fits { FitsDesign d.now lat.now }
     requires item { IsItemOf d.now item.now }
-    ensures { OnOk result (Gains (IsAnchorIn d.now lat.now item.now a b) (IsAnchorNode d.now lat.now item.now) found.old.items found.new.items) }
+    ensures { OnOk result
+        (Gains (IsAnchorIn d.now lat.now item.now a b) (IsAnchorNode d.now lat.now item.now) found.old.items
+        found.new.items) }
 {
     let w = window_of(lat, box_between(a, b));
     push_window(found, lat, d, item, w)
@@ -184,7 +196,9 @@ fn push_along(
     requires sound { IsSound d.now }
     requires fits { FitsDesign d.now lat.now }
     requires item { IsItemOf d.now item.now }
-    ensures { OnOk result (Gains (IsAnchorAlong d.now lat.now item.now chain.now) (IsAnchorNode d.now lat.now item.now) found.old.items found.new.items) }
+    ensures { OnOk result
+        (Gains (IsAnchorAlong d.now lat.now item.now chain.now) (IsAnchorNode d.now lat.now item.now)
+        found.old.items found.new.items) }
 {
     for k in 0..chain.len() {
         push_between(found, lat, d, item, chain[k.saturating_sub(1)], chain[k])?;
@@ -202,7 +216,9 @@ fn push_anchors(
     requires sound { IsSound d.now }
     requires fits { FitsDesign d.now lat.now }
     requires item { IsItemOf d.now item.now }
-    ensures { OnOk result (Gains (IsAnchorNode d.now lat.now item.now) (IsAnchorNode d.now lat.now item.now) found.old.items found.new.items) }
+    ensures { OnOk result
+        (Gains (IsAnchorNode d.now lat.now item.now) (IsAnchorNode d.now lat.now item.now) found.old.items
+        found.new.items) }
 {
     match &item.metal {
         Metal::Wire { chain, .. } => push_along(found, lat, d, item, chain.as_slice()),
@@ -227,7 +243,9 @@ fn push_of_id<C: Copper>(
     requires fits { FitsDesign d.now lat.now }
     requires serves { C.serves c.now d.now }
     requires in_order { Ascends (C.items c.now) }
-    ensures { OnOk result (Gains (IsAnchorWithId d.now lat.now (C.items c.now) id) (IsAnchorWithId d.now lat.now (C.items c.now) id) found.old.items found.new.items) }
+    ensures { OnOk result
+        (Gains (IsAnchorWithId d.now lat.now (C.items c.now) id) (IsAnchorWithId d.now lat.now (C.items c.now) id)
+        found.old.items found.new.items) }
 {
     match c.item(id) {
         Some(item) => push_anchors(found, lat, d, item),

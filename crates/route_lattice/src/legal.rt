@@ -1,7 +1,8 @@
 //! The legal moves of a net on some copper: those whose wire or via agrees with all items and lies inside.
 //! The disc of the net's width says of a node alone whether a walk may start or end there.
 
-ghost use Rattle.std.specs.Prelude.{◌≡◌, ◌↔◌, ◌<◌, ◌≤◌, ◌^◌, ℕ, List as Seq, All, Contains, IsTrue, IfOk, IfSome, length};
+ghost use Rattle.std.specs.Prelude.{◌≡◌, ◌↔◌, ◌<◌, ◌≤◌, ◌^◌, ℕ, List as Seq, All, Contains, IsTrue, IfOk, IfSome};
+ghost use Rattle.std.specs.Prelude.{length};
 ghost use Rattle.std.specs.Bool.{OnTrue, OnFalse};
 ghost use Rattle.geo_kernel.specs.Plane.{IsWithin};
 ghost use Rattle.pcb_model.specs.declared.item.Item.{Item as OneItem};
@@ -14,7 +15,8 @@ ghost use Rattle.route_lattice.specs.Walks.{IsSound as IsGraphSound};
 ghost use Rattle.route_lattice.specs.Mesh.{Mesh, node_count, point_of};
 ghost use Rattle.route_lattice.specs.Fits.{FitsDesign};
 ghost use Rattle.route_lattice.specs.Ways.{way_count};
-ghost use Rattle.route_lattice.specs.Legal.{IsLegalProbe, IsLegalNode, probe_of, probe_at, move_price, way_between as way_between_points, legal_graph, CanMove, AreThoseOf};
+ghost use Rattle.route_lattice.specs.Legal.{IsLegalProbe, IsLegalNode, probe_of, probe_at, move_price};
+ghost use Rattle.route_lattice.specs.Legal.{way_between as way_between_points, legal_graph, CanMove, AreThoseOf};
 
 use crate::mesh::Lattice;
 use crate::moves::{Move, Moves};
@@ -173,7 +175,8 @@ impl<'a, C: Copper> LegalMoves<'a, C> {
         }
     }
 
-    /// What a move of a node lays: a wire of the net's width to the next node, or a via; None where the node has no such move.
+    /// What a move of a node lays: a wire of the net's width to the next node, or a via; None where the node has no
+    /// such move.
     pub fn probe(&self, node: u32, i: u32) -> Option<Probe>
         requires can_move { CanMove self.now.d.now self.now.lat.now self.now.net self.now.via_cost }
         requires node { node < node_count self.now.lat.now }
@@ -232,5 +235,6 @@ impl<C: Copper> Moves for LegalMoves<'_, C> {
 /// The graph of legal moves is one that may be searched: it has at most 2^24 nodes, its moves lead to nodes,
 /// and each has one price, at most 2^35. A law, on a call that does nothing.
 pub fn legal_graph_sound()
-    ensures { (d : TheDesign) (m : Mesh) (items : Seq OneItem) (net via_cost : ℕ) → CanMove d m net via_cost → IsGraphSound (legal_graph d m items net via_cost) }
+    ensures { (d : TheDesign) (m : Mesh) (items : Seq OneItem) (net via_cost : ℕ) → CanMove d m net via_cost
+        → IsGraphSound (legal_graph d m items net via_cost) }
 {}

@@ -1,7 +1,8 @@
 //! The lines of one direction: multiples of the grid, rounded down to the session unit, and anchors beside them.
 //! Spans of multiples are found by division, so lines are counted without being listed.
 
-ghost use Rattle.std.specs.Prelude.{◌≡◌, ℕ, ◌+◌, ◌*◌, ◌<◌, ◌≤◌, ◌^◌, pos, IfOk, length, vec_len, filter, map, ◌++◌, ◌+ℤ◌, ◌*ℤ◌, ◌≤ℤ◌, ◌<ℤ◌, unsigned_abs};
+ghost use Rattle.std.specs.Prelude.{◌≡◌, ℕ, ◌+◌, ◌*◌, ◌<◌, ◌≤◌, ◌^◌, pos, IfOk, length, vec_len, filter, map, ◌++◌};
+ghost use Rattle.std.specs.Prelude.{◌+ℤ◌, ◌*ℤ◌, ◌≤ℤ◌, ◌<ℤ◌, unsigned_abs};
 ghost use Rattle.std.specs.Int.{int_gap};
 ghost use Rattle.route_lattice.specs.Round.{floor_div, ceil_div, rounded_down};
 ghost use Rattle.route_lattice.specs.Lines.{is_grid_line, up_from};
@@ -139,7 +140,9 @@ pub(crate) fn lines_of(
     requires ruler { IsRulerFit r }
     requires span { IsSpanFit s }
     requires near { StaysClose r.grid s.first s.end }
-    ensures { IfOk result (λ xs. IsAscending (map (line_of r.unit r.grid) (up_from s.first (int_gap s.first s.end)) ++ others.now) xs) }
+    ensures { IfOk result
+        (λ xs. IsAscending (map (line_of r.unit r.grid) (up_from s.first (int_gap s.first s.end)) ++ others.now)
+        xs) }
 {
     let mut lines = Vec::new(alloc);
     for i in 0..span_len(s) {

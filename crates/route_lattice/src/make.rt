@@ -75,7 +75,8 @@ fn axes_of(alloc: Global, p: &Parts, grid: u64) -> Result<Axes, AllocError>
 fn node_total(layers: &List<u8>, a: &Axes) -> u128
     requires layers { length layers.now ≤ 32 }
     requires axes { AreAxesFit a.now }
-    ensures { (p : TheParts) (grid : ℕ) → p.layers ≡ layers.now → AreAxesOf p grid a.now → result ≡ node_count (mesh_of p grid) }
+    ensures { (p : TheParts) (grid : ℕ) → p.layers ≡ layers.now → AreAxesOf p grid a.now
+        → result ≡ node_count (mesh_of p grid) }
 {
     let height = axis_len(&a.up);
     let width = axis_len(&a.across);

@@ -7,7 +7,8 @@ ghost use Rattle.route_lattice.specs.Mesh.{node_count, point_of, layer_of};
 use geo_kernel::{List, Point};
 use std::marker::Model;
 
-/// The crossings of lines on each signal layer. Node `(l ny + j) nx + i` is that of signal layer l, y line j and x line i.
+/// The crossings of lines on each signal layer. Node `(l ny + j) nx + i` is that of signal layer l, y line j and x
+/// line i.
 #[derive(Drop)]
 pub struct Lattice {
     grid: u64,

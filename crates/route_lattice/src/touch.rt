@@ -63,7 +63,8 @@ fn touches_area(p: Point, loops: &List<List<Point>>, k: u64) -> bool
     requires some { All (λ points. 3 ≤ length points) loops.now }
     requires loops_within { All (All (IsWithin (2 ^ 29))) loops.now }
     requires k_within { k ≤ 2 ^ 30 }
-    ensures { IsTrue result ↔ (Any (Touches k (record { from = p; to = p })) (area_segments loops.now) ⊎ IsInside p loops.now) }
+    ensures { IsTrue result
+        ↔ (Any (Touches k (record { from = p; to = p })) (area_segments loops.now) ⊎ IsInside p loops.now) }
 {
     touches_loops(p, loops.as_slice(), k) || inside(p, loops)
 }

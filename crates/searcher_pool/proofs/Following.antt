@@ -98,4 +98,5 @@ fixed_seen j s sight d is design_is has =
 pub fixed_still : (j : Job) (t : TurnOf) (es : List Event) (b : BoardOf) (s : SnapOf) → Reaches (opening t) es b
     → s ≡ snap_of b → HasFixed j (opening t).design → HasFixed j s.design
 fixed_still j t es b s reached is has =
-    subst (HasFixed j) (sym (ap (λ (x : SnapOf). x.design) is ∙ (reaches_grows (opening t) b es reached).design_stays)) has
+    subst (HasFixed j) (sym (ap (λ (x : SnapOf). x.design) is ∙ (reaches_grows (opening t) b es reached).design_stays))
+    has

@@ -27,7 +27,8 @@ use wave_search::Search;
 /// As many offers of a task may come too late before it is left.
 const MOST_LATE: u32 = 8;
 
-/// What a pass goes by: the lattice, the price of a via, how many workers there are, the nets of its tasks, the penalty,
+/// What a pass goes by: the lattice, the price of a via, how many workers there are, the nets of its tasks, the
+/// penalty,
 /// what was seen of the board before, and maps of the moves on the fixed items alone.
 #[derive(Clone, Copy)]
 pub(crate) struct Job<'a> {

@@ -1,5 +1,6 @@
 -- What one pass over the items of a board gives, padstack by padstack and net by net.
-use Rattle.std.specs.Prelude.{◌≡◌, ℕ, ◌<◌, ◌||◌, Bool, false, List, [], length, slice_index_or, if◌then◌else◌, ◌==◌, Vec}
+use Rattle.std.specs.Prelude.{◌≡◌, ℕ, ◌<◌, ◌||◌, Bool, false, List, [], length, slice_index_or, if◌then◌else◌, ◌==◌}
+use Rattle.std.specs.Prelude.{Vec}
 use Rattle.std.specs.Global.{Global}
 use Rattle.pcb_model.specs.declared.item.Item.{Item}
 use Rattle.pcb_model.specs.declared.item.Metal.{Metal}
@@ -15,13 +16,15 @@ pub record TellsVias (items : List Item) (count : ℕ) (flags : List Bool) : Typ
 -- the flag of the via's padstack is set
 pub record Marks (metal : Metal) (old new : List Bool) : Type 0 where
   pub count_is : length new ≡ length old
-  pub flags_are : (k : ℕ) → k < length old → slice_index_or new k false ≡ (is_via_of k metal || slice_index_or old k false)
+  pub flags_are : (k : ℕ) → k < length old
+      → slice_index_or new k false ≡ (is_via_of k metal || slice_index_or old k false)
 
 -- a metal's line goes to the text of its net, and no other text changes
 pub record AddsLine (d : Design) (nm net : ℕ) (metal : Metal) (old new : List (Vec ℕ Global)) : Type 0 where
   pub count_is : length new ≡ length old
   pub texts_are : (k : ℕ) (e : Vec ℕ Global) → k < length old
-      → Appends (slice_index_or old k e).items (slice_index_or new k e).items (if net == k then metal_line d nm metal else [])
+      → Appends (slice_index_or old k e).items (slice_index_or new k e).items (if net == k then metal_line d nm metal
+      else [])
 
 -- for each net, the lines of its items
 pub record TellsLines (d : Design) (nm : ℕ) (items : List Item) (count : ℕ) (texts : List (Vec ℕ Global)) : Type 0 where

@@ -1,6 +1,7 @@
 -- The session of a design and of the items of its board, line by line.
 -- Source: SPECCTRA reference, session file descriptor.
-use Rattle.std.specs.Prelude.{ℕ, ◌==◌, pos, Bool, false, not, ◌&&◌, if◌then◌else◌, List, [], ◌∷◌, ◌++◌, length, flat_map, filter, codes, decimal, Option, Some, None, is_some, slice_get, bytes_eq}
+use Rattle.std.specs.Prelude.{ℕ, ◌==◌, pos, Bool, false, not, ◌&&◌, if◌then◌else◌, List, [], ◌∷◌, ◌++◌, length}
+use Rattle.std.specs.Prelude.{flat_map, filter, codes, decimal, Option, Some, None, is_some, slice_get, bytes_eq}
 use Rattle.std.specs.List.{list_any, enumerate_from}
 use Rattle.std.specs.Option.{option_map_or}
 use Rattle.geo_kernel.specs.declared.spine.Spine.{Spine}
@@ -36,7 +37,8 @@ abbrev pub side_words : Bool → List ℕ
 side_words back = if back then codes " back " else codes " front "
 
 unfoldable pub place_line : ℕ → Component → List ℕ
-place_line nm c = codes "      (place " ++ spelled c.name ++ point_words nm c.at ++ side_words c.back ++ degrees c.microdegrees ++ codes ")\n"
+place_line nm c = codes "      (place " ++ spelled c.name ++ point_words nm c.at ++ side_words c.back
+    ++ degrees c.microdegrees ++ codes ")\n"
 
 unfoldable pub component_line : Component → List ℕ
 component_line c = codes "    (component " ++ spelled c.image ++ codes "\n"
@@ -72,10 +74,12 @@ spine_words nm (Chain ps) = chain_words nm ps
 spine_words nm (Area loops) = area_words nm loops
 
 unfoldable pub shape_line : Design → ℕ → Piece → List ℕ
-shape_line d nm c = codes "        (shape (" ++ shape_word c.spine ++ layer_word d c.layer ++ length_word nm (pos c.width) ++ spine_words nm c.spine ++ codes "))\n"
+shape_line d nm c = codes "        (shape (" ++ shape_word c.spine ++ layer_word d c.layer
+    ++ length_word nm (pos c.width) ++ spine_words nm c.spine ++ codes "))\n"
 
 unfoldable pub padstack_lines : Design → ℕ → Padstack → List ℕ
-padstack_lines d nm s = codes "      (padstack " ++ spelled s.name ++ codes "\n" ++ flat_map (shape_line d nm) s.pieces ++ codes "        (attach off)\n      )\n"
+padstack_lines d nm s = codes "      (padstack " ++ spelled s.name ++ codes "\n" ++ flat_map (shape_line d nm) s.pieces
+    ++ codes "        (attach off)\n      )\n"
 
 abbrev pub is_via_of : ℕ → Metal → Bool
 is_via_of padstack (Via q at) = q == padstack
@@ -97,8 +101,10 @@ library_lines d nm items = flat_map (library_entry d nm items) (enumerate_from 0
 -- ---- the network
 
 unfoldable pub metal_line : Design → ℕ → Metal → List ℕ
-metal_line d nm (Wire layer width chain) = codes "        (wire (path " ++ layer_word d layer ++ length_word nm (pos width) ++ chain_words nm chain ++ codes "))\n"
-metal_line d nm (Via padstack at) = codes "        (via " ++ padstack_word d padstack ++ point_words nm at ++ codes ")\n"
+metal_line d nm (Wire layer width chain) = codes "        (wire (path " ++ layer_word d layer
+    ++ length_word nm (pos width) ++ chain_words nm chain ++ codes "))\n"
+metal_line d nm (Via padstack at) =
+    codes "        (via " ++ padstack_word d padstack ++ point_words nm at ++ codes ")\n"
 metal_line d nm (Pad pin) = []
 metal_line d nm (Ban wires vias) = []
 
@@ -111,7 +117,8 @@ copper_lines d nm items net = flat_map (λ (a : Item). metal_line d nm a.metal) 
 
 -- a net without lines isn't printed
 unfoldable pub net_lines : List ℕ → List ℕ → List ℕ
-net_lines name lines = if length lines == 0 then [] else codes "      (net " ++ spelled name ++ codes "\n" ++ lines ++ codes "      )\n"
+net_lines name lines =
+    if length lines == 0 then [] else codes "      (net " ++ spelled name ++ codes "\n" ++ lines ++ codes "      )\n"
 
 abbrev pub network_entry : Design → ℕ → List Item → (ℕ × Net) → List ℕ
 network_entry d nm items (i, n) = net_lines n.name (copper_lines d nm items i)
@@ -131,15 +138,19 @@ abbrev pub is_printed : Bool → Item → Bool
 is_printed omit_fixed a = is_some a.net && not (omit_fixed && a.fixed)
 
 unfoldable pub placement_part : Design → SesScale → List ℕ
-placement_part d s = codes "(session " ++ spelled d.name ++ codes "\n  (base_design " ++ spelled d.name ++ codes ")\n  (placement\n"
+placement_part d s =
+    codes "(session " ++ spelled d.name ++ codes "\n  (base_design " ++ spelled d.name ++ codes ")\n  (placement\n"
     ++ resolution_line s ++ component_lines s.nm d.components ++ codes "  )\n  (was_is\n  )\n"
 
 unfoldable pub parser_lines : Design → List ℕ
-parser_lines d = codes "    (parser\n" ++ host_line (codes "host_cad") d.host_cad ++ host_line (codes "host_version") d.host_version ++ codes "    )\n"
+parser_lines d = codes "    (parser\n" ++ host_line (codes "host_cad") d.host_cad
+    ++ host_line (codes "host_version") d.host_version ++ codes "    )\n"
 
 unfoldable pub routes_part : Design → SesScale → List Item → List ℕ
 routes_part d s items = codes "  (routes\n" ++ resolution_line s ++ parser_lines d
-    ++ codes "    (library_out\n" ++ library_lines d s.nm items ++ codes "    )\n    (network_out\n" ++ network_lines d s.nm items ++ codes "    )\n  )\n"
+    ++ codes "    (library_out\n" ++ library_lines d s.nm items ++ codes "    )\n    (network_out\n"
+    ++ network_lines d s.nm items ++ codes "    )\n  )\n"
 
 unfoldable pub session_of : Design → List Item → Bool → List ℕ
-session_of d items omit_fixed = placement_part d (scale_of d) ++ routes_part d (scale_of d) (filter (is_printed omit_fixed) items) ++ codes ")\n"
+session_of d items omit_fixed =
+    placement_part d (scale_of d) ++ routes_part d (scale_of d) (filter (is_printed omit_fixed) items) ++ codes ")\n"

@@ -1,6 +1,7 @@
 -- How a session spells names, numbers, angles and points.
 -- Source: SPECCTRA reference, identifiers, numbers and the path descriptor.
-use Rattle.std.specs.Prelude.{◌≡◌, ℕ, ◌*◌, ◌/◌, ◌%◌, ◌+◌, ◌==◌, ℤ, pos, ◌+ℤ◌, ◌*ℤ◌, int_lt, Bool, true, false, not, ◌&&◌, ◌||◌, if◌then◌else◌, List, [], ◌∷◌, ◌++◌, length, reverse, flat_map, codes, decimal}
+use Rattle.std.specs.Prelude.{◌≡◌, ℕ, ◌*◌, ◌/◌, ◌%◌, ◌+◌, ◌==◌, ℤ, pos, ◌+ℤ◌, ◌*ℤ◌, int_lt, Bool, true, false, not}
+use Rattle.std.specs.Prelude.{◌&&◌, ◌||◌, if◌then◌else◌, List, [], ◌∷◌, ◌++◌, length, reverse, flat_map, codes, decimal}
 use Rattle.std.specs.List.{list_all, list_any}
 use Rattle.std.specs.Char.{is_ascii_alphanumeric}
 use Rattle.std.specs.Fmt.{signed_decimal}
@@ -33,10 +34,12 @@ length_word nm x = codes " " ++ signed_decimal (nearest nm x)
 -- the digit at a place of so many microdegrees, and on to the last one that isn't 0
 abbrev pub decimals : ℕ → List ℕ → List ℕ
 decimals microdegrees [] = []
-decimals microdegrees (place ∷ places) = if microdegrees % (10 * place) == 0 then [] else (48 + microdegrees / place % 10) ∷ decimals microdegrees places
+decimals microdegrees (place ∷ places) =
+    if microdegrees % (10 * place) == 0 then [] else (48 + microdegrees / place % 10) ∷ decimals microdegrees places
 
 abbrev pub fraction : ℕ → List ℕ
-fraction microdegrees = if microdegrees % 1000000 == 0 then [] else codes "." ++ decimals microdegrees (100000 ∷ 10000 ∷ 1000 ∷ 100 ∷ 10 ∷ 1 ∷ [])
+fraction microdegrees = if microdegrees % 1000000 == 0 then []
+    else codes "." ++ decimals microdegrees (100000 ∷ 10000 ∷ 1000 ∷ 100 ∷ 10 ∷ 1 ∷ [])
 
 -- whole degrees, and up to six digits without zeros at their end
 unfoldable pub degrees : ℕ → List ℕ

@@ -4,7 +4,8 @@
 ghost use Rattle.std.specs.Prelude.{◌≡◌, ◌<◌, ◌++◌, OnOk, IfOk, flat_map, filter, length};
 ghost use Rattle.ses_writer.specs.Words.{Appends};
 ghost use Rattle.ses_writer.specs.Passes.{TellsVias, Marks};
-ghost use Rattle.ses_writer.specs.Session.{layer_word, shape_word, spine_words, shape_line, padstack_lines, library_lines, is_printed};
+ghost use Rattle.ses_writer.specs.Session.{layer_word, shape_word, spine_words, shape_line, padstack_lines};
+ghost use Rattle.ses_writer.specs.Session.{library_lines, is_printed};
 
 use crate::words::{put, put_area, put_chain, put_no_name, put_spelled, put_width};
 use geo_kernel::{List, Spine};
@@ -131,7 +132,8 @@ pub(crate) fn put_library(
     omit_fixed: bool,
 ) -> Result<(), AllocError>
     requires { 0 < nm }
-    ensures { OnOk result (Appends out.old.items out.new.items (library_lines d.now nm (filter (is_printed omit_fixed) items.now))) }
+    ensures { OnOk result
+        (Appends out.old.items out.new.items (library_lines d.now nm (filter (is_printed omit_fixed) items.now))) }
 {
     let flags = named_padstacks(alloc, d, items, omit_fixed)?;
     for (i, s) in d.padstacks.as_slice().iter().enumerate() {

@@ -105,7 +105,8 @@ fn lines_by_net(
     omit_fixed: bool,
 ) -> Result<Vec<Vec<u8>>, AllocError>
     requires { 0 < nm }
-    ensures { IfOk result (λ v. TellsLines d.now nm (filter (is_printed omit_fixed) items.now) (length d.now.nets) v.items) }
+    ensures { IfOk result
+        (λ v. TellsLines d.now nm (filter (is_printed omit_fixed) items.now) (length d.now.nets) v.items) }
 {
     let mut texts = empty_texts(alloc, d.nets.len())?;
     for a in items {
@@ -129,7 +130,8 @@ pub(crate) fn put_network(
     omit_fixed: bool,
 ) -> Result<(), AllocError>
     requires { 0 < nm }
-    ensures { OnOk result (Appends out.old.items out.new.items (network_lines d.now nm (filter (is_printed omit_fixed) items.now))) }
+    ensures { OnOk result
+        (Appends out.old.items out.new.items (network_lines d.now nm (filter (is_printed omit_fixed) items.now))) }
 {
     let texts = lines_by_net(alloc, d, nm, items, omit_fixed)?;
     for (i, n) in d.nets.as_slice().iter().enumerate() {

@@ -3,7 +3,8 @@
 
 ghost use Rattle.std.specs.Prelude.{◌≡◌, ◌<◌, ◌++◌, OnOk};
 ghost use Rattle.ses_writer.specs.Words.{Appends};
-ghost use Rattle.ses_writer.specs.Session.{unit_word, resolution_line, side_words, place_line, component_line, image_change, places_after, component_lines};
+ghost use Rattle.ses_writer.specs.Session.{unit_word, resolution_line, side_words, place_line, component_line};
+ghost use Rattle.ses_writer.specs.Session.{image_change, places_after, component_lines};
 
 use crate::words::{put, put_degrees, put_point, put_spelled, put_whole};
 use geo_kernel::Unit;

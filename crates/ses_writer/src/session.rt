@@ -3,7 +3,8 @@
 
 ghost use Rattle.std.specs.Prelude.{◌≡◌, ◌<◌, ◌++◌, OnOk, IfOk, codes, filter};
 ghost use Rattle.ses_writer.specs.Words.{Appends};
-ghost use Rattle.ses_writer.specs.Session.{host_line, is_printed, placement_part, parser_lines, routes_part, session_of};
+ghost use Rattle.ses_writer.specs.Session.{host_line, is_printed, placement_part, parser_lines, routes_part};
+ghost use Rattle.ses_writer.specs.Session.{session_of};
 
 use crate::items::items_of;
 use crate::library::put_library;
@@ -66,7 +67,8 @@ fn put_routes(
     omit_fixed: bool,
 ) -> Result<(), AllocError>
     requires { 0 < scale.nm }
-    ensures { OnOk result (Appends out.old.items out.new.items (routes_part d.now scale (filter (is_printed omit_fixed) items.now))) }
+    ensures { OnOk result
+        (Appends out.old.items out.new.items (routes_part d.now scale (filter (is_printed omit_fixed) items.now))) }
 {
     put(out, b"  (routes\n")?;
     put_resolution(out, scale)?;
@@ -79,7 +81,8 @@ fn put_routes(
     Ok(())
 }
 
-/// The session's bytes: the placement of the design, and the wires and vias among `items` that have a net, net by net and
+/// The session's bytes: the placement of the design, and the wires and vias among `items` that have a net, net by
+/// net and
 /// in the order of `items`; with `omit_fixed` the fixed ones are left out. The only error is want of memory.
 #[tactic(auto, unfolding(crate::specs::Session::session_of))]
 pub fn items_session(

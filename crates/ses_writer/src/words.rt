@@ -3,7 +3,9 @@
 
 ghost use Rattle.std.specs.Prelude.{◌≡◌, ◌<◌, ◌≤◌, ◌++◌, [], All, pos, OnOk, codes, decimal, flat_map, reverse};
 ghost use Rattle.std.specs.List.{list_all};
-ghost use Rattle.ses_writer.specs.Words.{Appends, is_bare_byte, is_bare, spelled, nearest, length_word, decimals, fraction, degrees, point_words, is_before, is_lesser, directed, chain_words, area_words};
+ghost use Rattle.ses_writer.specs.Words.{Appends, is_bare_byte, is_bare, spelled, nearest, length_word, decimals};
+ghost use Rattle.ses_writer.specs.Words.{fraction, degrees, point_words, is_before, is_lesser, directed};
+ghost use Rattle.ses_writer.specs.Words.{chain_words, area_words};
 
 use geo_kernel::{List, Name, Point};
 use itoa::Buffer;

@@ -1,5 +1,8 @@
--- Of the edges that a segment hits, the foremost; and why a point inside two areas leads to an edge of one of them inside the other.
-use Rattle.std.proofs.Common.{◌≡◌, ℕ, ◌*◌, ◌-◌, ◌<◌, ◌≤◌, ◌++◌, ◌⊎◌, inl, inr, ⊎_elim, List, [], ◌∷◌, All, ℤ, pos, ◌+ℤ◌, ◌-ℤ◌, ◌*ℤ◌, ◌≤ℤ◌, ◌<ℤ◌, sym, ap, ap₂, ◌∙◌, subst, arith, mul-pos, mul-le-mul, le_refl, eq-zero-or-pos}
+-- Of the edges that a segment hits, the foremost; and why a point inside two areas leads to an edge of one of them
+-- inside the other.
+use Rattle.std.proofs.Common.{◌≡◌, ℕ, ◌*◌, ◌-◌, ◌<◌, ◌≤◌, ◌++◌, ◌⊎◌, inl, inr, ⊎_elim, List, [], ◌∷◌, All, ℤ, pos, ◌+ℤ◌}
+use Rattle.std.proofs.Common.{◌-ℤ◌, ◌*ℤ◌, ◌≤ℤ◌, ◌<ℤ◌, sym, ap, ap₂, ◌∙◌, subst, arith, mul-pos, mul-le-mul, le_refl}
+use Rattle.std.proofs.Common.{eq-zero-or-pos}
 use Rattle.std.proofs.Math.Nat.{le_of_mul-le-mul_left}
 use Rattle.std.proofs.lemmas.Int.{ints, by_lt_z}
 use Rattle.std.proofs.lemmas.List.Elements.{All-nil, All-cons, All-head, All-tail, All-append}
@@ -40,15 +43,20 @@ either m n = by_lt_z (pos m) (pos n) (λ l. inl (weak m n l)) (λ l. inr (back m
     back m n l = omega (arith, ints)
 
 -- two hits of one edge are at one place
-alike : (l g l' g' : ℕ) (e e' C G : ℤ) → pos l ≡ e *ℤ C → pos g ≡ e *ℤ G → pos l' ≡ e' *ℤ C → pos g' ≡ e' *ℤ G → g * l' ≤ g' * l
+alike : (l g l' g' : ℕ) (e e' C G : ℤ) → pos l ≡ e *ℤ C → pos g ≡ e *ℤ G → pos l' ≡ e' *ℤ C → pos g' ≡ e' *ℤ G
+    → g * l' ≤ g' * l
 alike l g l' g' e e' C G h i j k =
-    dropped (g * l') (g' * l) (ap₂ (λ x y. x *ℤ y) i j ∙ ring (e ∷ e' ∷ C ∷ G ∷ []) ((x0 ⊗ x3) ⊗ (x1 ⊗ x2)) ((x1 ⊗ x3) ⊗ (x0 ⊗ x2)) tt ∙ sym (ap₂ (λ x y. x *ℤ y) k h))
+    dropped (g * l') (g' * l)
+    (ap₂ (λ x y. x *ℤ y) i j ∙ ring (e ∷ e' ∷ C ∷ G ∷ []) ((x0 ⊗ x3) ⊗ (x1 ⊗ x2)) ((x1 ⊗ x3) ⊗ (x0 ⊗ x2)) tt
+    ∙ sym (ap₂ (λ x y. x *ℤ y) k h))
   where
     dropped : (m n : ℕ) → pos m ≡ pos n → m ≤ n
     dropped m n e = omega (arith, ints)
 
 itself : (a b c d : Point) (y z : Hit a b c d) → IsUpTo a b c d c d y z
-itself a b c d y z = alike y.all y.along z.all z.along y.sign z.sign (cross (b.x -ℤ a.x) (b.y -ℤ a.y) (d.x -ℤ c.x) (d.y -ℤ c.y)) (cross (d.x -ℤ c.x) (d.y -ℤ c.y) (a.x -ℤ c.x) (a.y -ℤ c.y)) y.all_is y.along_is z.all_is z.along_is
+itself a b c d y z =
+    alike y.all y.along z.all z.along y.sign z.sign (cross (b.x -ℤ a.x) (b.y -ℤ a.y) (d.x -ℤ c.x) (d.y -ℤ c.y))
+    (cross (d.x -ℤ c.x) (d.y -ℤ c.y) (a.x -ℤ c.x) (a.y -ℤ c.y)) y.all_is y.along_is z.all_is z.along_is
 
 module _ (a b : Point) where
   -- each hit of f comes no earlier
@@ -71,7 +79,8 @@ module _ (a b : Point) (T : Segment → Type 0) where
     edge = e;
     is = is;
     hit = y;
-    behind = All-cons (IsBehind a b e.from e.to y) e es (λ z. itself a b e.from e.to y z) (λ j d m z. absurd (none j d m z));
+    behind = All-cons (IsBehind a b e.from e.to y) e es (λ z. itself a b e.from e.to y z)
+        (λ j d m z. absurd (none j d m z));
   }
 
   kept : (e : Segment) (es : List Segment) → NoHit a b e → Foremost a b T es → Foremost a b T (e ∷ es)
@@ -89,14 +98,16 @@ module _ (a b : Point) (T : Segment → Type 0) where
         is = best.is;
         hit = best.hit;
         behind = All-cons (IsBehind a b best.edge.from best.edge.to best.hit) e es
-            (λ z. later best.hit.along best.hit.all y.along y.all z.along z.all y.some l (itself a b e.from e.to y z)) best.behind;
+            (λ z. later best.hit.along best.hit.all y.along y.all z.along z.all y.some l (itself a b e.from e.to y z))
+            best.behind;
       })
       (λ l. record {
         edge = e;
         is = is;
         hit = y;
         behind = All-cons (IsBehind a b e.from e.to y) e es (λ z. itself a b e.from e.to y z)
-            (λ j d m z. later y.along y.all best.hit.along best.hit.all z.along z.all best.hit.some l (best.behind j d m z));
+            (λ j d m z. later y.along y.all best.hit.along best.hit.all z.along z.all best.hit.some l
+            (best.behind j d m z));
       })
       (either (best.hit.along * y.all) (y.along * best.hit.all))
 
@@ -106,11 +117,13 @@ module _ (a b : Point) (T : Segment → Type 0) where
   foremost (e ∷ es) h none some =
       let here = All-head T e es h in
       foremost es (All-tail T e es h)
-      (λ clear. (λ (miss : NoHit a b e). none (All-cons (NoHit a b) e es miss clear)) (λ y. some (alone e es here y clear)))
+      (λ clear. (λ (miss : NoHit a b e). none (All-cons (NoHit a b) e es miss clear))
+      (λ y. some (alone e es here y clear)))
       (λ best. (λ (miss : NoHit a b e). some (kept e es miss best)) (λ y. some (chosen e es here y best)))
 
 -- ---- up to the foremost edge
--- the numbers of a hit of f by the part of the segment up to g/n, where they are those of f by the whole segment, times these
+-- the numbers of a hit of f by the part of the segment up to g/n, where they are those of f by the whole segment, times
+-- these
 record Smaller (n g : ℕ) (z u v : ℤ) : Type 0 where
   positive : pos 0 <ℤ z
   u_low : pos 0 ≤ℤ u
@@ -139,8 +152,11 @@ on a b c d e f h = omega (arith, ints)
 
 from_product : (k : ℕ) (z : ℤ) → pos 0 <ℤ (pos k *ℤ z) → (0 < k) × (pos 0 <ℤ z)
 from_product k z h = (
-  ⊎_elim (λ (e : k ≡ 0). absurd (none (pos k *ℤ z) h (ap (λ (m : ℕ). pos m *ℤ z) e ∙ zero-*ℤ z))) (λ l. l) (eq-zero-or-pos k),
-  by_lt_z (pos 0) z (λ l. l) (λ l. absurd (clash (pos k *ℤ z) (pos k *ℤ pos 0) h (scale (pos k) z (pos 0) (at_least k) l) (nil_times (pos k)))),
+  ⊎_elim (λ (e : k ≡ 0). absurd (none (pos k *ℤ z) h (ap (λ (m : ℕ). pos m *ℤ z) e ∙ zero-*ℤ z))) (λ l. l)
+      (eq-zero-or-pos k),
+  by_lt_z (pos 0) z (λ l. l)
+      (λ l. absurd
+      (clash (pos k *ℤ z) (pos k *ℤ pos 0) h (scale (pos k) z (pos 0) (at_least k) l) (nil_times (pos k)))),
 )
   where
     none : (a : ℤ) → pos 0 <ℤ a → a ≡ pos 0 → ⊥
@@ -149,7 +165,8 @@ from_product k z h = (
     clash : (a b : ℤ) → pos 0 <ℤ a → a ≤ℤ b → b ≡ pos 0 → ⊥
     clash a b h k e = omega (arith, ints)
 
-smaller : (n g l i r : ℕ) (z u v : ℤ) → 0 < n → g ≤ n → 0 < l → i ≤ l → r ≤ l → pos l ≡ pos (n * g) *ℤ z → pos i ≡ pos (n * n) *ℤ u → pos r ≡ pos (n * g) *ℤ v → Smaller n g z u v
+smaller : (n g l i r : ℕ) (z u v : ℤ) → 0 < n → g ≤ n → 0 < l → i ≤ l → r ≤ l → pos l ≡ pos (n * g) *ℤ z
+    → pos i ≡ pos (n * n) *ℤ u → pos r ≡ pos (n * g) *ℤ v → Smaller n g z u v
 smaller n g l i r z u v some upper l_some i_within r_within l_is i_is r_is =
     let both = from_product (n * g) z (on_less (pos l) (pos (n * g) *ℤ z) l_is (more l l_some)) in
     let positive = both.1 in
@@ -157,12 +174,18 @@ smaller n g l i r z u v some upper l_some i_within r_within l_is i_is r_is =
     let mixed : pos 0 <ℤ pos (n * g) = more (n * g) both.0 in
     let before : (pos n *ℤ u) ≤ℤ (pos g *ℤ z) =
     cancel (pos n) (pos n *ℤ u) (pos g *ℤ z) (more n some)
-    (on _ _ (pos i) (pos l) (three (pos n) (pos n) u ∙ sym i_is) (three (pos n) (pos g) z ∙ sym l_is) (upto i l i_within)) in
+    (on _ _ (pos i) (pos l) (three (pos n) (pos n) u ∙ sym i_is) (three (pos n) (pos g) z ∙ sym l_is)
+    (upto i l i_within)) in
     record {
       positive = positive;
-      u_low = cancel (pos (n * n)) (pos 0) u square (on _ _ (pos 0) (pos i) (nil_times (pos (n * n))) (sym i_is) (at_least i));
-      u_high = cancel (pos n) u z (more n some) (follow _ _ _ before (on _ _ (z *ℤ pos g) (z *ℤ pos n) (turned (pos g) z) (turned (pos n) z) (scale z (pos g) (pos n) (weak z positive) (upto g n upper))));
-      v_low = cancel (pos (n * g)) (pos 0) v mixed (on _ _ (pos 0) (pos r) (nil_times (pos (n * g))) (sym r_is) (at_least r));
+      u_low = cancel (pos (n * n)) (pos 0) u square
+          (on _ _ (pos 0) (pos i) (nil_times (pos (n * n))) (sym i_is) (at_least i));
+      u_high = cancel (pos n) u z (more n some)
+          (follow _ _ _ before
+          (on _ _ (z *ℤ pos g) (z *ℤ pos n) (turned (pos g) z) (turned (pos n) z)
+          (scale z (pos g) (pos n) (weak z positive) (upto g n upper))));
+      v_low = cancel (pos (n * g)) (pos 0) v mixed
+          (on _ _ (pos 0) (pos r) (nil_times (pos (n * g))) (sym r_is) (at_least r));
       v_high = cancel (pos (n * g)) v z mixed (on _ _ (pos r) (pos l) (sym r_is) (sym l_is) (upto r l r_within));
       before = before;
     }
@@ -181,28 +204,36 @@ smaller n g l i r z u v some upper l_some i_within r_within l_is i_is r_is =
 
 -- the cross products of the part, in a picture n times as large
 whole_larger : (n g : ℕ) (e ax ay bx by cx cy dx dy : ℤ) → g ≤ n →
-    e *ℤ cross ((pos (n - g) *ℤ ax +ℤ pos g *ℤ bx) -ℤ pos n *ℤ ax) ((pos (n - g) *ℤ ay +ℤ pos g *ℤ by) -ℤ pos n *ℤ ay) (pos n *ℤ dx -ℤ pos n *ℤ cx) (pos n *ℤ dy -ℤ pos n *ℤ cy)
+    e *ℤ cross ((pos (n - g) *ℤ ax +ℤ pos g *ℤ bx) -ℤ pos n *ℤ ax) ((pos (n - g) *ℤ ay +ℤ pos g *ℤ by) -ℤ pos n *ℤ ay)
+    (pos n *ℤ dx -ℤ pos n *ℤ cx) (pos n *ℤ dy -ℤ pos n *ℤ cy)
     ≡ (pos n *ℤ pos g) *ℤ (e *ℤ cross (bx -ℤ ax) (by -ℤ ay) (dx -ℤ cx) (dy -ℤ cy))
-whole_larger n g e ax ay bx by cx cy dx dy l = rw (less n g l) (ring (pos n ∷ pos g ∷ e ∷ ax ∷ ay ∷ bx ∷ by ∷ cx ∷ cy ∷ dx ∷ dy ∷ [])
-    (x2 ⊗ crossE (((x0 ⊖ x1) ⊗ x3 ⊕ x1 ⊗ x5) ⊖ x0 ⊗ x3) (((x0 ⊖ x1) ⊗ x4 ⊕ x1 ⊗ x6) ⊖ x0 ⊗ x4) (x0 ⊗ x9 ⊖ x0 ⊗ x7) (x0 ⊗ var 10 ⊖ x0 ⊗ x8))
+whole_larger n g e ax ay bx by cx cy dx dy l =
+    rw (less n g l) (ring (pos n ∷ pos g ∷ e ∷ ax ∷ ay ∷ bx ∷ by ∷ cx ∷ cy ∷ dx ∷ dy ∷ [])
+    (x2 ⊗ crossE (((x0 ⊖ x1) ⊗ x3 ⊕ x1 ⊗ x5) ⊖ x0 ⊗ x3) (((x0 ⊖ x1) ⊗ x4 ⊕ x1 ⊗ x6) ⊖ x0 ⊗ x4) (x0 ⊗ x9 ⊖ x0 ⊗ x7)
+    (x0 ⊗ var 10 ⊖ x0 ⊗ x8))
     ((x0 ⊗ x1) ⊗ (x2 ⊗ crossE (x5 ⊖ x3) (x6 ⊖ x4) (x9 ⊖ x7) (var 10 ⊖ x8))) tt)
 
 first_larger : (n : ℕ) (e ax ay cx cy dx dy : ℤ) →
-    e *ℤ cross (pos n *ℤ dx -ℤ pos n *ℤ cx) (pos n *ℤ dy -ℤ pos n *ℤ cy) (pos n *ℤ ax -ℤ pos n *ℤ cx) (pos n *ℤ ay -ℤ pos n *ℤ cy)
+    e *ℤ cross (pos n *ℤ dx -ℤ pos n *ℤ cx) (pos n *ℤ dy -ℤ pos n *ℤ cy) (pos n *ℤ ax -ℤ pos n *ℤ cx)
+    (pos n *ℤ ay -ℤ pos n *ℤ cy)
     ≡ (pos n *ℤ pos n) *ℤ (e *ℤ cross (dx -ℤ cx) (dy -ℤ cy) (ax -ℤ cx) (ay -ℤ cy))
 first_larger n e ax ay cx cy dx dy = ring (pos n ∷ e ∷ ax ∷ ay ∷ cx ∷ cy ∷ dx ∷ dy ∷ [])
     (x1 ⊗ crossE (x0 ⊗ x6 ⊖ x0 ⊗ x4) (x0 ⊗ x7 ⊖ x0 ⊗ x5) (x0 ⊗ x2 ⊖ x0 ⊗ x4) (x0 ⊗ x3 ⊖ x0 ⊗ x5))
     ((x0 ⊗ x0) ⊗ (x1 ⊗ crossE (x6 ⊖ x4) (x7 ⊖ x5) (x2 ⊖ x4) (x3 ⊖ x5))) tt
 
 second_larger : (n g : ℕ) (e ax ay bx by cx cy : ℤ) → g ≤ n →
-    e *ℤ cross ((pos (n - g) *ℤ ax +ℤ pos g *ℤ bx) -ℤ pos n *ℤ ax) ((pos (n - g) *ℤ ay +ℤ pos g *ℤ by) -ℤ pos n *ℤ ay) (pos n *ℤ ax -ℤ pos n *ℤ cx) (pos n *ℤ ay -ℤ pos n *ℤ cy)
+    e *ℤ cross ((pos (n - g) *ℤ ax +ℤ pos g *ℤ bx) -ℤ pos n *ℤ ax) ((pos (n - g) *ℤ ay +ℤ pos g *ℤ by) -ℤ pos n *ℤ ay)
+    (pos n *ℤ ax -ℤ pos n *ℤ cx) (pos n *ℤ ay -ℤ pos n *ℤ cy)
     ≡ (pos n *ℤ pos g) *ℤ (e *ℤ cross (bx -ℤ ax) (by -ℤ ay) (ax -ℤ cx) (ay -ℤ cy))
 second_larger n g e ax ay bx by cx cy l = rw (less n g l) (ring (pos n ∷ pos g ∷ e ∷ ax ∷ ay ∷ bx ∷ by ∷ cx ∷ cy ∷ [])
-    (x2 ⊗ crossE (((x0 ⊖ x1) ⊗ x3 ⊕ x1 ⊗ x5) ⊖ x0 ⊗ x3) (((x0 ⊖ x1) ⊗ x4 ⊕ x1 ⊗ x6) ⊖ x0 ⊗ x4) (x0 ⊗ x3 ⊖ x0 ⊗ x7) (x0 ⊗ x4 ⊖ x0 ⊗ x8))
+    (x2 ⊗ crossE (((x0 ⊖ x1) ⊗ x3 ⊕ x1 ⊗ x5) ⊖ x0 ⊗ x3) (((x0 ⊖ x1) ⊗ x4 ⊕ x1 ⊗ x6) ⊖ x0 ⊗ x4) (x0 ⊗ x3 ⊖ x0 ⊗ x7)
+    (x0 ⊗ x4 ⊖ x0 ⊗ x8))
     ((x0 ⊗ x1) ⊗ (x2 ⊗ crossE (x5 ⊖ x3) (x6 ⊖ x4) (x3 ⊖ x7) (x4 ⊖ x8))) tt)
 
 -- two edges that are hit at one place touch there
-one_place : (n g h z u v : ℕ) (a b c d c' d' : ℤ) → h ≤ n → v ≤ z → g * z ≡ u * n → pos n *ℤ a +ℤ pos g *ℤ (b -ℤ a) ≡ pos n *ℤ c +ℤ pos h *ℤ (d -ℤ c) → pos z *ℤ a +ℤ pos u *ℤ (b -ℤ a) ≡ pos z *ℤ c' +ℤ pos v *ℤ (d' -ℤ c') →
+one_place : (n g h z u v : ℕ) (a b c d c' d' : ℤ) → h ≤ n → v ≤ z → g * z ≡ u * n
+    → pos n *ℤ a +ℤ pos g *ℤ (b -ℤ a) ≡ pos n *ℤ c +ℤ pos h *ℤ (d -ℤ c)
+    → pos z *ℤ a +ℤ pos u *ℤ (b -ℤ a) ≡ pos z *ℤ c' +ℤ pos v *ℤ (d' -ℤ c') →
     apart (n * z) (h * z) (n * v) c d c' d' ≡ pos 0
 one_place n g h z u v a b c d c' d' hn vz e i j =
     let hz : h * z ≤ n * z = mul-le-mul hn (le_refl z) in
@@ -212,7 +243,8 @@ one_place n g h z u v a b c d c' d' hn vz e i j =
     (((x0 ⊗ x2 ⊖ x1 ⊗ x2) ⊗ x4 ⊕ (x1 ⊗ x2) ⊗ x5) ⊖ ((x0 ⊗ x2 ⊖ x0 ⊗ x3) ⊗ x6 ⊕ (x0 ⊗ x3) ⊗ x7))
     (x2 ⊗ (x0 ⊗ x4 ⊕ x1 ⊗ (x5 ⊖ x4)) ⊖ x0 ⊗ (x2 ⊗ x6 ⊕ x3 ⊗ (x7 ⊖ x6))) tt
     ∙ ap₂ (λ x y. pos z *ℤ x -ℤ pos n *ℤ y) (sym i) (sym j)
-    ∙ ring (pos n ∷ pos z ∷ pos g ∷ pos u ∷ a ∷ b ∷ []) (x1 ⊗ (x0 ⊗ x4 ⊕ x2 ⊗ (x5 ⊖ x4)) ⊖ x0 ⊗ (x1 ⊗ x4 ⊕ x3 ⊗ (x5 ⊖ x4))) ((x2 ⊗ x1 ⊖ x3 ⊗ x0) ⊗ (x5 ⊖ x4)) tt
+    ∙ ring (pos n ∷ pos z ∷ pos g ∷ pos u ∷ a ∷ b ∷ [])
+    (x1 ⊗ (x0 ⊗ x4 ⊕ x2 ⊗ (x5 ⊖ x4)) ⊖ x0 ⊗ (x1 ⊗ x4 ⊕ x3 ⊗ (x5 ⊖ x4))) ((x2 ⊗ x1 ⊖ x3 ⊗ x0) ⊗ (x5 ⊖ x4)) tt
     ∙ ap (λ (m : ℕ). (pos m -ℤ pos (u * n)) *ℤ (b -ℤ a)) e
     ∙ ring (pos (u * n) ∷ a ∷ b ∷ []) ((x0 ⊖ x0) ⊗ (x2 ⊖ x1)) (lit 0) tt)
 
@@ -225,16 +257,25 @@ module _ (a b : Point) (e f : Segment) (h : Hit a b e.from e.to) (behind : IsBeh
     some = mul-pos h.some y.some;
     s_within = mul-le-mul h.across_within (le_refl y.all);
     t_within = mul-le-mul (le_refl h.all) y.across_within;
-    touch = at_nothing (apart (h.all * y.all) (h.across * y.all) (h.all * y.across) e.from.x e.to.x f.from.x f.to.x) (apart (h.all * y.all) (h.across * y.all) (h.all * y.across) e.from.y e.to.y f.from.y f.to.y) (k * k * (h.all * y.all * (h.all * y.all)))
-        (one_place h.all h.along h.across y.all y.along y.across a.x b.x e.from.x e.to.x f.from.x f.to.x h.across_within y.across_within is (met_x a b e.from e.to h) (met_x a b f.from f.to y))
-        (one_place h.all h.along h.across y.all y.along y.across a.y b.y e.from.y e.to.y f.from.y f.to.y h.across_within y.across_within is (met_y a b e.from e.to h) (met_y a b f.from f.to y));
+    touch = at_nothing (apart (h.all * y.all) (h.across * y.all) (h.all * y.across) e.from.x e.to.x f.from.x f.to.x)
+        (apart (h.all * y.all) (h.across * y.all) (h.all * y.across) e.from.y e.to.y f.from.y f.to.y)
+        (k * k * (h.all * y.all * (h.all * y.all)))
+        (one_place h.all h.along h.across y.all y.along y.across a.x b.x e.from.x e.to.x f.from.x f.to.x h.across_within
+        y.across_within is (met_x a b e.from e.to h) (met_x a b f.from f.to y))
+        (one_place h.all h.along h.across y.all y.along y.across a.y b.y e.from.y e.to.y f.from.y f.to.y h.across_within
+        y.across_within is (met_y a b e.from e.to h) (met_y a b f.from f.to y));
   }
 
   -- a hit of f that comes no later is at the same place
-  no_later : (sign : ℤ) (z : Hit a b f.from f.to) → pos z.all ≡ whole a b f.from f.to sign → pos z.along ≡ first a b f.from f.to sign → (pos h.all *ℤ first a b f.from f.to sign) ≤ℤ (pos h.along *ℤ whole a b f.from f.to sign) → Touches k e f
+  no_later : (sign : ℤ) (z : Hit a b f.from f.to) → pos z.all ≡ whole a b f.from f.to sign
+      → pos z.along ≡ first a b f.from f.to sign → (pos h.all *ℤ first a b f.from f.to sign)
+      ≤ℤ (pos h.along *ℤ whole a b f.from f.to sign) → Touches k e f
   no_later sign z whole_is first_is before =
       same_place z (both (h.along * z.all) (z.along * h.all) (behind z)
-      (dropped z.along h.all h.along z.all (on (pos h.all *ℤ pos z.along) (pos h.along *ℤ pos z.all) (pos h.all *ℤ first a b f.from f.to sign) (pos h.along *ℤ whole a b f.from f.to sign) (ap (λ i. pos h.all *ℤ i) first_is) (ap (λ i. pos h.along *ℤ i) whole_is) before)))
+      (dropped z.along h.all h.along z.all
+      (on (pos h.all *ℤ pos z.along) (pos h.along *ℤ pos z.all) (pos h.all *ℤ first a b f.from f.to sign)
+      (pos h.along *ℤ whole a b f.from f.to sign) (ap (λ i. pos h.all *ℤ i) first_is)
+      (ap (λ i. pos h.along *ℤ i) whole_is) before)))
     where
       both : (m n : ℕ) → m ≤ n → n ≤ m → m ≡ n
       both m n h k = omega arith
@@ -243,10 +284,15 @@ module _ (a b : Point) (e f : Segment) (h : Hit a b e.from e.to) (behind : IsBeh
       dropped m n i j h = omega (arith, ints)
 
   -- f is hit by the part up to e: it touches e there
-  pub met_before : Cross (stretched h.all a) (point_at h.all h.along (let g : Segment = record { from = a; to = b } in g)) (stretched h.all f.from) (stretched h.all f.to) → Touches k e f
+  pub met_before : Cross (stretched h.all a)
+      (point_at h.all h.along (let g : Segment = record { from = a; to = b } in g)) (stretched h.all f.from)
+      (stretched h.all f.to) → Touches k e f
   met_before x =
-      let y = hit_of (stretched h.all a) (point_at h.all h.along (let g : Segment = record { from = a; to = b } in g)) (stretched h.all f.from) (stretched h.all f.to) x in
-      let small = smaller h.all h.along y.all y.along y.across (whole a b f.from f.to y.sign) (first a b f.from f.to y.sign) (second a b f.from f.to y.sign) h.some h.along_within y.some y.along_within y.across_within
+      let y = hit_of (stretched h.all a) (point_at h.all h.along (let g : Segment = record { from = a; to = b } in g))
+      (stretched h.all f.from) (stretched h.all f.to) x in
+      let small = smaller h.all h.along y.all y.along y.across (whole a b f.from f.to y.sign)
+      (first a b f.from f.to y.sign) (second a b f.from f.to y.sign) h.some h.along_within y.some y.along_within
+      y.across_within
       (y.all_is ∙ whole_larger h.all h.along y.sign a.x a.y b.x b.y f.from.x f.from.y f.to.x f.to.y h.along_within)
       (y.along_is ∙ first_larger h.all y.sign a.x a.y f.from.x f.from.y f.to.x f.to.y)
       (y.across_is ∙ second_larger h.all h.along y.sign a.x a.y b.x b.y f.from.x f.from.y h.along_within) in
@@ -262,22 +308,30 @@ module _ (k : ℕ) (a b : Point) where
   abbrev way : Segment
   way = record { from = a; to = b }
 
-  -- an edge that is off an area is not the foremost of the area's edges and itself, where the way begins inside that area
-  not_foremost : (loops : List (List Point)) (e : Segment) (h : Hit a b e.from e.to) → IsOff k loops e → All (IsBehind a b e.from e.to h) (area_segments loops) → ¬ (IsInside a loops)
+  -- an edge that is off an area is not the foremost of the area's edges and itself, where the way begins inside that
+  -- area
+  not_foremost : (loops : List (List Point)) (e : Segment) (h : Hit a b e.from e.to) → IsOff k loops e
+      → All (IsBehind a b e.from e.to h) (area_segments loops) → ¬ (IsInside a loops)
   not_foremost loops e h off behind in_it =
       let there : IsInsideAt h.all (point_at h.all h.along way) loops =
       inside_along h.all h.some (stretched h.all a) (point_at h.all h.along way) loops
       (λ j f m x. off.1 j f m (met_before a b e _ h (behind j f m) k x)) (inside_larger h.all h.some a loops in_it) in
-      off.0 h.all h.across h.some h.across_within (subst (λ (p : Point). IsInsideAt h.all p loops) (one_point a b e h) there)
+      off.0 h.all h.across h.some h.across_within
+      (subst (λ (p : Point). IsInsideAt h.all p loops) (one_point a b e h) there)
 
   -- a way from inside both to outside the second, where each edge is off the other area
-  pub both_inside : (loops others : List (List Point)) → All (IsOff k others) (area_segments loops) → All (IsOff k loops) (area_segments others) → IsInside a loops → IsInside a others → ¬ (IsInside b others) → ⊥
+  pub both_inside : (loops others : List (List Point)) → All (IsOff k others) (area_segments loops)
+      → All (IsOff k loops) (area_segments others) → IsInside a loops → IsInside a others → ¬ (IsInside b others) → ⊥
   both_inside loops others off off' in_loops in_others out =
       let T : Segment → Type 0 = λ e. IsOff k others e ⊎ IsOff k loops e in
       let es = area_segments loops in
       let fs = area_segments others in
       foremost a b T (es ++ fs) (All-append T es fs (λ i e m. inl (off i e m)) (λ i e m. inr (off' i e m)))
-      (λ none. out (inside_beside a b others (λ i f m x. All-append_second (NoHit a b) es fs none i f m (hit_of a b _ _ x)) in_others))
+      (λ none. out
+      (inside_beside a b others (λ i f m x. All-append_second (NoHit a b) es fs none i f m (hit_of a b _ _ x))
+      in_others))
       (λ best. ⊎_elim
-      (λ o. not_foremost others best.edge best.hit o (All-append_second (IsBehind a b best.edge.from best.edge.to best.hit) es fs best.behind) in_others)
-      (λ o. not_foremost loops best.edge best.hit o (All-append_first (IsBehind a b best.edge.from best.edge.to best.hit) es fs best.behind) in_loops) best.is)
+      (λ o. not_foremost others best.edge best.hit o
+      (All-append_second (IsBehind a b best.edge.from best.edge.to best.hit) es fs best.behind) in_others)
+      (λ o. not_foremost loops best.edge best.hit o
+      (All-append_first (IsBehind a b best.edge.from best.edge.to best.hit) es fs best.behind) in_loops) best.is)

@@ -14,24 +14,26 @@ abbrev pub segment : Point → Point → Segment
 segment p q = record { from = p; to = q }
 
 -- ---- a segment that ends at a vertex
-module _ (P : Segment → Type 0) (p : Point) (from : (q : Point) → P (segment p q)) (to : (q : Point) → P (segment q p)) where
-  from_first : (u v : Point) → u ≡ p → P (segment u v)
-  from_first u v e = subst (λ (x : Point). P (segment x v)) (sym e) (from v)
+module _ (P : Segment → Type 0) (p : Point) (from : (q : Point) → P (segment p q)) (to : (q : Point) → P (segment q p))
+  where
+    from_first : (u v : Point) → u ≡ p → P (segment u v)
+    from_first u v e = subst (λ (x : Point). P (segment x v)) (sym e) (from v)
 
-  to_second : (u v : Point) → v ≡ p → P (segment u v)
-  to_second u v e = subst (λ (x : Point). P (segment u x)) (sym e) (to u)
+    to_second : (u v : Point) → v ≡ p → P (segment u v)
+    to_second u v e = subst (λ (x : Point). P (segment u x)) (sym e) (to u)
 
-  link_at_vertex : (u : Point) (vs : List Point) → Contains vs p → Any P (links u vs)
-  link_at_vertex u [] (k, h, e) = absurd (omega arith)
-  link_at_vertex u (v ∷ vs) (zero, h, e) = Any-here P (segment u v) (links v vs) (to_second u v e)
-  link_at_vertex u (v ∷ vs) (suc k, h, e) = Any-there P (segment u v) (links v vs) (link_at_vertex v vs (k, omega arith, e))
+    link_at_vertex : (u : Point) (vs : List Point) → Contains vs p → Any P (links u vs)
+    link_at_vertex u [] (k, h, e) = absurd (omega arith)
+    link_at_vertex u (v ∷ vs) (zero, h, e) = Any-here P (segment u v) (links v vs) (to_second u v e)
+    link_at_vertex u (v ∷ vs) (suc k, h, e) =
+        Any-there P (segment u v) (links v vs) (link_at_vertex v vs (k, omega arith, e))
 
-  chain_at_vertex : (ps : List Point) → Contains ps p → Any P (chain_segments ps)
-  chain_at_vertex [] (k, h, e) = absurd (omega arith)
-  chain_at_vertex (q ∷ []) (zero, h, e) = Any-here P (segment q q) [] (from_first q q e)
-  chain_at_vertex (q ∷ []) (suc k, h, e) = absurd (omega arith)
-  chain_at_vertex (q ∷ r ∷ rs) (zero, h, e) = Any-here P (segment q r) (links r rs) (from_first q r e)
-  chain_at_vertex (q ∷ r ∷ rs) (suc k, h, e) = link_at_vertex q (r ∷ rs) (k, omega arith, e)
+    chain_at_vertex : (ps : List Point) → Contains ps p → Any P (chain_segments ps)
+    chain_at_vertex [] (k, h, e) = absurd (omega arith)
+    chain_at_vertex (q ∷ []) (zero, h, e) = Any-here P (segment q q) [] (from_first q q e)
+    chain_at_vertex (q ∷ []) (suc k, h, e) = absurd (omega arith)
+    chain_at_vertex (q ∷ r ∷ rs) (zero, h, e) = Any-here P (segment q r) (links r rs) (from_first q r e)
+    chain_at_vertex (q ∷ r ∷ rs) (suc k, h, e) = link_at_vertex q (r ∷ rs) (k, omega arith, e)
 
 -- ---- the point touches the segment
 at_begin : (p q : ℤ) → apart 1 0 0 p p p q ≡ pos 0
@@ -48,7 +50,8 @@ begins p q w = record {
   some = omega arith;
   s_within = omega arith;
   t_within = omega arith;
-  touch = at_nothing (apart 1 0 0 p.x p.x p.x q.x) (apart 1 0 0 p.y p.y p.y q.y) (w * w * (1 * 1)) (at_begin p.x q.x) (at_begin p.y q.y);
+  touch = at_nothing (apart 1 0 0 p.x p.x p.x q.x) (apart 1 0 0 p.y p.y p.y q.y) (w * w * (1 * 1)) (at_begin p.x q.x)
+      (at_begin p.y q.y);
 }
 
 ends : (p q : Point) (w : ℕ) → SegmentsTouch p p q p w
@@ -59,9 +62,11 @@ ends p q w = record {
   some = omega arith;
   s_within = omega arith;
   t_within = omega arith;
-  touch = at_nothing (apart 1 0 1 p.x p.x q.x p.x) (apart 1 0 1 p.y p.y q.y p.y) (w * w * (1 * 1)) (at_end p.x q.x) (at_end p.y q.y);
+  touch = at_nothing (apart 1 0 1 p.x p.x q.x p.x) (apart 1 0 1 p.y p.y q.y p.y) (w * w * (1 * 1)) (at_end p.x q.x)
+      (at_end p.y q.y);
 }
 
 pub vertex_covered : (p : Point) (ps : List Point) (w : ℕ) → Contains ps p → CoversBy p w (Chain ps)
 vertex_covered p ps w h =
-    inl (Any-here (TouchesSome w (Chain ps)) (segment p p) [] (chain_at_vertex (Touches w (segment p p)) p (λ q. begins p q w) (λ q. ends p q w) ps h))
+    inl (Any-here (TouchesSome w (Chain ps)) (segment p p) []
+    (chain_at_vertex (Touches w (segment p p)) p (λ q. begins p q w) (λ q. ends p q w) ps h))

@@ -12,15 +12,18 @@ ghost use Rattle.spine_cover.specs.Covering.{CoversBy};
 
 use geo_kernel::Spine;
 
-/// Two spines, each a chain or an area of one loop, that lie within half of `w` and within half of `v` of one point, or have it inside, touch by the sum `w + v`.
+/// Two spines, each a chain or an area of one loop, that lie within half of `w` and within half of `v` of one
+/// point, or have it inside, touch by the sum `w + v`.
 /// Lengths are in nm.
 pub fn covering_touches()
-    ensures { (p : OnePoint) (s t : OneSpine) (w v : ℕ) → IsSimple s → IsSimple t → CoversBy p w s → CoversBy p v t → SpinesTouch s t (w + v) }
+    ensures { (p : OnePoint) (s t : OneSpine) (w v : ℕ) → IsSimple s → IsSimple t → CoversBy p w s → CoversBy p v t
+        → SpinesTouch s t (w + v) }
 {}
 
 /// A moved spine covers the moved point of each point that it covered; it is still a chain, or an area of one loop.
 pub fn covering_moves()
-    ensures covers { (by p : OnePoint) (s : OneSpine) (w : ℕ) → CoversBy p w s → CoversBy (moved by p) w (moved_spine by s) }
+    ensures covers { (by p : OnePoint) (s : OneSpine) (w : ℕ) → CoversBy p w s
+        → CoversBy (moved by p) w (moved_spine by s) }
     ensures simple { (by : OnePoint) (s : OneSpine) → IsSimple s → IsSimple (moved_spine by s) }
 {}
 

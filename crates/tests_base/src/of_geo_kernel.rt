@@ -229,7 +229,8 @@ fn line(alloc: Global) -> Result<Figure, AllocError> {
     chain(alloc, &[at(5, 5), at(5, 6)])
 }
 
-/// Whether the line's points keep `k / 2` from the ring where `keeps` says so, and it touches the ring where `touches` does.
+/// Whether the line's points keep `k / 2` from the ring where `keeps` says so, and it touches the ring where
+/// `touches` does.
 fn line_is_so(line: &Figure, ring: &Figure, k: u16, keeps: bool, touches: bool) -> bool {
     points_keep(&[at(5, 5), at(5, 6)], &ring.spine, k as u64) == keeps
         && spine_touch(&line.spine, &ring.spine, k as u64) == touches
@@ -308,7 +309,8 @@ fn dot(alloc: Global) -> Result<Spine, AllocError>
     Ok(Spine::Chain(points))
 }
 
-/// Whether that point, moved to the right by `x`, keeps from the ring where `keeps` says so, and touches where `touches` does.
+/// Whether that point, moved to the right by `x`, keeps from the ring where `keeps` says so, and touches where
+/// `touches` does.
 fn moved_is_so(dot: &Spine, ring: &Figure, x: i16, k: u16, keeps: bool, touches: bool) -> bool
     requires { dot.now ≡ Spine.Chain (record { x = pos 5; y = pos 5 } ∷ []) }
 {

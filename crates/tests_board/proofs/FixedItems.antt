@@ -1,5 +1,6 @@
 -- The fixed items of a sound design: they fit it, and as copper they serve it.
-use Rattle.std.proofs.Common.{◌≡◌, ℕ, ◌<◌, refl, sym, ap, subst, Bool, true, List, [], ◌∷◌, Option, Some, None, All, IfSome, length, slice_get, get_or, cond, suc, arith, rules}
+use Rattle.std.proofs.Common.{◌≡◌, ℕ, ◌<◌, refl, sym, ap, subst, Bool, true, List, [], ◌∷◌, Option, Some, None, All}
+use Rattle.std.proofs.Common.{IfSome, length, slice_get, get_or, cond, suc, arith, rules}
 use Rattle.std.specs.List.{filter}
 use Rattle.std.proofs.lemmas.Option.{slice_get-get_or}
 use Rattle.pcb_model.specs.declared.item.Item.{Item}
@@ -15,7 +16,8 @@ each P (Some a) holds = holds a refl
 pub some_fits : (d : Design) → IsSound d → (at : ℕ) → IfSome (slice_get d.fixed at) IsItemFit
 some_fits d sound at = each IsItemFit (slice_get d.fixed at) (λ a there. (sound.fixed at a there).item.fits)
 
-pub fixed_at : (d : Design) → IsSound d → (k : ℕ) (x : Item) → k < length d.fixed → IsFixedSound d k (get_or d.fixed k x)
+pub fixed_at : (d : Design) → IsSound d → (k : ℕ) (x : Item) → k < length d.fixed
+    → IsFixedSound d k (get_or d.fixed k x)
 fixed_at d sound k x within = sound.fixed k (get_or d.fixed k x) (slice_get-get_or d.fixed k x within)
 
 abbrev IsFixed : Item → Type 0

@@ -1,4 +1,5 @@
-//! The tests of boards that short texts give: their designs, what the rules, pairs and searches answer, and their sessions.
+//! The tests of boards that short texts give: their designs, what the rules, pairs and searches answer, and their
+//! sessions.
 //! They stand over public calls in a crate of their own, so that the crates below are proved without them.
 #![tactic(auto)]
 

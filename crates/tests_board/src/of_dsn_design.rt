@@ -145,7 +145,8 @@ fn vertices(spine: &Spine) -> usize {
     }
 }
 
-/// The layers of pieces, counted from 1, as the digits of a number, and the width and the count of vertices of the last.
+/// The layers of pieces, counted from 1, as the digits of a number, and the width and the count of vertices of the
+/// last.
 fn summary(pieces: &[Piece]) -> (u64, u64, usize) {
     match pieces {
         [.., last] => (layers(pieces), last.width, vertices(&last.spine)),

@@ -27,7 +27,10 @@ const CUT_IN_PLACEMENT: &str = "(pcb T
 const DEEP: &str = "(((((((((((((((((((((((((((((((((((((((((((((((((((((((((((((((((";
 
 const MANY_LAYERS: &str =
-    "    (layer L0)(layer L1)(layer L2)(layer L3)(layer L4)(layer L5)(layer L6)(layer L7)(layer L8)(layer L9)(layer L10)(layer L11)(layer L12)(layer L13)(layer L14)(layer L15)(layer L16)(layer L17)(layer L18)(layer L19)(layer L20)(layer L21)(layer L22)(layer L23)(layer L24)(layer L25)(layer L26)(layer L27)(layer L28)(layer L29)(layer L30) (boundary";
+    "    (layer L0)(layer L1)(layer L2)(layer L3)(layer L4)(layer L5)(layer L6)(layer L7)(layer L8)\
+    (layer L9)(layer L10)(layer L11)(layer L12)(layer L13)(layer L14)(layer L15)(layer L16)(layer L17)\
+    (layer L18)(layer L19)(layer L20)(layer L21)(layer L22)(layer L23)(layer L24)(layer L25)(layer L26)\
+    (layer L27)(layer L28)(layer L29)(layer L30) (boundary";
 
 #[test]
 fn texts_without_a_design_are_refused(rt: HostRuntime) -> Result<(), Fail> {

@@ -112,7 +112,8 @@ fn a_fixed_wire_joins_two_of_three_pins_and_is_anchored_along_its_spine(
 
 // ---- a walk
 
-/// A pad on the front and one on the back. Keepouts leave one way: on the front to the right, up, and there by a via to the back.
+/// A pad on the front and one on the back. Keepouts leave one way: on the front to the right, up, and there by a
+/// via to the back.
 const ONE_WAY: &str = "(pcb b (resolution um 10)
   (structure (layer F) (layer B) (boundary (rect pcb 0 0 5000 4000))
     (keepout (rect F 2500 0 5000 4000)) (keepout (circle F 400 1000 2000)) (via_keepout (rect F 0 0 5000 2400))

@@ -152,7 +152,8 @@ impl Bound for OneStep {
 /// It is a bound among cells, since a cell of price 0 is a wall. A law, on a call that does nothing.
 fn one_step_bounds(cells: &Cells, goals: &List<u32>, goal: u32)
     requires { goals.now ≡ goal ∷ [] }
-    ensures { IsBound (cells_graph cells.now.prices cells.now.offsets cells.now.width) goals.now (λ v. cond (v == goal) 0 1) }
+    ensures { IsBound (cells_graph cells.now.prices cells.now.offsets cells.now.width) goals.now
+        (λ v. cond (v == goal) 0 1) }
 {}
 
 /// A least walk from a cell to another, found with that bound.

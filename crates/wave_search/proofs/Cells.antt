@@ -1,5 +1,6 @@
 -- The graph of cells may be searched.
-use Rattle.std.proofs.Common.{inl, inr, [], ◌∷◌, ◌≡◌, ℕ, ◌^◌, ◌<◌, ◌≤◌, List, length, Option, Some, None, Bool, true, false, cond, sym, refl, ap, ◌∙◌, subst, arith}
+use Rattle.std.proofs.Common.{inl, inr, [], ◌∷◌, ◌≡◌, ℕ, ◌^◌, ◌<◌, ◌≤◌, List, length, Option, Some, None, Bool, true}
+use Rattle.std.proofs.Common.{false, cond, sym, refl, ap, ◌∙◌, subst, arith}
 use Rattle.std.specs.Prelude.{nat_lt, ◌==◌, Contains}
 use Rattle.std.proofs.lemmas.Option.{some_pair_parts, none-some}
 use Rattle.std.proofs.lemmas.Bool.Decides.{nat_tests, eqb_tells}
@@ -13,14 +14,16 @@ use Rattle.wave_search.specs.Cells.{next_cell, price_of, cells_graph}
 below : (a b : ℕ) → nat_lt a b ≡ true → a < b
 below a b h = grind (arith, nat_tests)
 
-leads_if : (i : ℕ) (b : Bool) (x n : ℕ) → nat_lt x n ≡ b → (m : Move) (to : ℕ) → cond {A = Option (Move × ℕ)} b (Some (Step i, x)) None ≡ Some (m, to) → to < n
+leads_if : (i : ℕ) (b : Bool) (x n : ℕ) → nat_lt x n ≡ b → (m : Move) (to : ℕ)
+    → cond {A = Option (Move × ℕ)} b (Some (Step i, x)) None ≡ Some (m, to) → to < n
 leads_if i false x n h m to e = absurd (none-some (m, to) e)
 leads_if i true x n h m to e = subst (λ (y : ℕ). y < n) (some_pair_parts (Step i) m x to e).1 (below x n h)
 
 pub sound : (prices offsets : List ℕ) (width : ℕ) → length prices ≤ 2 ^ 24 → IsSound (cells_graph prices offsets width)
 sound prices offsets width h = record {
   nodes = omega (arith, h);
-  leads = λ v i m to a b e. leads_if i (nat_lt (next_cell offsets width v i) (length prices)) (next_cell offsets width v i) (length prices) refl m to e;
+  leads = λ v i m to a b e. leads_if i (nat_lt (next_cell offsets width v i) (length prices))
+      (next_cell offsets width v i) (length prices) refl m to e;
   small_price = λ v i p a b c. c.1;
   one_price = λ v i p q a b c d. c.0 ∙ sym d.0;
 }
@@ -36,7 +39,8 @@ itself n = elim (eqb_tells n n) [
 ]
 
 -- one more step has to be paid for wherever the one goal is not
-pub one_step : (prices offsets goals : List ℕ) (width goal : ℕ) → goals ≡ goal ∷ [] → IsBound (cells_graph prices offsets width) goals (λ v. cond (v == goal) 0 1)
+pub one_step : (prices offsets goals : List ℕ) (width goal : ℕ) → goals ≡ goal ∷ []
+    → IsBound (cells_graph prices offsets width) goals (λ v. cond (v == goal) 0 1)
 one_step prices offsets goals width goal is = record {
   limit = λ v h. let small : cond {A = ℕ} (v == goal) 0 1 ≤ 1 = at_most_one (v == goal) in omega (arith, small);
   at_goals = λ g c. elim (Contains-push_cases [] goal g (subst (λ (xs : List ℕ). Contains xs g) is c)) [

@@ -17,7 +17,8 @@ use Rattle.wave_search.proofs.Table.{here, other, put}
 use Rattle.wave_search.proofs.Steps.{same_or_not}
 
 -- the label that a row's place stands for
-pub read : (rows : List Row) (v : ℕ) (d : Row) → v < length rows → label_at (labels_of rows) v ≡ row_label (get_or rows v d)
+pub read : (rows : List Row) (v : ℕ) (d : Row) → v < length rows
+    → label_at (labels_of rows) v ≡ row_label (get_or rows v d)
 unfolding label_at
 read [] v d h = absurd (omega arith)
 read (x ∷ xs) zero d h = refl
@@ -30,7 +31,8 @@ blank (suc n) zero r e = e
 blank (suc n) (suc v) r e = blank n v r e
 
 -- a row that is written gives its node a label
-pub row_put : (rows : List Row) (v : ℕ) (r : Row) (l : Label) → v < length rows → row_label r ≡ Some l → IsPut (labels_of rows) v l (labels_of (set rows v r))
+pub row_put : (rows : List Row) (v : ℕ) (r : Row) (l : Label) → v < length rows → row_label r ≡ Some l
+    → IsPut (labels_of rows) v l (labels_of (set rows v r))
 row_put rows v r l h e = subst (λ (t : List (Option Label)). IsPut (labels_of rows) v l t)
     (sym (map-set row_label rows v r ∙ ap (λ (x : Option Label). set (labels_of rows) v x) e))
     (put (labels_of rows) v l (omega (arith, length-map rows row_label, h)))

@@ -1,13 +1,13 @@
 -- One turn of the search, and its end.
 use Rattle.std.proofs.Common.{◌≡◌, ℕ, ◌+◌, ◌-◌, ◌*◌, ◌^◌, ◌<◌, ◌≤◌, List, [], length, Option, Some, None, refl, sym, ap}
-use Rattle.std.proofs.Common.{◌∙◌, subst, arith}
+use Rattle.std.proofs.Common.{◌∙◌, subst, arith, inl, inr, ◌⊎◌}
 use Rattle.std.specs.Prelude.{Contains, IfSome, MatchOption}
 use Rattle.wave_search.specs.declared.rows.Label.{Label}
 use Rattle.wave_search.specs.declared.front.Entry.{Entry}
-use Rattle.wave_search.specs.Waiting.{IsTaken}
+use Rattle.wave_search.specs.Waiting.{IsTaken, Waits}
 use Rattle.route_lattice.specs.Walks.{MoveGraph, IsSound, NoneCostsLess, NoneLeads, IsReach}
 use Rattle.wave_search.specs.Bounds.{IsBound}
-use Rattle.wave_search.specs.State.{label_at, IsPut, KeepsDone, Comes, Roots, IsListed, IsState}
+use Rattle.wave_search.specs.State.{label_at, entry, IsPut, KeepsDone, Comes, Roots, IsListed, IsState}
 use Rattle.wave_search.proofs.Table.{within, at_most, more_to_do}
 use Rattle.wave_search.proofs.Steps.{finished, key_is, none_less, closed_none, closed_complete, closed_reached}
 use Rattle.wave_search.proofs.Steps.{not_done, one_label, done_kept}
@@ -77,6 +77,33 @@ module _ {graph : MoveGraph} {starts goals : List ℕ} {low : ℕ → ℕ} (soun
 
   pub node_below : e.node < graph.count
   node_below = omega (arith, node_in, state.1.roots.size)
+
+  -- the state is one without the entry, where its node is done
+  pub skipped : ((l : Label) → label_at t e.node ≡ Some l → l.rank ≡ 0 → ⊥)
+      → (level : ℕ) × IsState graph starts goals low t q' level fin 0 graph.arity
+  skipped done = (
+    state.0,
+    record {
+      roots = state.1.roots;
+      seeded = state.1.seeded;
+      priced = state.1.priced;
+      ranked = state.1.ranked;
+      waits = λ v l h r. still v l h r (taken.kept (entry (l.price + low v) v) (state.1.waits v l h r));
+      settled = state.1.settled;
+      no_goal = state.1.no_goal;
+      relaxed = state.1.relaxed;
+      above = λ x w. state.1.above x (taken.only x w);
+      labelled = λ x w. state.1.labelled x (taken.only x w);
+      done = state.1.done;
+    },
+  )
+    where
+      still : (v : ℕ) (l : Label) → label_at t v ≡ Some l → l.rank ≡ 0
+          → Waits q' (entry (l.price + low v) v) ⊎ (entry (l.price + low v) v ≡ e)
+          → Waits q' (entry (l.price + low v) v)
+      still v l h r (inl w) = w
+      still v l h r (inr is) =
+          absurd (done l (subst (λ (u : ℕ). label_at t u ≡ Some l) (ap (λ (x : Entry). x.node) is) h) r)
 
   module _ {l : Label} (there : label_at t e.node ≡ Some l) (rank_is : l.rank ≡ 0) where
     waits : (k : Label) → label_at t e.node ≡ Some k → k.rank ≡ 0

@@ -19,14 +19,21 @@ other (x ∷ xs) zero (suc u) l h = refl
 other (x ∷ xs) (suc v) zero l h = refl
 other (x ∷ xs) (suc v) (suc u) l h = other xs v u l (λ e. h (ap suc e))
 
-done : (t : List (Option Label)) (v : ℕ) (l : Label) → v < length t → done_count (set t v (Some l)) + done_of (label_at t v) ≡ done_count t + done_by l.rank
+done : (t : List (Option Label)) (v : ℕ) (l : Label) → v < length t
+    → done_count (set t v (Some l)) + done_of (label_at t v) ≡ done_count t + done_by l.rank
 unfolding label_at done_count
 done [] v l h = absurd (omega arith)
 done (x ∷ xs) zero l h = omega arith
 done (x ∷ xs) (suc v) l h = omega (arith, done xs v l (omega arith))
 
 pub put : (t : List (Option Label)) (v : ℕ) (l : Label) → v < length t → IsPut t v l (set t v (Some l))
-put t v l h = record { here = here t v (Some l) h; others = λ u. other t v u (Some l); size = length-set t v (Some l); done = done t v l h }
+put t v l h =
+    record {
+      here = here t v (Some l) h;
+      others = λ u. other t v u (Some l);
+      size = length-set t v (Some l);
+      done = done t v l h;
+    }
 
 -- where no node has a label, none is done
 pub none_done : (t : List (Option Label)) → ((v : ℕ) → label_at t v ≡ None) → done_count t ≡ 0

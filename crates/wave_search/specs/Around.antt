@@ -1,5 +1,6 @@
 -- The boxes of goals, and how far a node lies from the nearest.
-use Rattle.std.specs.Prelude.{◌≤◌, ◌<◌, ◌^◌, ◌+◌, ◌⊎◌, ℕ, ℤ, pos, ◌-ℤ◌, unsigned_abs, max, min, List, [], ◌∷◌, All, Contains, fold, cond, nat_lt}
+use Rattle.std.specs.Prelude.{◌≤◌, ◌<◌, ◌^◌, ◌+◌, ◌⊎◌, ℕ, ℤ, pos, ◌-ℤ◌, unsigned_abs, max, min, List, [], ◌∷◌, All}
+use Rattle.std.specs.Prelude.{Contains, fold, cond, nat_lt}
 use Rattle.std.specs.Int.{int_min, int_max}
 use Rattle.geo_kernel.specs.declared.point.Point.{Point}
 use Rattle.geo_kernel.specs.declared.point.Rect4.{Rect4}

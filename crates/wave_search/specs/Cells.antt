@@ -15,7 +15,8 @@ abbrev pub cells_graph : List ℕ → List ℕ → ℕ → MoveGraph
 cells_graph prices offsets width = record {
   count = length prices;
   arity = length offsets;
-  at = λ v i. cond (nat_lt (next_cell offsets width v i) (length prices)) (Some (Step i, next_cell offsets width v i)) None;
+  at = λ v i. cond (nat_lt (next_cell offsets width v i) (length prices)) (Some (Step i, next_cell offsets width v i))
+      None;
   open_at = λ v i. 0 < price_of prices (next_cell offsets width v i);
   priced = λ v i p. (p ≡ price_of prices (next_cell offsets width v i)) × (p ≤ 2 ^ 35);
 }

@@ -12,7 +12,8 @@ origin_of o = cond (o == NO_NODE) None (Some o)
 
 -- the label that a row stands for
 abbrev pub row_label : Row → Option Label
-row_label r = cond (r.price == NO_PRICE) None (Some (record { price = r.price; rank = r.rank; origin = origin_of r.origin }))
+row_label r =
+    cond (r.price == NO_PRICE) None (Some (record { price = r.price; rank = r.rank; origin = origin_of r.origin }))
 
 abbrev pub labels_of : List Row → List (Option Label)
 labels_of rows = map row_label rows

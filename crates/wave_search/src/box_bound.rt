@@ -12,7 +12,8 @@ ghost use Rattle.pcb_model.specs.declared.item.Item.{Item as OneItem};
 ghost use Rattle.route_lattice.specs.Legal.{legal_graph, CanMove};
 ghost use Rattle.route_lattice.specs.Mesh.{Mesh};
 ghost use Rattle.route_lattice.specs.Parts.{IsBoxWithin};
-ghost use Rattle.wave_search.specs.Around.{AreLinesWithin, box_at, widened, IsHeldBy, AreAround, above_by, outside_of, way_to as way_to_box, way_to_nearest, low_at};
+ghost use Rattle.wave_search.specs.Around.{AreLinesWithin, box_at, widened, IsHeldBy, AreAround, above_by};
+ghost use Rattle.wave_search.specs.Around.{outside_of, way_to as way_to_box, way_to_nearest, low_at};
 ghost use Rattle.wave_search.specs.Bounds.{IsBound};
 
 use crate::bound::Bound;
@@ -145,18 +146,28 @@ fn take_in(boxes: &mut Vec<Rect4>, p: Point) -> Result<(), AllocError>
     Ok(())
 }
 
+/// Takes in the points of those of the numbers that are nodes.
+fn take_in_nodes(boxes: &mut Vec<Rect4>, lat: &Lattice, nodes: &[u32]) -> Result<(), AllocError>
+    requires lines { AreLinesWithin lat.now }
+    requires boxes { All IsBoxWithin boxes.old.items }
+    ensures { OnOk result (AreAround lat.now nodes.now boxes.new.items) }
+{
+    for v in nodes {
+        let node = *v;
+        if node < lat.count() {
+            take_in(boxes, lat.point(node))?;
+        }
+    }
+    Ok(())
+}
+
 /// Boxes around those of the numbers that are nodes.
 fn boxes_of_nodes(alloc: Global, lat: &Lattice, nodes: &[u32]) -> Result<Vec<Rect4>, AllocError>
     requires { AreLinesWithin lat.now }
     ensures { IfOk result (λ boxes. AreAround lat.now nodes.now boxes.items) }
 {
     let mut boxes = Vec::new(alloc);
-    for v in nodes {
-        let node = *v;
-        if node < lat.count() {
-            take_in(&mut boxes, lat.point(node))?;
-        }
-    }
+    take_in_nodes(&mut boxes, lat, nodes)?;
     Ok(boxes)
 }
 
@@ -200,7 +211,10 @@ impl Bound for BoxBound<'_> {
     }
 }
 
-/// Over the legal moves of a net on a lattice of its design, the distance from the nearest of boxes around the goals is a bound for them. A law, on a call that does nothing.
+/// Over the legal moves of a net on a lattice of its design, the distance from the nearest of boxes around the
+/// goals is a bound for them. A law, on a call that does nothing.
 pub fn box_bound_sound()
-    ensures { (d : TheDesign) (m : Mesh) (items : Seq OneItem) (net via_cost : ℕ) (goals : Seq ℕ) (boxes : Seq OneBox) → CanMove d m net via_cost → AreAround m goals boxes → IsBound (legal_graph d m items net via_cost) goals (low_at m boxes) }
+    ensures { (d : TheDesign) (m : Mesh) (items : Seq OneItem) (net via_cost : ℕ) (goals : Seq ℕ)
+        (boxes : Seq OneBox) → CanMove d m net via_cost → AreAround m goals boxes
+        → IsBound (legal_graph d m items net via_cost) goals (low_at m boxes) }
 {}

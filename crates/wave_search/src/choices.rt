@@ -31,7 +31,8 @@ pub(crate) struct Start {
     pub heading: Heading,
 }
 
-/// For each node that is done, by its rank, the best way on of each heading: 4 bytes a node, and 36 more where there are ways.
+/// For each node that is done, by its rank, the best way on of each heading: 4 bytes a node, and 36 more where
+/// there are ways.
 #[derive(Drop)]
 pub(crate) struct Choices {
     slots: Vec<u32>,

@@ -1,4 +1,5 @@
-//! The pass of a rule of ties over the nodes that a search has done, from the goals back to the starts over tight moves.
+//! The pass of a rule of ties over the nodes that a search has done, from the goals back to the starts over tight
+//! moves.
 //! Nodes are looked at in falling order of rank, so that all ways on from a node are known when it is its turn.
 
 ghost use Rattle.std.specs.Prelude.{◌≡◌, ℕ, ◌^◌, ◌<◌, length, Some};
@@ -220,7 +221,8 @@ impl<'a, M: Moves, B: Bound, T: Ties> Task<'a, M, B, T> {
         self.choose_before(table, choices, Place { node, label }, openness)
     }
 
-    /// The ways on from the nodes that are done, which are given in the order in which they were, to goals at the price.
+    /// The ways on from the nodes that are done, which are given in the order in which they were, to goals at the
+    /// price.
     pub(crate) fn choose(
         &self,
         alloc: Global,

@@ -39,7 +39,8 @@ impl Search {
     }
 
     /// A walk over open moves from a start to a goal such that none costs less; Closed exactly where there is none,
-    /// with all nodes that open moves reach from the starts. A goal that is no node is none. Of several such walks one is taken
+    /// with all nodes that open moves reach from the starts. A goal that is no node is none. Of several such walks
+    /// one is taken
     /// that costs little by the rule of ties.
     pub fn tied_walk<M: Moves, B: Bound, T: Ties>(
         &mut self,

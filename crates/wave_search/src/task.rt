@@ -2,12 +2,14 @@
 //! A node is done once it comes out of the front; its price is then the least.
 
 ghost use Rattle.std.specs.Prelude.{◌≡◌, ℕ, ◌+◌, ◌*◌, ◌^◌, ◌<◌, ◌≤◌, ◌↔◌, length, [], OnOk, IfOk, IfSome, Contains};
-ghost use Rattle.std.specs.Prelude.{Some, None, All};
+ghost use Rattle.std.specs.Prelude.{Some, None, All, MatchOption};
 ghost use Rattle.std.specs.Bool.{OnTrue, OnFalse};
 ghost use Rattle.route_lattice.specs.Walks.{IsSound, IsWalk, Answers};
 ghost use Rattle.wave_search.specs.Bounds.{IsBound};
 ghost use Rattle.wave_search.specs.declared.rows.Label.{Label as TheLabel};
 ghost use Rattle.wave_search.specs.State.{label_at, done_count, improves_on, is_done_by, KeepsDone, Roots, IsState};
+ghost use Rattle.wave_search.specs.State.{IsPut, entry};
+ghost use Rattle.wave_search.specs.Waiting.{IsAdded};
 
 use crate::bound::Bound;
 use crate::choose::Openness;
@@ -40,6 +42,40 @@ fn is_done(old: Option<Label>) -> bool
     }
 }
 
+/// The label of a node that isn't done; None where it is done.
+fn waiting(table: &Labels, node: u32) -> Option<Label>
+    requires node { node < length table.now }
+    requires there { (l : TheLabel) × (label_at table.now node ≡ Some l) }
+    ensures { MatchOption result ((l : TheLabel) → label_at table.now node ≡ Some l → l.rank ≡ 0 → ⊥)
+        (λ l. (label_at table.now node ≡ Some l) × (l.rank ≡ 0)) }
+{
+    let Some(label) = table.get(node) else {
+        unreachable!();
+    };
+    if label.rank != 0 {
+        return None;
+    }
+    Some(label)
+}
+
+/// Gives a node that is done its label and its place in the order.
+fn place(
+    table: &mut Labels,
+    order: &mut Vec<u32>,
+    node: u32,
+    label: Label,
+) -> Result<(), AllocError>
+    requires node { node < length table.old }
+    requires price { label.price < 2 ^ 60 }
+    requires origin { IfSome label.origin (λ o. o < 2 ^ 25) }
+    ensures put { OnOk result (IsPut table.old node label table.new) }
+    ensures size { length table.new ≡ length table.old }
+{
+    table.put(node, label)?;
+    order.push(node)?;
+    Ok(())
+}
+
 /// What is searched for.
 #[derive(Drop)]
 pub(crate) struct Task<'a, M: Moves, B: Bound, T: Ties> {
@@ -56,6 +92,30 @@ impl<'a, M: Moves, B: Bound, T: Ties> Task<'a, M, B, T> {
     /// chooses, the one of least price does, so that a node is done after all that come before it on a least walk.
     fn among_equals(&self, price: u64, low: u64) -> u64 {
         if self.ties.tells() { price } else { low }
+    }
+
+    /// Gives a node a label, with which it waits.
+    fn let_wait(
+        &self,
+        table: &mut Labels,
+        front: &mut Front,
+        node: u32,
+        label: Label,
+    ) -> Result<(), AllocError>
+        requires node { node < length table.old }
+        requires price { label.price < 2 ^ 62 }
+        requires low { B.low_of self.now.b.now node < 2 ^ 62 }
+        requires origin { IfSome label.origin (λ o. o < 2 ^ 25) }
+        ensures put { OnOk result (IsPut table.old node label table.new) }
+        ensures added { OnOk result
+            (IsAdded front.old (entry (label.price + B.low_of self.now.b.now node) node) front.new) }
+        ensures size { length table.new ≡ length table.old }
+    {
+        table.put(node, label)?;
+        let low = self.b.low(node);
+        let key = label.price + low;
+        let order = self.among_equals(label.price, low);
+        front.push(Entry { key, node }, order)
     }
 
     /// Looks at move `i` of the node, which was done last.
@@ -100,7 +160,9 @@ impl<'a, M: Moves, B: Bound, T: Ties> Task<'a, M, B, T> {
             return Ok(());
         }
         let origin = Some(node);
-        table.put(
+        self.let_wait(
+            table,
+            front,
             to,
             Label {
                 price,
@@ -108,10 +170,6 @@ impl<'a, M: Moves, B: Bound, T: Ties> Task<'a, M, B, T> {
                 origin,
             },
         )?;
-        let low = self.b.low(to);
-        let key = price + low;
-        let order = self.among_equals(price, low);
-        front.push(Entry { key, node: to }, order)?;
         Ok(())
     }
 
@@ -160,18 +218,16 @@ impl<'a, M: Moves, B: Bound, T: Ties> Task<'a, M, B, T> {
         ensures size { length table.new ≡ length table.old }
     {
         for s in self.starts.as_slice() {
-            let node = *s;
-            table.put(
-                node,
+            self.let_wait(
+                table,
+                front,
+                *s,
                 Label {
                     price: 0,
                     rank: 0,
                     origin: None,
                 },
             )?;
-            let key = self.b.low(node);
-            let order = self.among_equals(0, key);
-            front.push(Entry { key, node }, order)?;
         }
         Ok(())
     }
@@ -202,23 +258,83 @@ impl<'a, M: Moves, B: Bound, T: Ties> Task<'a, M, B, T> {
             if entry.key > limit {
                 return Ok(());
             }
-            let Some(found) = table.get(entry.node) else {
-                unreachable!();
-            };
-            if found.rank != 0 {
+            let Some(found) = waiting(table, entry.node) else {
                 continue;
-            }
+            };
             let label = Label {
                 price: found.price,
                 rank: finished + 1,
                 origin: found.origin,
             };
-            table.put(entry.node, label)?;
+            place(table, order, entry.node, label)?;
             finished += 1;
-            order.push(entry.node)?;
             self.relax(table, front, entry.node, label)?;
         }
         Ok(())
+    }
+
+    /// Goes on from a node that was done last until each node whose key is at most its price is done. No node is a
+    /// goal.
+    fn settle_from(
+        &self,
+        table: &mut Labels,
+        front: &mut Front,
+        order: &mut Vec<u32>,
+        node: u32,
+        label: Label,
+    ) -> Result<(), AllocError>
+        requires ready { M.ready self.now.m.now }
+        requires sound { IsSound (M.graph self.now.m.now) }
+        requires bound { IsBound (M.graph self.now.m.now) self.now.goals.now (B.low_of self.now.b.now) }
+        requires no_goals { self.now.goals.now ≡ [] }
+        requires there { label_at table.old node ≡ Some label }
+        requires is_done { 0 < label.rank }
+        requires state { IsState (M.graph self.now.m.now) self.now.starts.now self.now.goals.now
+            (B.low_of self.now.b.now) table.old front.old
+            (label.price + B.low_of self.now.b.now node) label.rank node 0 }
+        ensures kept { OnOk result (KeepsDone table.old table.new) }
+        ensures roots { OnOk result (Roots (M.graph self.now.m.now) self.now.starts.now table.new) }
+        ensures small { OnOk result ((v : ℕ) (l : TheLabel) → label_at table.new v ≡ Some l → l.price < 2 ^ 60) }
+        ensures size { length table.new ≡ length table.old }
+    {
+        self.relax(table, front, node, label)?;
+        self.settle(table, front, order, label.rank, label.price)?;
+        Ok(())
+    }
+
+    /// Goes on from a goal that was done last until all nodes on walks of its price are done.
+    fn settle_rest(
+        &self,
+        alloc: Global,
+        table: &mut Labels,
+        front: &mut Front,
+        order: &mut Vec<u32>,
+        node: u32,
+        label: Label,
+    ) -> Result<(), AllocError>
+        requires ready { M.ready self.now.m.now }
+        requires sound { IsSound (M.graph self.now.m.now) }
+        requires bound { IsBound (M.graph self.now.m.now) self.now.goals.now (B.low_of self.now.b.now) }
+        requires there { label_at table.old node ≡ Some label }
+        requires is_done { 0 < label.rank }
+        requires state { IsState (M.graph self.now.m.now) self.now.starts.now []
+            (B.low_of self.now.b.now) table.old front.old
+            (label.price + B.low_of self.now.b.now node) label.rank node 0 }
+        ensures kept { OnOk result (KeepsDone table.old table.new) }
+        ensures roots { OnOk result (Roots (M.graph self.now.m.now) self.now.starts.now table.new) }
+        ensures small { OnOk result ((v : ℕ) (l : TheLabel) → label_at table.new v ≡ Some l → l.price < 2 ^ 60) }
+        ensures size { length table.new ≡ length table.old }
+    {
+        let none = List::new(alloc);
+        let rest = Task {
+            m: self.m,
+            b: self.b,
+            ties: self.ties,
+            starts: self.starts,
+            goals: &none,
+            marks: self.marks,
+        };
+        rest.settle_from(table, front, order, node, label)
     }
 
     /// A walk to a goal at the price that costs little by the rule of ties, if the pass of the rule leads to one.
@@ -305,17 +421,7 @@ impl<'a, M: Moves, B: Bound, T: Ties> Task<'a, M, B, T> {
         if !self.ties.tells() {
             return self.trace(alloc, table, node, label);
         }
-        let none = List::new(alloc);
-        let rest = Task {
-            m: self.m,
-            b: self.b,
-            ties: self.ties,
-            starts: self.starts,
-            goals: &none,
-            marks: self.marks,
-        };
-        rest.relax(table, front, node, label)?;
-        rest.settle(table, front, order, label.rank, label.price)?;
+        self.settle_rest(alloc, table, front, order, node, label)?;
         self.walk_to(alloc, table, order.as_slice(), node, label)
     }
 
@@ -329,6 +435,48 @@ impl<'a, M: Moves, B: Bound, T: Ties> Task<'a, M, B, T> {
             return false;
         }
         self.marks.has(entry.node)
+    }
+
+    /// Makes nodes done until a goal is: a least walk, or all that is reached. The nodes that are done are added to the
+    /// order.
+    fn search(
+        &self,
+        alloc: Global,
+        table: &mut Labels,
+        front: &mut Front,
+        order: &mut Vec<u32>,
+    ) -> Result<Found, AllocError>
+        requires ready { M.ready self.now.m.now }
+        requires sound { IsSound (M.graph self.now.m.now) }
+        requires bound { IsBound (M.graph self.now.m.now) self.now.goals.now (B.low_of self.now.b.now) }
+        requires marked { (v : ℕ) → (Contains self.now.marks.now v ↔ Contains self.now.goals.now v) }
+        requires state { IsState (M.graph self.now.m.now) self.now.starts.now self.now.goals.now
+            (B.low_of self.now.b.now) table.old front.old 0 0 0 (M.graph self.now.m.now).arity }
+        ensures answers { IfOk result (Answers (M.graph self.now.m.now) self.now.starts.now self.now.goals.now) }
+        ensures size { length table.new ≡ length table.old }
+    {
+        let mut finished: u32 = 0;
+        'search: while let Some(entry) = front.pop()? {
+            let Some(found) = waiting(table, entry.node) else {
+                continue;
+            };
+            let label = Label {
+                price: found.price,
+                rank: finished + 1,
+                origin: found.origin,
+            };
+            place(table, order, entry.node, label)?;
+            if self.is_goal(entry, label.price) {
+                let walk = self.end(alloc, table, front, order, entry.node, label)?;
+                return Ok(Found::Walk(walk));
+            }
+            finished += 1;
+            self.relax(table, front, entry.node, label)?;
+        }
+        let nodes = table.nodes(alloc)?;
+        Ok(Found::Closed(Reach {
+            nodes: List::from_vec(nodes),
+        }))
     }
 
     /// A least walk, or all that is reached.
@@ -347,31 +495,6 @@ impl<'a, M: Moves, B: Bound, T: Ties> Task<'a, M, B, T> {
         let mut front = Front::new(alloc);
         let mut order = Vec::new(alloc);
         self.seed(table, &mut front)?;
-        let mut finished: u32 = 0;
-        'search: while let Some(entry) = front.pop()? {
-            let Some(found) = table.get(entry.node) else {
-                unreachable!();
-            };
-            if found.rank != 0 {
-                continue;
-            }
-            let label = Label {
-                price: found.price,
-                rank: finished + 1,
-                origin: found.origin,
-            };
-            table.put(entry.node, label)?;
-            order.push(entry.node)?;
-            if self.is_goal(entry, label.price) {
-                let walk = self.end(alloc, table, &mut front, &mut order, entry.node, label)?;
-                return Ok(Found::Walk(walk));
-            }
-            finished += 1;
-            self.relax(table, &mut front, entry.node, label)?;
-        }
-        let nodes = table.nodes(alloc)?;
-        Ok(Found::Closed(Reach {
-            nodes: List::from_vec(nodes),
-        }))
+        self.search(alloc, table, &mut front, &mut order)
     }
 }

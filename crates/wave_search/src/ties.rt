@@ -7,7 +7,8 @@ ghost use Rattle.wave_search.specs.Directions.{heading, turns, is_against, direc
 
 use route_lattice::{Lattice, Move};
 
-/// A rule of ties. Each move of a walk has a cost beside its price, and of the least walks one whose costs sum to little is taken.
+/// A rule of ties. Each move of a walk has a cost beside its price, and of the least walks one whose costs sum to
+/// little is taken.
 pub trait Ties {
     /// Whether the rule tells any two walks apart. Where it doesn't, a search ends at the first goal.
     fn tells(&self) -> bool;
@@ -78,7 +79,8 @@ fn leads_against(place: usize, here: Heading) -> bool
     }
 }
 
-/// Few corners, and on each signal layer a preferred direction: a step costs its length where it leads along y on the first signal layer
+/// Few corners, and on each signal layer a preferred direction: a step costs its length where it leads along y on
+/// the first signal layer
 /// of a lattice, the third and so on, or along x on the others, and a corner as much as 20 um of such steps.
 #[derive(Drop)]
 pub struct LayerDirections<'a> {

@@ -1,7 +1,8 @@
 //! The trace of a walk over the labels that a search leaves, by tight moves.
 //! A move is tight where it is open and leads from one node to another at exactly the other's price.
 
-ghost use Rattle.std.specs.Prelude.{◌≡◌, ℕ, ◌^◌, ◌<◌, length, None, IfOk, IfSome, Contains, Some, MatchOption};
+ghost use Rattle.std.specs.Prelude.{◌≡◌, ℕ, ◌^◌, ◌<◌, length, [], None, IfOk, OnOk};
+ghost use Rattle.std.specs.Prelude.{IfSome, Contains, Some, MatchOption};
 ghost use Rattle.route_lattice.specs.Walks.{IsSound, IsWalk};
 ghost use Rattle.wave_search.specs.declared.rows.Label.{Label as TheLabel};
 ghost use Rattle.wave_search.specs.State.{label_at, IsTight, IsTightBy, Roots};
@@ -24,7 +25,8 @@ impl<'a, M: Moves, B: Bound, T: Ties> Task<'a, M, B, T> {
         requires node { from < (M.graph self.now.m.now).count }
         requires index { i < (M.graph self.now.m.now).arity }
         requires small { before < 2 ^ 60 }
-        ensures { MatchOption result ((t : IsTight (M.graph self.now.m.now) from before to price) → t.hop.index ≡ i → ⊥) (λ mv. IsTightBy (M.graph self.now.m.now) from before to price mv) }
+        ensures { MatchOption result ((t : IsTight (M.graph self.now.m.now) from before to price) → t.hop.index ≡ i
+            → ⊥) (λ mv. IsTightBy (M.graph self.now.m.now) from before to price mv) }
     {
         let Some((mv, there)) = self.m.at(from, i) else {
             return None;
@@ -47,7 +49,8 @@ impl<'a, M: Moves, B: Bound, T: Ties> Task<'a, M, B, T> {
         requires sound { IsSound (M.graph self.now.m.now) }
         requires node { from < (M.graph self.now.m.now).count }
         requires small { before < 2 ^ 60 }
-        ensures { MatchOption result (IsTight (M.graph self.now.m.now) from before to price → ⊥) (λ mv. IsTightBy (M.graph self.now.m.now) from before to price mv) }
+        ensures { MatchOption result (IsTight (M.graph self.now.m.now) from before to price → ⊥)
+            (λ mv. IsTightBy (M.graph self.now.m.now) from before to price mv) }
     {
         for i in 0..self.m.arity() {
             if let Some(mv) = self.tight_at(from, before, to, price, i) {
@@ -55,6 +58,47 @@ impl<'a, M: Moves, B: Bound, T: Ties> Task<'a, M, B, T> {
             }
         }
         None
+    }
+
+    /// Adds the nodes and the moves of the walk that the label of a node stands for.
+    fn trace_into(
+        &self,
+        table: &Labels,
+        node: u32,
+        label: Label,
+        nodes: &mut Vec<u32>,
+        moves: &mut Vec<Move>,
+    ) -> Result<(), AllocError>
+        requires ready { M.ready self.now.m.now }
+        requires sound { IsSound (M.graph self.now.m.now) }
+        requires roots { Roots (M.graph self.now.m.now) self.now.starts.now table.now }
+        requires small { (v : ℕ) (l : TheLabel) → label_at table.now v ≡ Some l → l.price < 2 ^ 60 }
+        requires there { label_at table.now node ≡ Some label }
+        requires is_done { 0 < label.rank }
+        requires goal { Contains self.now.goals.now node }
+        requires no_nodes { nodes.old.items ≡ [] }
+        requires no_moves { moves.old.items ≡ [] }
+        ensures { OnOk result (IsWalk (M.graph self.now.m.now) self.now.starts.now self.now.goals.now
+            (record { nodes = nodes.new.items; moves = moves.new.items; price = label.price })) }
+    {
+        let mut at = node;
+        let mut here = label;
+        nodes.push(at)?;
+        while let Some(from) = here.origin {
+            let Some(before) = table.get(from) else {
+                unreachable!();
+            };
+            let Some(mv) = self.tight_to(from, before.price, at, here.price) else {
+                unreachable!();
+            };
+            moves.push(mv)?;
+            at = from;
+            here = before;
+            nodes.push(at)?;
+        }
+        nodes.reverse();
+        moves.reverse();
+        Ok(())
     }
 
     /// The walk that the label of a node stands for.
@@ -77,23 +121,7 @@ impl<'a, M: Moves, B: Bound, T: Ties> Task<'a, M, B, T> {
     {
         let mut nodes = Vec::new(alloc);
         let mut moves = Vec::new(alloc);
-        let mut at = node;
-        let mut here = label;
-        nodes.push(at)?;
-        while let Some(from) = here.origin {
-            let Some(before) = table.get(from) else {
-                unreachable!();
-            };
-            let Some(mv) = self.tight_to(from, before.price, at, here.price) else {
-                unreachable!();
-            };
-            moves.push(mv)?;
-            at = from;
-            here = before;
-            nodes.push(at)?;
-        }
-        nodes.reverse();
-        moves.reverse();
+        self.trace_into(table, node, label, &mut nodes, &mut moves)?;
         Ok(Walk {
             nodes: List::from_vec(nodes),
             moves: List::from_vec(moves),
@@ -104,7 +132,8 @@ impl<'a, M: Moves, B: Bound, T: Ties> Task<'a, M, B, T> {
     /// The label of a node that is done after one of that rank.
     pub(crate) fn label_after(&self, table: &Labels, rank: u32, to: u32) -> Option<Label>
         requires { length table.now ≡ (M.graph self.now.m.now).count }
-        ensures { IfSome result (λ l. (label_at table.now to ≡ Some l) × (rank < l.rank) × (to < (M.graph self.now.m.now).count) × (l.rank < 2 ^ 32)) }
+        ensures { IfSome result (λ l. (label_at table.now to ≡ Some l) × (rank < l.rank)
+            × (to < (M.graph self.now.m.now).count) × (l.rank < 2 ^ 32)) }
     {
         if to >= self.m.count() {
             return None;
@@ -119,7 +148,8 @@ impl<'a, M: Moves, B: Bound, T: Ties> Task<'a, M, B, T> {
     /// The label of a start that is done.
     fn label_of_start(&self, table: &Labels, node: u32) -> Option<Label>
         requires { length table.now ≡ (M.graph self.now.m.now).count }
-        ensures { IfSome result (λ l. (label_at table.now node ≡ Some l) × (0 < l.rank) × (l.origin ≡ None) × (node < (M.graph self.now.m.now).count) × (l.rank < 2 ^ 32)) }
+        ensures { IfSome result (λ l. (label_at table.now node ≡ Some l) × (0 < l.rank) × (l.origin ≡ None)
+            × (node < (M.graph self.now.m.now).count) × (l.rank < 2 ^ 32)) }
     {
         let label = self.label_after(table, 0, node)?;
         if label.origin.is_some() {
@@ -142,7 +172,9 @@ impl<'a, M: Moves, B: Bound, T: Ties> Task<'a, M, B, T> {
         requires roots { Roots (M.graph self.now.m.now) self.now.starts.now table.now }
         requires small { (v : ℕ) (l : TheLabel) → label_at table.now v ≡ Some l → l.price < 2 ^ 60 }
         requires marked { (v : ℕ) → Contains self.now.marks.now v → Contains self.now.goals.now v }
-        ensures { IfOk result (λ o. IfSome o (λ w. IsWalk (M.graph self.now.m.now) self.now.starts.now self.now.goals.now w × (w.price ≡ price))) }
+        ensures { IfOk result
+            (λ o. IfSome o (λ w. IsWalk (M.graph self.now.m.now) self.now.starts.now self.now.goals.now w
+            × (w.price ≡ price))) }
     {
         let Some(mut here) = self.label_of_start(table, start.node) else {
             return Ok(None);

@@ -10,12 +10,23 @@ blank = record { node = 0; index = 0; by = Item 0 }
 
 pub loop-b-preserved : goal.loop-b-preserved
 unfolding blank
-loop-b-preserved g c = each_more (IsBlock (g.M.Moves.graph c.args.m.now).at (g.M.Moves.graph c.args.m.now).arity (g.M.Shuts.shut_by c.args.m.now) c.args.nodes.now) c.args.blocked.now c.loop-b.b-index blank c.loop-b-test.true c.loop-b.invariant (c.is_block.ensures.0 c.if-not-is_block.false)
+loop-b-preserved g c =
+    each_more (IsBlock (g.M.Moves.graph c.args.m.now).at (g.M.Moves.graph c.args.m.now).arity
+    (g.M.Shuts.shut_by c.args.m.now) c.args.nodes.now) c.args.blocked.now c.loop-b.b-index blank c.loop-b-test.true
+    c.loop-b.invariant (c.is_block.ensures.0 c.if-not-is_block.false)
 
 pub returns : goal.returns
-returns g c = each_true (IsBlock (g.M.Moves.graph c.args.m.now).at (g.M.Moves.graph c.args.m.now).arity (g.M.Shuts.shut_by c.args.m.now) c.args.nodes.now) c.args.blocked.now c.loop-b.b-index c.loop-b-test.false c.loop-b.invariant
+returns g c =
+    each_true (IsBlock (g.M.Moves.graph c.args.m.now).at (g.M.Moves.graph c.args.m.now).arity
+    (g.M.Shuts.shut_by c.args.m.now) c.args.nodes.now) c.args.blocked.now c.loop-b.b-index c.loop-b-test.false
+    c.loop-b.invariant
 
 pub returns-then-not-is_block : goal.returns-then-not-is_block
 unfolding blank
-returns-then-not-is_block g c = each_false (IsBlock (g.M.Moves.graph c.args.m.now).at (g.M.Moves.graph c.args.m.now).arity (g.M.Shuts.shut_by c.args.m.now) c.args.nodes.now) c.args.blocked.now c.loop-b.b-index blank c.loop-b-test.true
-    (unless c.is_block.result (IsBlock (g.M.Moves.graph c.args.m.now).at (g.M.Moves.graph c.args.m.now).arity (g.M.Shuts.shut_by c.args.m.now) c.args.nodes.now (get_or c.args.blocked.now c.loop-b.b-index blank)) c.is_block.ensures c.if-not-is_block.true)
+returns-then-not-is_block g c =
+    each_false (IsBlock (g.M.Moves.graph c.args.m.now).at (g.M.Moves.graph c.args.m.now).arity
+    (g.M.Shuts.shut_by c.args.m.now) c.args.nodes.now) c.args.blocked.now c.loop-b.b-index blank c.loop-b-test.true
+    (unless c.is_block.result
+    (IsBlock (g.M.Moves.graph c.args.m.now).at (g.M.Moves.graph c.args.m.now).arity
+    (g.M.Shuts.shut_by c.args.m.now) c.args.nodes.now (get_or c.args.blocked.now c.loop-b.b-index blank))
+    c.is_block.ensures c.if-not-is_block.true)

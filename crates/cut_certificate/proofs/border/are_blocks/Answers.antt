@@ -5,16 +5,27 @@ use Rattle.cut_certificate.proofs.Blocks.{blocks_from_listed, listed_from_blocks
 use Rattle.cut_certificate.proofs.border.are_blocks.Goals as goal
 
 pub returns-then-not-in_order : goal.returns-then-not-in_order
-returns-then-not-in_order g c = refused (AreBlocks (g.M.Moves.graph c.args.m.now).at (g.M.Moves.graph c.args.m.now).arity (g.M.Shuts.shut_by c.args.m.now) c.args.nodes.now c.args.blocked.now)
+returns-then-not-in_order g c =
+    refused (AreBlocks (g.M.Moves.graph c.args.m.now).at (g.M.Moves.graph c.args.m.now).arity
+    (g.M.Shuts.shut_by c.args.m.now) c.args.nodes.now c.args.blocked.now)
     (λ a. unless c.in_order.result (AreInOrder c.args.blocked.now) c.in_order.ensures c.if-not-in_order.true a.in_order)
 
 pub returns-then-not-all_blocks : goal.returns-then-not-all_blocks
-returns-then-not-all_blocks g c = refused (AreBlocks (g.M.Moves.graph c.args.m.now).at (g.M.Moves.graph c.args.m.now).arity (g.M.Shuts.shut_by c.args.m.now) c.args.nodes.now c.args.blocked.now)
-    (λ a. unless c.all_blocks.result (All (IsBlock (g.M.Moves.graph c.args.m.now).at (g.M.Moves.graph c.args.m.now).arity (g.M.Shuts.shut_by c.args.m.now) c.args.nodes.now) c.args.blocked.now) c.all_blocks.ensures c.if-not-all_blocks.true a.only)
+returns-then-not-all_blocks g c =
+    refused (AreBlocks (g.M.Moves.graph c.args.m.now).at (g.M.Moves.graph c.args.m.now).arity
+    (g.M.Shuts.shut_by c.args.m.now) c.args.nodes.now c.args.blocked.now)
+    (λ a. unless c.all_blocks.result
+    (All (IsBlock (g.M.Moves.graph c.args.m.now).at (g.M.Moves.graph c.args.m.now).arity
+    (g.M.Shuts.shut_by c.args.m.now) c.args.nodes.now) c.args.blocked.now) c.all_blocks.ensures
+    c.if-not-all_blocks.true a.only)
 
 pub returns : goal.returns
 returns g c = (
-  λ h. blocks_from_listed (g.M.Moves.graph c.args.m.now).at (g.M.Moves.graph c.args.m.now).arity (g.M.Shuts.shut_by c.args.m.now) c.args.nodes.now c.args.blocked.now
-      (c.in_order.ensures.0 c.if-not-in_order.false) (c.all_blocks.ensures.0 c.if-not-all_blocks.false) (c.nodes_listed.ensures.0 h),
-  λ a. c.nodes_listed.ensures.1 (listed_from_blocks (g.M.Moves.graph c.args.m.now).at (g.M.Moves.graph c.args.m.now).arity (g.M.Shuts.shut_by c.args.m.now) c.args.nodes.now c.args.blocked.now a),
+  λ h. blocks_from_listed (g.M.Moves.graph c.args.m.now).at (g.M.Moves.graph c.args.m.now).arity
+      (g.M.Shuts.shut_by c.args.m.now) c.args.nodes.now c.args.blocked.now
+      (c.in_order.ensures.0 c.if-not-in_order.false) (c.all_blocks.ensures.0 c.if-not-all_blocks.false)
+      (c.nodes_listed.ensures.0 h),
+  λ a. c.nodes_listed.ensures.1
+      (listed_from_blocks (g.M.Moves.graph c.args.m.now).at (g.M.Moves.graph c.args.m.now).arity
+      (g.M.Shuts.shut_by c.args.m.now) c.args.nodes.now c.args.blocked.now a),
 )

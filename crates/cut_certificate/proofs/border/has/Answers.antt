@@ -4,4 +4,7 @@ use Rattle.std.specs.Prelude.{IsTrue, ◌↔◌, Contains}
 use Rattle.cut_certificate.proofs.border.has.Goals as goal
 
 pub returns : goal.returns
-returns c = subst (λ (b : Bool). IsTrue b ↔ Contains c.args.nodes.now c.args.node) (sym c.is_ok.ensures.value) (found_number c.args.nodes.now c.args.node c.binary_search.result c.requires.ascends c.binary_search.ensures.position)
+returns c =
+    let found = found_number c.args.nodes.now c.args.node c.binary_search.result c.requires.ascends in
+    subst (λ (b : Bool). IsTrue b ↔ Contains c.args.nodes.now c.args.node) (sym c.is_ok.ensures.value)
+    (found c.binary_search.ensures.position)

@@ -10,5 +10,8 @@ use Rattle.cut_certificate.proofs.border.is_listed.Goals as goal
 pub returns : goal.returns
 returns c =
     let facts = c.binary_search_by_key.ensures in
-    let by_place = facts.position (λ (b : Block). (b.node, b.index)) (answers_always _ _ _ (λ f a r g called. search rules)) in
-    subst (λ (b : Bool). IsTrue b ↔ IsListed c.args.blocked.now c.args.node c.args.index) (sym c.is_ok.ensures.value) (found_block c.args.blocked.now c.args.node c.args.index c.binary_search_by_key.result c.requires facts.bound by_place)
+    let by_place =
+    facts.position (λ (b : Block). (b.node, b.index)) (answers_always _ _ _ (λ f a r g called. search rules)) in
+    subst (λ (b : Bool). IsTrue b ↔ IsListed c.args.blocked.now c.args.node c.args.index) (sym c.is_ok.ensures.value)
+    (found_block c.args.blocked.now c.args.node c.args.index c.binary_search_by_key.result c.requires facts.bound
+    by_place)

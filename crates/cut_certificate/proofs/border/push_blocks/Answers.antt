@@ -8,17 +8,34 @@ use Rattle.cut_certificate.proofs.border.push_blocks.Goals.{then-leads_out+in-So
 
 pub loop-i-preserved : goal.loop-i-preserved
 loop-i-preserved g c =
-    let lt : c.loop-i.i < (g.M.Moves.graph c.args.m.now).arity = omega (arith, c.loop-i-test.true, c.arity-i-end.ensures) in
+    let lt : c.loop-i.i < (g.M.Moves.graph c.args.m.now).arity =
+    omega (arith, c.loop-i-test.true, c.arity-i-end.ensures) in
     elim c.if-leads_out.branch [
       | then-leads_out+in-Some+in_ok-push w ↦
           let b : Block = record { node = c.args.node; index = c.loop-i.i; by = w.in-Some.by } in
-          let same : c.if-leads_out.blocked.items ≡ c.loop-i.blocked.items ++ b ∷ [] = let e = w.blocked-is in let f = w.in_ok-push.ensures.items in cc in
-          subst (λ (bs : List Block). Extends (g.M.Moves.graph c.args.m.now).at (g.M.Moves.graph c.args.m.now).arity (g.M.Shuts.shut_by c.args.m.now) c.args.nodes.now c.args.node (c.loop-i.i + 1) c.args.blocked.now.items bs) (sym same)
-          (extends_block (g.M.Moves.graph c.args.m.now).at (g.M.Moves.graph c.args.m.now).arity (g.M.Shuts.shut_by c.args.m.now) c.args.nodes.now c.args.node c.loop-i.i c.args.blocked.now.items c.loop-i.blocked.items b c.loop-i.invariant refl refl
-          (record { node_in = c.requires.inside; in_range = lt; leads_out = c.leads_out.ensures.0 w.if-leads_out.true; shut = (w.blocker.ensures.shut w.in-Some.by).1 w.in-Some.is }))
+          let same : c.if-leads_out.blocked.items ≡ c.loop-i.blocked.items ++ b ∷ [] = let e = w.blocked-is in
+          let f = w.in_ok-push.ensures.items in cc in
+          subst (λ (bs : List Block). Extends (g.M.Moves.graph c.args.m.now).at (g.M.Moves.graph c.args.m.now).arity
+          (g.M.Shuts.shut_by c.args.m.now) c.args.nodes.now c.args.node (c.loop-i.i + 1) c.args.blocked.now.items
+          bs) (sym same)
+          (extends_block (g.M.Moves.graph c.args.m.now).at (g.M.Moves.graph c.args.m.now).arity
+          (g.M.Shuts.shut_by c.args.m.now) c.args.nodes.now c.args.node c.loop-i.i c.args.blocked.now.items
+          c.loop-i.blocked.items b c.loop-i.invariant refl refl
+          (record {
+            node_in = c.requires.inside;
+            in_range = lt;
+            leads_out = c.leads_out.ensures.0 w.if-leads_out.true;
+            shut = (w.blocker.ensures.shut w.in-Some.by).1 w.in-Some.is;
+          }))
       | else-leads_out w ↦
           let same : c.if-leads_out.blocked.items ≡ c.loop-i.blocked.items = let e = w.blocked-is in cc in
-          subst (λ (bs : List Block). Extends (g.M.Moves.graph c.args.m.now).at (g.M.Moves.graph c.args.m.now).arity (g.M.Shuts.shut_by c.args.m.now) c.args.nodes.now c.args.node (c.loop-i.i + 1) c.args.blocked.now.items bs) (sym same)
-          (extends_stays (g.M.Moves.graph c.args.m.now).at (g.M.Moves.graph c.args.m.now).arity (g.M.Shuts.shut_by c.args.m.now) c.args.nodes.now c.args.node c.loop-i.i c.args.blocked.now.items c.loop-i.blocked.items c.loop-i.invariant
-          (unless c.leads_out.result (LeadsOut (g.M.Moves.graph c.args.m.now).at c.args.nodes.now c.args.node c.loop-i.i) c.leads_out.ensures w.if-leads_out.false))
+          subst (λ (bs : List Block). Extends (g.M.Moves.graph c.args.m.now).at (g.M.Moves.graph c.args.m.now).arity
+          (g.M.Shuts.shut_by c.args.m.now) c.args.nodes.now c.args.node (c.loop-i.i + 1) c.args.blocked.now.items
+          bs) (sym same)
+          (extends_stays (g.M.Moves.graph c.args.m.now).at (g.M.Moves.graph c.args.m.now).arity
+          (g.M.Shuts.shut_by c.args.m.now) c.args.nodes.now c.args.node c.loop-i.i c.args.blocked.now.items
+          c.loop-i.blocked.items c.loop-i.invariant
+          (unless c.leads_out.result
+          (LeadsOut (g.M.Moves.graph c.args.m.now).at c.args.nodes.now c.args.node c.loop-i.i) c.leads_out.ensures
+          w.if-leads_out.false))
     ]

@@ -4,10 +4,20 @@ use Rattle.cut_certificate.proofs.Each.{each_more, each_true, each_false, unless
 use Rattle.cut_certificate.proofs.check.all_starts_in.Goals as goal
 
 pub loop-id-preserved : goal.loop-id-preserved
-loop-id-preserved g c = each_more (HoldsStartsOf c.args.d.now c.args.lat.now (g.C.Copper.items c.args.c.now) c.args.net c.args.nodes.now) c.args.ids.now c.loop-id.id-index 0 c.loop-id-test.true c.loop-id.invariant (c.starts_of_in.ensures.0 c.if-not-starts_of_in.false)
+loop-id-preserved g c =
+    each_more (HoldsStartsOf c.args.d.now c.args.lat.now (g.C.Copper.items c.args.c.now) c.args.net c.args.nodes.now)
+    c.args.ids.now c.loop-id.id-index 0 c.loop-id-test.true c.loop-id.invariant
+    (c.starts_of_in.ensures.0 c.if-not-starts_of_in.false)
 
 pub returns : goal.returns
-returns g c = each_true (HoldsStartsOf c.args.d.now c.args.lat.now (g.C.Copper.items c.args.c.now) c.args.net c.args.nodes.now) c.args.ids.now c.loop-id.id-index c.loop-id-test.false c.loop-id.invariant
+returns g c =
+    each_true (HoldsStartsOf c.args.d.now c.args.lat.now (g.C.Copper.items c.args.c.now) c.args.net c.args.nodes.now)
+    c.args.ids.now c.loop-id.id-index c.loop-id-test.false c.loop-id.invariant
 
 pub returns-then-not-starts_of_in : goal.returns-then-not-starts_of_in
-returns-then-not-starts_of_in g c = each_false (HoldsStartsOf c.args.d.now c.args.lat.now (g.C.Copper.items c.args.c.now) c.args.net c.args.nodes.now) c.args.ids.now c.loop-id.id-index 0 c.loop-id-test.true (unless c.starts_of_in.result ((HoldsStartsOf c.args.d.now c.args.lat.now (g.C.Copper.items c.args.c.now) c.args.net c.args.nodes.now) (get_or c.args.ids.now c.loop-id.id-index 0)) c.starts_of_in.ensures c.if-not-starts_of_in.true)
+returns-then-not-starts_of_in g c =
+    each_false (HoldsStartsOf c.args.d.now c.args.lat.now (g.C.Copper.items c.args.c.now) c.args.net c.args.nodes.now)
+    c.args.ids.now c.loop-id.id-index 0 c.loop-id-test.true
+    (unless c.starts_of_in.result
+    ((HoldsStartsOf c.args.d.now c.args.lat.now (g.C.Copper.items c.args.c.now) c.args.net c.args.nodes.now)
+    (get_or c.args.ids.now c.loop-id.id-index 0)) c.starts_of_in.ensures c.if-not-starts_of_in.true)

@@ -3,7 +3,11 @@ use Rattle.cut_certificate.proofs.Checking.{of_one, of_none}
 use Rattle.cut_certificate.proofs.check.none_anchors_of.Goals as goal
 
 pub returns-in-None : goal.returns-in-None
-returns-in-None g c = of_none (g.C.Copper.items c.args.c.now) c.requires.in_order (HoldsNone c.args.d.now c.args.lat.now c.args.nodes.now) c.args.id c.in-None.ensures
+returns-in-None g c =
+    of_none (g.C.Copper.items c.args.c.now) c.requires.in_order (HoldsNone c.args.d.now c.args.lat.now c.args.nodes.now)
+    c.args.id c.in-None.ensures
 
 pub returns-in-Some : goal.returns-in-Some
-returns-in-Some g c = of_one (g.C.Copper.items c.args.c.now) c.requires.in_order (HoldsNone c.args.d.now c.args.lat.now c.args.nodes.now) c.args.id c.in-Some.item.now c.in-Some.ensures.0 c.in-Some.ensures.1 c.none_anchors.result c.none_anchors.ensures
+returns-in-Some g c =
+    of_one (g.C.Copper.items c.args.c.now) c.requires.in_order (HoldsNone c.args.d.now c.args.lat.now c.args.nodes.now)
+    c.args.id c.in-Some.item.now c.in-Some.ensures.0 c.in-Some.ensures.1 c.none_anchors.result c.none_anchors.ensures

@@ -6,11 +6,20 @@ use Rattle.cut_certificate.proofs.Each.{unless, not_needed}
 use Rattle.cut_certificate.proofs.check.start_in.Goals as goal
 
 pub returns-then-not-anchor : goal.returns-then-not-anchor
-returns-then-not-anchor g c = (λ _ a l. absurd (unless c.anchor.result (Anchors c.args.d.now c.args.lat.now c.args.node c.args.item.now) c.anchor.ensures c.if-not-anchor.true a), λ _. refl)
+returns-then-not-anchor g c = (
+  λ _ a l. absurd
+      (unless c.anchor.result (Anchors c.args.d.now c.args.lat.now c.args.node c.args.item.now) c.anchor.ensures
+      c.if-not-anchor.true a),
+  λ _. refl,
+)
 
 pub returns-then-has : goal.returns-then-has
 returns-then-has g c = (λ _ a l. c.has.ensures.0 c.if-has.true, λ _. refl)
 
 pub returns : goal.returns
-returns g c = not_needed c.legal_node.result (Anchors c.args.d.now c.args.lat.now c.args.node c.args.item.now) (IsLegalNode c.args.d.now c.args.lat.now (g.C.Copper.items c.args.c.now) c.args.net c.args.node) (Contains c.args.nodes.now c.args.node)
-    c.legal_node.ensures (c.anchor.ensures.0 c.if-not-anchor.false) (unless c.has.result (Contains c.args.nodes.now c.args.node) c.has.ensures c.if-has.false)
+returns g c =
+    not_needed c.legal_node.result (Anchors c.args.d.now c.args.lat.now c.args.node c.args.item.now)
+    (IsLegalNode c.args.d.now c.args.lat.now (g.C.Copper.items c.args.c.now) c.args.net c.args.node)
+    (Contains c.args.nodes.now c.args.node)
+    c.legal_node.ensures (c.anchor.ensures.0 c.if-not-anchor.false)
+    (unless c.has.result (Contains c.args.nodes.now c.args.node) c.has.ensures c.if-has.false)

@@ -8,14 +8,25 @@ use Rattle.cut_certificate.proofs.Each.{unless, refused}
 use Rattle.cut_certificate.proofs.check.starts_in.Goals as goal
 
 pub loop-node-preserved : goal.loop-node-preserved
-loop-node-preserved g c = below_more (λ (v : ℕ). Anchors c.args.d.now c.args.lat.now v c.args.item.now → IsLegalNode c.args.d.now c.args.lat.now (g.C.Copper.items c.args.c.now) c.args.net v → Contains c.args.nodes.now v) c.loop-node.node c.loop-node.invariant (c.start_in.ensures.0 c.if-not-start_in.false)
+loop-node-preserved g c =
+    below_more (λ (v : ℕ). Anchors c.args.d.now c.args.lat.now v c.args.item.now
+    → IsLegalNode c.args.d.now c.args.lat.now (g.C.Copper.items c.args.c.now) c.args.net v
+    → Contains c.args.nodes.now v) c.loop-node.node c.loop-node.invariant
+    (c.start_in.ensures.0 c.if-not-start_in.false)
 
 pub returns : goal.returns
-returns g c = (λ _ node h. c.loop-node.invariant node (omega (arith, h, c.count-node-end.ensures.nodes, c.loop-node-test.false)), λ _. refl)
+returns g c = (
+  λ _ node h. c.loop-node.invariant node (omega (arith, h, c.count-node-end.ensures.nodes, c.loop-node-test.false)),
+  λ _. refl,
+)
 
 pub returns-then-not-start_in : goal.returns-then-not-start_in
 returns-then-not-start_in g c =
-    let lt : c.loop-node.node < node_count c.args.lat.now = omega (arith, c.loop-node-test.true, c.count-node-end.ensures.nodes) in
-    refused (HoldsStarts c.args.d.now c.args.lat.now (g.C.Copper.items c.args.c.now) c.args.net c.args.nodes.now c.args.item.now) (λ h. unless c.start_in.result
-    (Anchors c.args.d.now c.args.lat.now c.loop-node.node c.args.item.now → IsLegalNode c.args.d.now c.args.lat.now (g.C.Copper.items c.args.c.now) c.args.net c.loop-node.node → Contains c.args.nodes.now c.loop-node.node)
+    let lt : c.loop-node.node < node_count c.args.lat.now =
+    omega (arith, c.loop-node-test.true, c.count-node-end.ensures.nodes) in
+    refused (HoldsStarts c.args.d.now c.args.lat.now (g.C.Copper.items c.args.c.now) c.args.net c.args.nodes.now
+    c.args.item.now) (λ h. unless c.start_in.result
+    (Anchors c.args.d.now c.args.lat.now c.loop-node.node c.args.item.now
+    → IsLegalNode c.args.d.now c.args.lat.now (g.C.Copper.items c.args.c.now) c.args.net c.loop-node.node
+    → Contains c.args.nodes.now c.loop-node.node)
     c.start_in.ensures c.if-not-start_in.true (h c.loop-node.node lt))

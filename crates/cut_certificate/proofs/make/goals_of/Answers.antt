@@ -6,6 +6,9 @@ use Rattle.cut_certificate.proofs.Making.{goals_exact}
 use Rattle.cut_certificate.proofs.make.goals_of.Goals as goal
 
 pub returns : goal.returns
-returns g c = goals_exact c.args.d.now c.args.lat.now (g.C.Copper.items c.args.c.now) c.args.others.now c.in_ok-ids.ids.items c.in_ok-goals.goals
+returns g c =
+    goals_exact c.args.d.now c.args.lat.now (g.C.Copper.items c.args.c.now) c.args.others.now c.in_ok-ids.ids.items
+    c.in_ok-goals.goals
     (subst (λ (others : List Island). AreIdsOf others c.in_ok-ids.ids.items) c.as_slice.ensures c.in_ok-ids.ensures)
-    (subst (λ (ids : List ℕ). AreAnchorsAmong c.args.d.now c.args.lat.now (g.C.Copper.items c.args.c.now) ids c.in_ok-goals.goals) c.as_slice-2.ensures.value c.in_ok-goals.ensures)
+    (subst (λ (ids : List ℕ). AreAnchorsAmong c.args.d.now c.args.lat.now (g.C.Copper.items c.args.c.now) ids
+    c.in_ok-goals.goals) c.as_slice-2.ensures.value c.in_ok-goals.ensures)

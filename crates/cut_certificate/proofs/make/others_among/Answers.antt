@@ -7,5 +7,9 @@ use Rattle.cut_certificate.proofs.make.others_among.Goals as goal
 -- the closure keeps the islands that don't have the pin
 pub returns : goal.returns
 returns c =
-    let kept : c.retain.new.self.items ≡ filter (λ (s : Island). not (list_any (λ pin. pin == c.first_pin-first.result) s.pins)) c.into_vec-others.result.items = filter_same _ _ _ (λ x b f' k. search rules) _ _ c.retain.ensures.filtered in
-    c.from_vec.ensures ∙ (kept ∙ (λ i. filter (λ (s : Island). not (list_any (λ pin. pin == c.first_pin-first.ensures i) s.pins)) (c.into_vec-others.ensures i)))
+    let kept : c.retain.new.self.items
+    ≡ filter (λ (s : Island). not (list_any (λ pin. pin == c.first_pin-first.result) s.pins))
+    c.into_vec-others.result.items = filter_same _ _ _ (λ x b f' k. search rules) _ _ c.retain.ensures.filtered in
+    c.from_vec.ensures
+    ∙ (kept ∙ (λ i. filter (λ (s : Island). not (list_any (λ pin. pin == c.first_pin-first.ensures i) s.pins))
+    (c.into_vec-others.ensures i)))

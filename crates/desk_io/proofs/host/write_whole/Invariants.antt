@@ -4,7 +4,11 @@ use Rattle.desk_io.proofs.host.write_whole.Given as goal
 
 -- the writer took the first bytes
 abbrev pub invariant-loop-taken : goal.invariant-loop-taken
-invariant-loop-taken g l = record { within : l.taken ≤ length l.bytes; so_far : Appends (g.W.Write.contents l.fn.writer) (g.W.Write.contents l.writer) (take l.taken l.bytes) }
+invariant-loop-taken g l =
+    record {
+      within : l.taken ≤ length l.bytes;
+      so_far : Appends (g.W.Write.contents l.fn.writer) (g.W.Write.contents l.writer) (take l.taken l.bytes);
+    }
 
 abbrev pub decreases-loop-taken : goal.decreases-loop-taken
 decreases-loop-taken g l = length l.bytes - l.taken

@@ -1,22 +1,38 @@
 use Rattle.dsn_design.specs.declared.parts.Parts.{Parts}
 use Rattle.dsn_design.specs.Reading.{ArePartsOf}
-use Rattle.dsn_design.proofs.Phases.{fail_structure, fail_library, fail_placement, fail_network, fail_wiring, AreSound, parts_sound}
+use Rattle.dsn_design.proofs.Phases.{fail_structure, fail_library, fail_placement, fail_network, fail_wiring, AreSound}
+use Rattle.dsn_design.proofs.Phases.{parts_sound}
 use Rattle.dsn_design.proofs.design.read_parts.Goals as goal
 
 pub returns-in-Err-read_structure-clause-reads : goal.returns-in-Err-read_structure-clause-reads
-returns-in-Err-read_structure-clause-reads c = fail_structure c.args.pcb.now c.in-Ok.head c.in-Err-read_structure.fault c.in-Ok.ensures.reads c.in-Err-read_structure.ensures.reads
+returns-in-Err-read_structure-clause-reads c =
+    fail_structure c.args.pcb.now c.in-Ok.head c.in-Err-read_structure.fault c.in-Ok.ensures.reads
+    c.in-Err-read_structure.ensures.reads
 
 pub returns-in-Err-read_library-clause-reads : goal.returns-in-Err-read_library-clause-reads
-returns-in-Err-read_library-clause-reads c = fail_library c.args.pcb.now c.in-Ok.head c.in-Ok-read_structure.structure c.in-Err-read_library.fault c.in-Ok.ensures.reads c.in-Ok-read_structure.ensures.reads c.in-Err-read_library.ensures.reads
+returns-in-Err-read_library-clause-reads c =
+    fail_library c.args.pcb.now c.in-Ok.head c.in-Ok-read_structure.structure c.in-Err-read_library.fault
+    c.in-Ok.ensures.reads c.in-Ok-read_structure.ensures.reads c.in-Err-read_library.ensures.reads
 
 pub returns-in-Err-read_placement-clause-reads : goal.returns-in-Err-read_placement-clause-reads
-returns-in-Err-read_placement-clause-reads c = fail_placement c.args.pcb.now c.in-Ok.head c.in-Ok-read_structure.structure c.in-Ok-read_library.library c.in-Err-read_placement.fault c.in-Ok.ensures.reads c.in-Ok-read_structure.ensures.reads c.in-Ok-read_library.ensures.reads c.in-Err-read_placement.ensures.reads
+returns-in-Err-read_placement-clause-reads c =
+    fail_placement c.args.pcb.now c.in-Ok.head c.in-Ok-read_structure.structure c.in-Ok-read_library.library
+    c.in-Err-read_placement.fault c.in-Ok.ensures.reads c.in-Ok-read_structure.ensures.reads
+    c.in-Ok-read_library.ensures.reads c.in-Err-read_placement.ensures.reads
 
 pub returns-in-Err-read_network-clause-reads : goal.returns-in-Err-read_network-clause-reads
-returns-in-Err-read_network-clause-reads c = fail_network c.args.pcb.now c.in-Ok.head c.in-Ok-read_structure.structure c.in-Ok-read_library.library c.in-Ok-read_placement.placing c.in-Err-read_network.fault c.in-Ok.ensures.reads c.in-Ok-read_structure.ensures.reads c.in-Ok-read_library.ensures.reads c.in-Ok-read_placement.ensures.reads c.in-Err-read_network.ensures.reads
+returns-in-Err-read_network-clause-reads c =
+    fail_network c.args.pcb.now c.in-Ok.head c.in-Ok-read_structure.structure c.in-Ok-read_library.library
+    c.in-Ok-read_placement.placing c.in-Err-read_network.fault c.in-Ok.ensures.reads
+    c.in-Ok-read_structure.ensures.reads c.in-Ok-read_library.ensures.reads c.in-Ok-read_placement.ensures.reads
+    c.in-Err-read_network.ensures.reads
 
 pub returns-in-Err-read_wiring-clause-reads : goal.returns-in-Err-read_wiring-clause-reads
-returns-in-Err-read_wiring-clause-reads c = fail_wiring c.args.pcb.now c.in-Ok.head c.in-Ok-read_structure.structure c.in-Ok-read_library.library c.in-Ok-read_placement.placing c.in-Ok-read_network.network c.in-Err-read_wiring.fault c.in-Ok.ensures.reads c.in-Ok-read_structure.ensures.reads c.in-Ok-read_library.ensures.reads c.in-Ok-read_placement.ensures.reads c.in-Ok-read_network.ensures.reads c.in-Err-read_wiring.ensures.reads
+returns-in-Err-read_wiring-clause-reads c =
+    fail_wiring c.args.pcb.now c.in-Ok.head c.in-Ok-read_structure.structure c.in-Ok-read_library.library
+    c.in-Ok-read_placement.placing c.in-Ok-read_network.network c.in-Err-read_wiring.fault c.in-Ok.ensures.reads
+    c.in-Ok-read_structure.ensures.reads c.in-Ok-read_library.ensures.reads c.in-Ok-read_placement.ensures.reads
+    c.in-Ok-read_network.ensures.reads c.in-Err-read_wiring.ensures.reads
 
 pub returns-clause-sound : goal.returns-clause-sound
 returns-clause-sound c =

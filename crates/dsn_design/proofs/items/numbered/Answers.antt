@@ -10,4 +10,5 @@ loop-item-preserved c =
     let item = c.in-Some.item in
     let z : length ys ≡ 0 + length ys = omega arith in
     let n : c.len.result ≡ 0 + length ys = c.len.ensures ∙ ap length c.loop-item.invariant ∙ numbered_long 0 ys ∙ z in
-    c.in_ok-push.ensures.ok ∙ ap (λ k. all ++ with_id k item ∷ []) n ∙ ap (λ xs. xs ++ with_id (0 + length ys) item ∷ []) c.loop-item.invariant ∙ sym (numbered_push 0 ys item)
+    c.in_ok-push.ensures.ok ∙ ap (λ k. all ++ with_id k item ∷ []) n
+    ∙ ap (λ xs. xs ++ with_id (0 + length ys) item ∷ []) c.loop-item.invariant ∙ sym (numbered_push 0 ys item)

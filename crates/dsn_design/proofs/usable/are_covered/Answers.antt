@@ -7,4 +7,6 @@ use Rattle.dsn_design.proofs.usable.are_covered.Goals as goal
 pub returns : goal.returns
 returns c =
     let P = IsCovered c.args.all.now in
-    all_answered P c.all.result c.args.all.now (cases_from_all _ _ _ P (λ p. ¬ (P p)) c.all.ensures.ran (YieldsList-from_slice c.args.all.now cc) (λ x q k. search (rules, tests)) (λ x q k. search (rules, tests)))
+    all_answered P c.all.result c.args.all.now
+    (cases_from_all _ _ _ P (λ p. ¬ (P p)) c.all.ensures.ran (YieldsList-from_slice c.args.all.now cc)
+    (λ x q k. search (rules, tests)) (λ x q k. search (rules, tests)))

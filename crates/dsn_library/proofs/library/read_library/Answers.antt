@@ -6,7 +6,10 @@ use Rattle.dsn_library.proofs.Sound.{library_sound}
 use Rattle.dsn_library.proofs.library.read_library.Goals as goal
 
 pub returns-in-None-clause-within : goal.returns-in-None-clause-within
-returns-in-None-clause-within c = subst IsLibraryWithin (sym c.in-Ok.ensures.value) (library_within c.args.s.nm c.args.layers.now c.args.pcb.now)
+returns-in-None-clause-within c =
+    subst IsLibraryWithin (sym c.in-Ok.ensures.value) (library_within c.args.s.nm c.args.layers.now c.args.pcb.now)
 
 pub returns-in-None-clause-sound : goal.returns-in-None-clause-sound
-returns-in-None-clause-sound c = subst IsLibrarySound (sym c.in-Ok.ensures.value) (library_sound c.args.s.nm c.args.layers.now c.args.pcb.now (sym c.in-Ok.ensures.noted ∙ c.in-None.is))
+returns-in-None-clause-sound c =
+    subst IsLibrarySound (sym c.in-Ok.ensures.value)
+    (library_sound c.args.s.nm c.args.layers.now c.args.pcb.now (sym c.in-Ok.ensures.noted ∙ c.in-None.is))

@@ -8,4 +8,8 @@ use Rattle.dsn_network.specs.Whole.{rules_passed}
 use Rattle.dsn_network.proofs.class.read_each_class.Given as goal
 
 abbrev pub invariant-loop-tree : goal.invariant-loop-tree
-invariant-loop-tree l = (l.first ≡ noted l.initial.first (flat_map (class_refusals l.scale.nm l.stacks) (trees_of (take l.tree-index l.trees)))) × (l.classes ≡ map (read_class_of l.scale.nm l.stacks) (trees_of (take l.tree-index l.trees))) × (l.notes ≡ capped (rules_passed (trees_of (take l.tree-index l.trees))))
+invariant-loop-tree l =
+    (l.first ≡ noted l.initial.first
+    (flat_map (class_refusals l.scale.nm l.stacks) (trees_of (take l.tree-index l.trees))))
+    × (l.classes ≡ map (read_class_of l.scale.nm l.stacks) (trees_of (take l.tree-index l.trees)))
+    × (l.notes ≡ capped (rules_passed (trees_of (take l.tree-index l.trees))))

@@ -7,4 +7,6 @@ use Rattle.dsn_network.specs.Classes.{unknown_via, via_stack}
 use Rattle.dsn_network.proofs.class.via_stacks.Given as goal
 
 abbrev pub invariant-loop-word : goal.invariant-loop-word
-invariant-loop-word l = (l.first ≡ noted l.initial.first (flat_map (unknown_via l.stacks) (trees_of (take l.word-index l.words)))) × (l.vias ≡ map (via_stack l.stacks) (trees_of (take l.word-index l.words)))
+invariant-loop-word l =
+    (l.first ≡ noted l.initial.first (flat_map (unknown_via l.stacks) (trees_of (take l.word-index l.words))))
+    × (l.vias ≡ map (via_stack l.stacks) (trees_of (take l.word-index l.words)))

@@ -8,4 +8,8 @@ use Rattle.dsn_network.specs.Whole.{rules_passed}
 use Rattle.dsn_network.proofs.net.read_each_net.Given as goal
 
 abbrev pub invariant-loop-tree : goal.invariant-loop-tree
-invariant-loop-tree l = (l.first ≡ noted l.initial.first (flat_map (net_refusals l.scale.nm l.pins.lib.now l.pins.placing.now) (trees_of (take l.tree-index l.trees)))) × (l.nets ≡ map (net_of l.scale.nm l.pins.lib.now l.pins.placing.now l.classes.lists.now) (trees_of (take l.tree-index l.trees))) × (l.notes ≡ capped (rules_passed (trees_of (take l.tree-index l.trees))))
+invariant-loop-tree l =
+    (l.first ≡ noted l.initial.first
+    (flat_map (net_refusals l.scale.nm l.pins.lib.now l.pins.placing.now) (trees_of (take l.tree-index l.trees))))
+    × (l.nets ≡ map (net_of l.scale.nm l.pins.lib.now l.pins.placing.now l.classes.lists.now)
+    (trees_of (take l.tree-index l.trees))) × (l.notes ≡ capped (rules_passed (trees_of (take l.tree-index l.trees))))

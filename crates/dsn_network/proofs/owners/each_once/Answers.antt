@@ -17,13 +17,16 @@ loop-pin-preserved c =
       | then-is_none+in_ok-keep_pin+in_ok-push w ↦
           let none : is_some (net_by c.loop-pin.seen x) ≡ false = search rules in
           let more = w.once-is ∙ w.in_ok-push.ensures.ok in (
-            new_pin c.args.pins.now c.loop-pin.once c.if-is_none.once c.loop-pin.pin-index d lt c.loop-pin.invariant.0 (sym (has x) ∙ none) more,
-            λ q. has_next q x c.loop-pin.once c.if-is_none.once (net_by c.loop-pin.seen q) (net_by c.if-is_none.seen q) 0 (has q) (ap (λ m. net_by m q) w.seen-is ∙ w.in_ok-keep_pin.ensures q) more,
+            new_pin c.args.pins.now c.loop-pin.once c.if-is_none.once c.loop-pin.pin-index d lt c.loop-pin.invariant.0
+                (sym (has x) ∙ none) more,
+            λ q. has_next q x c.loop-pin.once c.if-is_none.once (net_by c.loop-pin.seen q) (net_by c.if-is_none.seen q)
+                0 (has q) (ap (λ m. net_by m q) w.seen-is ∙ w.in_ok-keep_pin.ensures q) more,
           )
       | else-is_none w ↦
           let some : is_some (net_by c.loop-pin.seen x) ≡ true = search rules in
           let same = w.once-is in (
-            same ∙ old_pin c.args.pins.now c.loop-pin.once c.loop-pin.pin-index d lt c.loop-pin.invariant.0 (sym (has x) ∙ some),
+            same ∙ old_pin c.args.pins.now c.loop-pin.once c.loop-pin.pin-index d lt c.loop-pin.invariant.0
+                (sym (has x) ∙ some),
             λ q. ap (λ m. is_some (net_by m q)) w.seen-is ∙ has q ∙ sym (ap (has_pin q) same),
           )
     ]

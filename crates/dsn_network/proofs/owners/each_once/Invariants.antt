@@ -6,4 +6,5 @@ use Rattle.dsn_network.specs.Owners.{net_by}
 use Rattle.dsn_network.proofs.owners.each_once.Given as goal
 
 abbrev pub invariant-loop-pin : goal.invariant-loop-pin
-invariant-loop-pin l = (l.once ≡ each_once (take l.pin-index l.pins)) × ((q : PinRef) → is_some (net_by l.seen q) ≡ has_pin q l.once)
+invariant-loop-pin l =
+    (l.once ≡ each_once (take l.pin-index l.pins)) × ((q : PinRef) → is_some (net_by l.seen q) ≡ has_pin q l.once)

@@ -10,4 +10,7 @@ unfolding first_net
 loop-k-init c = search rules
 
 pub loop-k-preserved : goal.loop-k-preserved
-loop-k-preserved c = λ q. net_behind (λ (n : ReadNet). n.pins) c.args.nets.now c.loop-k.k c.index-nets-k.result c.as_slice.result.now q (net_by c.loop-k.map q) (net_by c.keep_pins.new.map q) (omega arith) c.index-nets-k.is c.as_slice.ensures (c.loop-k.invariant q) (c.in_ok-keep_pins.ensures q)
+loop-k-preserved c =
+    λ q. net_behind (λ (n : ReadNet). n.pins) c.args.nets.now c.loop-k.k c.index-nets-k.result c.as_slice.result.now q
+    (net_by c.loop-k.map q) (net_by c.keep_pins.new.map q) (omega arith) c.index-nets-k.is c.as_slice.ensures
+    (c.loop-k.invariant q) (c.in_ok-keep_pins.ensures q)

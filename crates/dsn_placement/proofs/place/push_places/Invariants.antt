@@ -8,5 +8,8 @@ use Rattle.dsn_placement.proofs.place.push_places.Given as goal
 
 abbrev pub invariant-loop-tree : goal.invariant-loop-tree
 invariant-loop-tree l =
-    (l.first ≡ noted l.initial.first (flat_map (place_refusals l.around.scale.nm l.around.flip_last l.around.library.now l.image) (trees_of (take l.tree-index l.trees))))
-    × (l.laid ≡ l.initial.laid ++ map (laid_of l.around.scale.nm l.around.flip_last l.around.library.now l.image) (trees_of (take l.tree-index l.trees)))
+    (l.first ≡ noted l.initial.first
+    (flat_map (place_refusals l.around.scale.nm l.around.flip_last l.around.library.now l.image)
+    (trees_of (take l.tree-index l.trees))))
+    × (l.laid ≡ l.initial.laid ++ map (laid_of l.around.scale.nm l.around.flip_last l.around.library.now l.image)
+    (trees_of (take l.tree-index l.trees)))

@@ -7,5 +7,8 @@ use Rattle.dsn_placement.proofs.place.read_components.Given as goal
 
 abbrev pub invariant-loop-tree : goal.invariant-loop-tree
 invariant-loop-tree l =
-    (l.first ≡ noted l.initial.first (flat_map (component_refusals l.around.scale.nm l.around.flip_last l.around.library.now) (trees_of (take l.tree-index l.trees))))
-    × (l.laid ≡ flat_map (component_laid l.around.scale.nm l.around.flip_last l.around.library.now) (trees_of (take l.tree-index l.trees)))
+    (l.first ≡ noted l.initial.first
+    (flat_map (component_refusals l.around.scale.nm l.around.flip_last l.around.library.now)
+    (trees_of (take l.tree-index l.trees))))
+    × (l.laid ≡ flat_map (component_laid l.around.scale.nm l.around.flip_last l.around.library.now)
+    (trees_of (take l.tree-index l.trees)))

@@ -6,4 +6,5 @@ use Rattle.dsn_shapes.specs.Shapes.{notes_beside}
 use Rattle.dsn_shapes.proofs.area.notes_of_windows.Given as goal
 
 abbrev pub invariant-loop-item : goal.invariant-loop-item
-invariant-loop-item l = l.notes ≡ capped (sum_by notes_beside (filter (is_headed (codes "window")) (take l.item-index l.all)))
+invariant-loop-item l =
+    l.notes ≡ capped (sum_by notes_beside (filter (is_headed (codes "window")) (take l.item-index l.all)))

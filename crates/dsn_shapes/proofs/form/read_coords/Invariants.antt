@@ -7,4 +7,6 @@ use Rattle.dsn_shapes.specs.Refusals.{noted}
 use Rattle.dsn_shapes.proofs.form.read_coords.Given as goal
 
 abbrev pub invariant-loop-word : goal.invariant-loop-word
-invariant-loop-word l = (l.first ≡ noted l.initial.first (flat_map (word_coord_refusal l.s.nm) (trees_of (take l.word-index l.words)))) × (l.coords ≡ map (word_coord l.s.nm) (trees_of (take l.word-index l.words)))
+invariant-loop-word l =
+    (l.first ≡ noted l.initial.first (flat_map (word_coord_refusal l.s.nm) (trees_of (take l.word-index l.words))))
+    × (l.coords ≡ map (word_coord l.s.nm) (trees_of (take l.word-index l.words)))

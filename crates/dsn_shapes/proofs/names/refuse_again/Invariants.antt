@@ -5,4 +5,5 @@ use Rattle.dsn_shapes.specs.Refusals.{noted}
 use Rattle.dsn_shapes.proofs.names.refuse_again.Given as goal
 
 abbrev pub invariant-loop-k : goal.invariant-loop-k
-invariant-loop-k l = noted l.first (given_again l.i l.index l.k (trees_of (drop l.k l.trees))) ≡ noted l.initial.first (given_again l.i l.index 0 (trees_of l.trees))
+invariant-loop-k l = noted l.first (given_again l.i l.index l.k (trees_of (drop l.k l.trees)))
+    ≡ noted l.initial.first (given_again l.i l.index 0 (trees_of l.trees))

@@ -7,4 +7,7 @@ use Rattle.dsn_shapes.specs.Refusals.{noted}
 use Rattle.dsn_shapes.proofs.rules.read_clearances.Given as goal
 
 abbrev pub invariant-loop-tree : goal.invariant-loop-tree
-invariant-loop-tree l = (l.first ≡ noted l.initial.first (flat_map (λ t. extent_refusal l.s.nm t 1) (trees_of (take l.tree-index l.trees)))) × (l.clearances.plain ≡ flat_map (plain_at l.s.nm) (trees_of (take l.tree-index l.trees))) × (l.clearances.typed ≡ flat_map (typed_at l.s.nm) (trees_of (take l.tree-index l.trees)))
+invariant-loop-tree l =
+    (l.first ≡ noted l.initial.first (flat_map (λ t. extent_refusal l.s.nm t 1) (trees_of (take l.tree-index l.trees))))
+    × (l.clearances.plain ≡ flat_map (plain_at l.s.nm) (trees_of (take l.tree-index l.trees)))
+    × (l.clearances.typed ≡ flat_map (typed_at l.s.nm) (trees_of (take l.tree-index l.trees)))

@@ -4,4 +4,5 @@ use Rattle.dsn_shapes.specs.Refusals.{noted}
 use Rattle.dsn_shapes.proofs.trees.pass_over_each.Given as goal
 
 abbrev pub invariant-loop-tree : goal.invariant-loop-tree
-invariant-loop-tree l = (l.first ≡ noted l.initial.first (left_out_in (trees_of (take l.tree-index l.trees)))) × (l.notes ≡ capped (notes_in l.kind (trees_of (take l.tree-index l.trees))))
+invariant-loop-tree l = (l.first ≡ noted l.initial.first (left_out_in (trees_of (take l.tree-index l.trees))))
+    × (l.notes ≡ capped (notes_in l.kind (trees_of (take l.tree-index l.trees))))

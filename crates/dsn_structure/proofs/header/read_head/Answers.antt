@@ -4,4 +4,5 @@ use Rattle.dsn_structure.proofs.Sound.{head_sound}
 use Rattle.dsn_structure.proofs.header.read_head.Goals as goal
 
 pub returns-in-None-clause-sound : goal.returns-in-None-clause-sound
-returns-in-None-clause-sound c = subst IsHeadSound (sym c.in-Ok.ensures.value) (head_sound c.args.pcb.now (sym c.in-Ok.ensures.noted ∙ c.in-None.is))
+returns-in-None-clause-sound c =
+    subst IsHeadSound (sym c.in-Ok.ensures.value) (head_sound c.args.pcb.now (sym c.in-Ok.ensures.noted ∙ c.in-None.is))

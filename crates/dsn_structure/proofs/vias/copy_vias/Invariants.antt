@@ -7,4 +7,6 @@ use Rattle.dsn_structure.specs.Layout.{via_refusal}
 use Rattle.dsn_structure.proofs.vias.copy_vias.Given as goal
 
 abbrev pub invariant-loop-word : goal.invariant-loop-word
-invariant-loop-word l = (l.first ≡ noted l.initial.first (flat_map (via_refusal l.known) (trees_of (take l.word-index l.words)))) × (l.names ≡ map text_of (trees_of (take l.word-index l.words)))
+invariant-loop-word l =
+    (l.first ≡ noted l.initial.first (flat_map (via_refusal l.known) (trees_of (take l.word-index l.words))))
+    × (l.names ≡ map text_of (trees_of (take l.word-index l.words)))

@@ -17,7 +17,12 @@ pub nonzero_rem-rest : goal.nonzero_rem-rest
 nonzero_rem-rest c = omega (arith, ten_power_pos c.args.times)
 
 pub overflow_mul-rest : goal.overflow_mul-rest
-overflow_mul-rest c = omega (arith, ten_power_le c.args.times 38 c.if-times-gt38.false, mod_below c.args.number c.pow-base.result (omega (arith, ten_power_pos c.args.times)))
+overflow_mul-rest c =
+    omega (
+      arith,
+      ten_power_le c.args.times 38 c.if-times-gt38.false,
+      mod_below c.args.number c.pow-base.result (omega (arith, ten_power_pos c.args.times)),
+    )
 
 pub nonzero_div-result : goal.nonzero_div-result
 nonzero_div-result c = omega (arith, ten_power_pos c.args.times)
@@ -26,5 +31,8 @@ pub nonzero_rem-result : goal.nonzero_rem-result
 nonzero_rem-result c = omega (arith, ten_power_pos c.args.times)
 
 pub returns : goal.returns
-returns c = subst (λ p. IsHalves c.args.number p (2 * (c.args.number / c.pow-base.result) + 2 * (c.args.number % c.pow-base.result) / c.pow-base.result) (2 * (c.args.number % c.pow-base.result) % c.pow-base.result == 0)) c.pow-base.ensures
+returns c = subst
+    (λ p. IsHalves c.args.number p
+    (2 * (c.args.number / c.pow-base.result) + 2 * (c.args.number % c.pow-base.result) / c.pow-base.result)
+    (2 * (c.args.number % c.pow-base.result) % c.pow-base.result == 0)) c.pow-base.ensures
     (halves_of c.args.number c.pow-base.result (omega (arith, ten_power_pos c.args.times)) c.if-whole-gt-FAR.false)

@@ -11,10 +11,13 @@ pub returns-then-unsigned_abs-gt-FURTHEST-clause-value : goal.returns-then-unsig
 returns-then-unsigned_abs-gt-FURTHEST-clause-value c =
     let fits : SFits w64 c.nearest_half-nearest.result = search rules in
     let size = ap unsigned_abs (to_z-of_z w64 c.nearest_half-nearest.result fits) in
-    coord_past c.args.d.now c.args.s.nm _ _ c.nearest_half-nearest.result c.in-Some.ensures c.nearest_half-nearest.ensures (omega (arith, size, c.unsigned_abs.ensures.value))
+    coord_past c.args.d.now c.args.s.nm _ _ c.nearest_half-nearest.result c.in-Some.ensures
+    c.nearest_half-nearest.ensures (omega (arith, size, c.unsigned_abs.ensures.value))
 
 pub returns-clause-value : goal.returns-clause-value
 returns-clause-value c =
     let fits : SFits w64 c.nearest_half-nearest.result = search rules in
     let size = ap unsigned_abs (to_z-of_z w64 c.nearest_half-nearest.result fits) in
-    rw (to_z-of_z w64 c.nearest_half-nearest.result fits) (coord_value c.args.d.now c.args.s.nm _ _ c.nearest_half-nearest.result c.in-Some.ensures c.nearest_half-nearest.ensures (omega (arith, size, c.unsigned_abs.ensures.value)))
+    rw (to_z-of_z w64 c.nearest_half-nearest.result fits)
+    (coord_value c.args.d.now c.args.s.nm _ _ c.nearest_half-nearest.result c.in-Some.ensures
+    c.nearest_half-nearest.ensures (omega (arith, size, c.unsigned_abs.ensures.value)))

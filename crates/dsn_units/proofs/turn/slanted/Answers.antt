@@ -13,9 +13,15 @@ overflow_add-times c = sum_fits c.times-3.result c.times-4.result c.times-3.ensu
 
 pub returns-clause-value : goal.returns-clause-value
 returns-clause-value c = ap₂ (λ x y. let q : Point = record { x = x; y = y } in q)
-    (unseen c.rounded.result (omega arith) ∙ c.rounded.ensures.value ∙ ap (λ z. nearest z one) (difference_value c.times.result c.times-2.result _ _ c.times.ensures.within c.times-2.ensures.within
+    (unseen c.rounded.result (omega arith) ∙ c.rounded.ensures.value
+    ∙ ap (λ z. nearest z one)
+    (difference_value c.times.result c.times-2.result _ _ c.times.ensures.within c.times-2.ensures.within
     (product_is c.args.p.x c.args.c c.times.result c.requires.p_within.0 c.requires.c_within c.times.ensures.value)
-    (product_is c.args.p.y c.args.s c.times-2.result c.requires.p_within.1 c.requires.s_within c.times-2.ensures.value)))
-    (unseen c.rounded-2.result (omega arith) ∙ c.rounded-2.ensures.value ∙ ap (λ z. nearest z one) (sum_value c.times-3.result c.times-4.result _ _ c.times-3.ensures.within c.times-4.ensures.within
+    (product_is c.args.p.y c.args.s c.times-2.result c.requires.p_within.1 c.requires.s_within
+    c.times-2.ensures.value)))
+    (unseen c.rounded-2.result (omega arith) ∙ c.rounded-2.ensures.value
+    ∙ ap (λ z. nearest z one)
+    (sum_value c.times-3.result c.times-4.result _ _ c.times-3.ensures.within c.times-4.ensures.within
     (product_is c.args.p.x c.args.s c.times-3.result c.requires.p_within.0 c.requires.s_within c.times-3.ensures.value)
-    (product_is c.args.p.y c.args.c c.times-4.result c.requires.p_within.1 c.requires.c_within c.times-4.ensures.value)))
+    (product_is c.args.p.y c.args.c c.times-4.result c.requires.p_within.1 c.requires.c_within
+    c.times-4.ensures.value)))

@@ -8,4 +8,5 @@ pub returns : goal.returns
 returns c =
     c.refuse_behind.ensures
     ∙ ap (λ n. noted c.args.first.now (too_many n c.args.wires.now)) c.items_before.ensures
-    ∙ ap (noted c.args.first.now) (too_many-capped (items_before c.args.st.now c.args.lib.now c.args.placing.now) c.args.wires.now)
+    ∙ ap (noted c.args.first.now)
+    (too_many-capped (items_before c.args.st.now c.args.lib.now c.args.placing.now) c.args.wires.now)

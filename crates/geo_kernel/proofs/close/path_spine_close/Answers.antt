@@ -8,22 +8,29 @@ pub returns-then-seg_spine_close : goal.returns-then-seg_spine_close
 returns-then-seg_spine_close c =
     let left = c.loop-p.invariant.1 in
     let e = link_moved c.args.by c.loop-p.from c.shifted-to.result left.last _ left.is c.shifted-to.ensures in (
-      λ t. any_stops (IsMovedClose c.args.how c.args.k c.args.t.now c.args.by) c.args.start left.last (record { x = pos 0; y = pos 0 }) c.args.points.now c.loop-p.p-index
-          left.holds c.loop-p-test.true (subst (IsCloseTo c.args.how c.args.k c.args.t.now) e (c.seg_spine_close.ensures.0 c.if-seg_spine_close.true)),
+      λ t. any_stops (IsMovedClose c.args.how c.args.k c.args.t.now c.args.by) c.args.start left.last
+          (record { x = pos 0; y = pos 0 }) c.args.points.now c.loop-p.p-index
+          left.holds c.loop-p-test.true
+          (subst (IsCloseTo c.args.how c.args.k c.args.t.now) e
+          (c.seg_spine_close.ensures.0 c.if-seg_spine_close.true)),
       λ h. refl,
     )
 
 pub loop-p-preserved : goal.loop-p-preserved
 loop-p-preserved c =
     let left = c.loop-p.invariant.1 in
-    let e = link_moved c.args.by c.loop-p.from c.shifted-to.result left.last (get_or c.args.points.now c.loop-p.p-index (record { x = pos 0; y = pos 0 })) left.is c.shifted-to.ensures in
+    let e = link_moved c.args.by c.loop-p.from c.shifted-to.result left.last
+    (get_or c.args.points.now c.loop-p.p-index (record { x = pos 0; y = pos 0 })) left.is c.shifted-to.ensures in
     let here = c.requires.points_movable c.loop-p.p-index (record { x = pos 0; y = pos 0 }) c.loop-p-test.true in (
       rw c.shifted-to.ensures here.1,
       record {
         last = get_or c.args.points.now c.loop-p.p-index (record { x = pos 0; y = pos 0 });
         is = c.shifted-to.ensures;
-        holds = any_next (IsMovedClose c.args.how c.args.k c.args.t.now c.args.by) c.args.start left.last (record { x = pos 0; y = pos 0 }) c.args.points.now c.loop-p.p-index
+        holds = any_next (IsMovedClose c.args.how c.args.k c.args.t.now c.args.by) c.args.start left.last
+            (record { x = pos 0; y = pos 0 }) c.args.points.now c.loop-p.p-index
             left.holds c.loop-p-test.true
-            (λ x. true≢false (sym (c.seg_spine_close.ensures.1 (subst (IsCloseTo c.args.how c.args.k c.args.t.now) (sym e) x)) ∙ c.if-seg_spine_close.false));
+            (λ x. true≢false
+            (sym (c.seg_spine_close.ensures.1 (subst (IsCloseTo c.args.how c.args.k c.args.t.now) (sym e) x))
+            ∙ c.if-seg_spine_close.false));
       },
     )

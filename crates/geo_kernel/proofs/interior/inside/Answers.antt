@@ -4,4 +4,5 @@ use Rattle.geo_kernel.proofs.Moves.{inside_told, inside_still}
 use Rattle.geo_kernel.proofs.interior.inside.Goals as goal
 
 pub returns : goal.returns
-returns c = inside_still c.args.p (Area c.args.loops.now) _ (inside_told c.args.p _ (Area c.args.loops.now) _ (ap Area (sym c.as_slice.ensures)) _ c.inside_moved.ensures)
+returns c = inside_still c.args.p (Area c.args.loops.now) _
+    (inside_told c.args.p _ (Area c.args.loops.now) _ (ap Area (sym c.as_slice.ensures)) _ c.inside_moved.ensures)

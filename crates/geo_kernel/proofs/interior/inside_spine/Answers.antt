@@ -8,7 +8,12 @@ use Rattle.geo_kernel.proofs.interior.inside_spine.Goals as goal
 
 pub inside_moved-requires-clause-movable : goal.inside_moved-requires-clause-movable
 inside_moved-requires-clause-movable c =
-    rw c.as_slice.ensures (all_loops_movable c.args.by _ (subst (IsSpineWithin (2 ^ 29)) c.in-Area.is c.requires.within) (subst (λ (s : Spine). IsSpineWithin (2 ^ 29) (moved_spine c.args.by s)) c.in-Area.is c.requires.moved_within))
+    rw c.as_slice.ensures
+    (all_loops_movable c.args.by _ (subst (IsSpineWithin (2 ^ 29)) c.in-Area.is c.requires.within)
+    (subst (λ (s : Spine). IsSpineWithin (2 ^ 29) (moved_spine c.args.by s)) c.in-Area.is
+    c.requires.moved_within))
 
 pub returns-in-Area : goal.returns-in-Area
-returns-in-Area c = inside_told c.args.p c.args.by c.args.t.now _ (c.in-Area.is ∙ ap Area (sym c.as_slice.ensures)) _ c.inside_moved.ensures
+returns-in-Area c =
+    inside_told c.args.p c.args.by c.args.t.now _ (c.in-Area.is ∙ ap Area (sym c.as_slice.ensures)) _
+    c.inside_moved.ensures

@@ -12,12 +12,16 @@ pub returns-then-not-points_close : goal.returns-then-not-points_close
 returns-then-not-points_close c =
     let ps = c.args.points.now in
     let first = chain_first (Chain ps) ps ps (record { x = pos 0; y = pos 0 }) refl refl c.requires.some in
-    keep_told (Chain ps) c.args.t.now c.args.k c.points_close.result c.inside_spine.result (chain_near ps c.args.t.now c.args.k c.points_close.result c.points_close.ensures) c.if-not-points_close.true
-    (chain_within ps c.args.t.now _ c.inside_spine.result first (inside_still _ c.args.t.now c.inside_spine.result c.inside_spine.ensures))
+    keep_told (Chain ps) c.args.t.now c.args.k c.points_close.result c.inside_spine.result
+    (chain_near ps c.args.t.now c.args.k c.points_close.result c.points_close.ensures) c.if-not-points_close.true
+    (chain_within ps c.args.t.now _ c.inside_spine.result first
+    (inside_still _ c.args.t.now c.inside_spine.result c.inside_spine.ensures))
 
 pub returns-else-not-points_close : goal.returns-else-not-points_close
 returns-else-not-points_close c =
     let ps = c.args.points.now in (
       λ t. absurd (true≢false (sym t ∙ ap not c.if-not-points_close.false)),
-      λ h. absurd (keep_not (Chain ps) c.args.t.now c.args.k c.points_close.result (chain_near ps c.args.t.now c.args.k c.points_close.result c.points_close.ensures) c.if-not-points_close.false h),
+      λ h. absurd (keep_not (Chain ps) c.args.t.now c.args.k c.points_close.result
+          (chain_near ps c.args.t.now c.args.k c.points_close.result c.points_close.ensures)
+          c.if-not-points_close.false h),
     )

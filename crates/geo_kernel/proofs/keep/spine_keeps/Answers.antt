@@ -9,8 +9,12 @@ pub spine_keeps_moved-requires-clause-moved_within : goal.spine_keeps_moved-requ
 spine_keeps_moved-requires-clause-moved_within c = still_within (2 ^ 29) c.args.s.now c.requires.s_within
 
 pub returns-clause-keeps : goal.returns-clause-keeps
-returns-clause-keeps c = subst (λ (s : Spine). IsTrue c.spine_keeps_moved.result ↔ SpinesKeep s c.args.t.now c.args.k) (spine_stays c.args.s.now) c.spine_keeps_moved.ensures
+returns-clause-keeps c =
+    subst (λ (s : Spine). IsTrue c.spine_keeps_moved.result ↔ SpinesKeep s c.args.t.now c.args.k)
+    (spine_stays c.args.s.now) c.spine_keeps_moved.ensures
 
 pub returns-clause-solid : goal.returns-clause-solid
 returns-clause-solid c =
-    λ t some simple. stays_outside c.args.s.now c.args.t.now c.args.k some simple (subst (λ (s : Spine). SpinesKeep s c.args.t.now c.args.k) (spine_stays c.args.s.now) (c.spine_keeps_moved.ensures.0 t))
+    λ t some simple. stays_outside c.args.s.now c.args.t.now c.args.k some simple
+    (subst (λ (s : Spine). SpinesKeep s c.args.t.now c.args.k) (spine_stays c.args.s.now)
+    (c.spine_keeps_moved.ensures.0 t))

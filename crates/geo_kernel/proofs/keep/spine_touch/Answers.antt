@@ -8,4 +8,5 @@ pub spine_touch_moved-requires-clause-moved_within : goal.spine_touch_moved-requ
 spine_touch_moved-requires-clause-moved_within c = still_within (2 ^ 29) c.args.s.now c.requires.s_within
 
 pub returns : goal.returns
-returns c = subst (λ (s : Spine). IsTrue c.spine_touch_moved.result ↔ SpinesTouch s c.args.t.now c.args.k) (spine_stays c.args.s.now) c.spine_touch_moved.ensures
+returns c = subst (λ (s : Spine). IsTrue c.spine_touch_moved.result ↔ SpinesTouch s c.args.t.now c.args.k)
+    (spine_stays c.args.s.now) c.spine_touch_moved.ensures

@@ -14,7 +14,8 @@ returns-else-beyond_along c =
     let b2 : seen c.args.b.y0 ≡ c.args.b.y0 = search rules in
     let b3 : seen c.args.b.y1 ≡ c.args.b.y1 = search rules in
     let first = seen_gaps _ _ _ _ c.args.k c.beyond_along.result a0 a1 b0 b1 c.beyond_along.ensures in
-    let second = seen_gaps _ _ _ _ c.args.k c.beyond_along-else-beyond_along.result a2 a3 b2 b3 c.beyond_along-else-beyond_along.ensures in (
+    let second = seen_gaps _ _ _ _ c.args.k c.beyond_along-else-beyond_along.result a2 a3 b2 b3
+    c.beyond_along-else-beyond_along.ensures in (
       λ t. inr (second.0 t),
       ⊎_elim (λ a. absurd (true≢false (sym (first.1 a) ∙ c.if-beyond_along.false))) second.1,
     )

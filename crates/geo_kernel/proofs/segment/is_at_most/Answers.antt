@@ -4,5 +4,7 @@ use Rattle.geo_kernel.proofs.segment.is_at_most.Goals as goal
 
 pub returns : goal.returns
 returns c =
-    at_most_value (pos (c.args.k * c.args.k)) c.args.near.below c.args.near.above c.wide.result c.requires.above_within c.wide.ensures.within
-    (rw (square_value c.args.k c.requires.k_within) at c.wide.ensures.value) (square_within c.args.k c.requires.k_within) c.requires.below_within
+    at_most_value (pos (c.args.k * c.args.k)) c.args.near.below c.args.near.above c.wide.result c.requires.above_within
+    c.wide.ensures.within
+    (rw (square_value c.args.k c.requires.k_within) at c.wide.ensures.value)
+    (square_within c.args.k c.requires.k_within) c.requires.below_within

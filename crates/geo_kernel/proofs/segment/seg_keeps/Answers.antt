@@ -6,20 +6,25 @@ use Rattle.geo_kernel.proofs.segment.seg_keeps.Goals.{else-k-gt0-via-then-k-gt0+
 
 pub returns-then-are_beyond : goal.returns-then-are_beyond
 returns-then-are_beyond c = (
-  λ t. parted_keep c.span.result c.span-2.result c.args.k c.args.a c.args.b c.args.c c.args.d (c.are_beyond.ensures.0 c.if-are_beyond.true) c.span.ensures.first c.span.ensures.second c.span-2.ensures.first c.span-2.ensures.second,
+  λ t. parted_keep c.span.result c.span-2.result c.args.k c.args.a c.args.b c.args.c c.args.d
+      (c.are_beyond.ensures.0 c.if-are_beyond.true) c.span.ensures.first c.span.ensures.second c.span-2.ensures.first
+      c.span-2.ensures.second,
   λ h. refl,
 )
 
 pub returns-then-crosses : goal.returns-then-crosses
 returns-then-crosses c = (
   λ t. absurd (true≢false (sym t)),
-  λ h. absurd (nothing_kept c.args.a c.args.b c.args.c c.args.d c.args.k c.if-k-gt0.true (c.crosses.ensures.0 c.if-crosses.true) h),
+  λ h. absurd (nothing_kept c.args.a c.args.b c.args.c c.args.d c.args.k c.if-k-gt0.true
+      (c.crosses.ensures.0 c.if-crosses.true) h),
 )
 
 pub returns-else-k-gt0 : goal.returns-else-k-gt0
 returns-else-k-gt0 c = (
   λ t. elim c.else-k-gt0.branch [
-    | else-k-gt0-via-then-k-gt0+else-crosses w ↦ ends_to_keep c.args.a c.args.b c.args.c c.args.d c.args.k (λ x. true≢false (sym (w.crosses.ensures.1 x) ∙ w.if-crosses.false)) (c.ends_keep.ensures.0 t)
+    | else-k-gt0-via-then-k-gt0+else-crosses w ↦
+        ends_to_keep c.args.a c.args.b c.args.c c.args.d c.args.k
+        (λ x. true≢false (sym (w.crosses.ensures.1 x) ∙ w.if-crosses.false)) (c.ends_keep.ensures.0 t)
     | else-k-gt0-via-else-k-gt0 w ↦ zero_keeps c.args.a c.args.b c.args.c c.args.d c.args.k (omega arith)
   ],
   λ h. c.ends_keep.ensures.1 (keep_to_ends c.args.a c.args.b c.args.c c.args.d c.args.k h),

@@ -5,4 +5,6 @@ pub returns-clause-value : goal.returns-clause-value
 returns-clause-value c = product_value c.args.a c.args.b c.requires.a_within c.requires.b_within
 
 pub returns-clause-within : goal.returns-clause-within
-returns-clause-within c = product_within c.args.a c.args.b _ c.requires.a_within c.requires.b_within (product_value c.args.a c.args.b c.requires.a_within c.requires.b_within)
+returns-clause-within c =
+    product_within c.args.a c.args.b _ c.requires.a_within c.requires.b_within
+    (product_value c.args.a c.args.b c.requires.a_within c.requires.b_within)

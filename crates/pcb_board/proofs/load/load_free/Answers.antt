@@ -10,6 +10,6 @@ loop-w-preserved c =
     let rest = drop (c.loop-w.w-index + 1) c.args.d.now.free in
     let is = rest_one d.free c.as_slice-w-items.result.now c.loop-w.w-index c.w-item.result c.as_slice-w-items.ensures
     c.loop-w-test.true c.w-item.is in
-    one_loaded d c.w-item.result rest c.loop-w.loaded c.in_ok-loaded.loaded
+    one_loaded d c.w-item.result rest c.loop-w.loaded c.load_one.new.loaded
     (subst (λ (ws : List FreeWire). AreLoaded c.args.d.now ws c.loop-w.loaded) is c.loop-w.invariant)
-    c.in_ok-loaded.ensures.kept c.in_ok-loaded.ensures.one
+    c.in_ok-load_one.ensures.kept c.in_ok-load_one.ensures.one

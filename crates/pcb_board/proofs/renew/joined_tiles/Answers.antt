@@ -24,18 +24,17 @@ loop-id-preserved c =
     ∙ ap (λ (xs : List ℕ). holding c.args.tiles.now (without xs items))
     (sym (take_more ids c.loop-id.id-index 0 c.loop-id-test.true))
 
-pub add-requires-clause-above : goal.add-requires-clause-above
-add-requires-clause-above c =
+pub add_copy-requires-clause-above : goal.add_copy-requires-clause-above
+add_copy-requires-clause-above c =
     let at : slice_get c.args.come.now c.loop-item.item-index ≡ Some c.item-item.result =
     slice_get_read c.args.come.now (length c.args.come.now) c.loop-item.item-index c.item-item.result refl
     c.loop-item-test.true c.item-item.is in
     let all = below_next c.args.gone.now c.args.tiles.now.items c.args.come.now c.args.first c.loop-item.item-index
     c.item-item.result c.requires.below c.requires.numbered at in
-    subst (λ (a : Item). All (λ (b : Item). b.id < a.id) c.loop-item.next.items) (sym c.in_ok-copy.ensures)
-    (subst (λ (xs : List Item). All (λ (b : Item). b.id < c.item-item.result.id) xs)
-    (sym (ap (λ (t : Spread). t.items) c.loop-item.invariant)) all)
+    subst (λ (xs : List Item). All (λ (b : Item). b.id < c.item-item.result.id) xs)
+    (sym (ap (λ (t : Spread). t.items) c.loop-item.invariant)) all
 
-pub add-requires-clause-fits : goal.add-requires-clause-fits
-add-requires-clause-fits c =
-    subst IsItemFit (sym (c.in_ok-copy.ensures ∙ c.item-item.is))
+pub add_copy-requires-clause-fits : goal.add_copy-requires-clause-fits
+add_copy-requires-clause-fits c =
+    subst IsItemFit (sym c.item-item.is)
     (c.requires.fit c.loop-item.item-index c.item-item.result c.loop-item-test.true)

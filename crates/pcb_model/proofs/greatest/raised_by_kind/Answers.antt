@@ -12,5 +12,6 @@ returns-clause-values c =
     let smd = c.raised-smd.ensures in
     let area = c.raised.ensures in
     by_kinds (λ (other : Kind). value_of c.args.d.now c.args.net c.args.kind other ≤ c.raised.result)
-    (omega (arith, wire.value, via.least, pin.least, smd.least, area.least)) (omega (arith, via.value, pin.least, smd.least, area.least))
+    (omega (arith, wire.value, via.least, pin.least, smd.least, area.least))
+    (omega (arith, via.value, pin.least, smd.least, area.least))
     (omega (arith, pin.value, smd.least, area.least)) (omega (arith, smd.value, area.least)) area.value

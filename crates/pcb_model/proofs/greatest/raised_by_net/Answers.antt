@@ -12,7 +12,10 @@ returns-clause-values c =
     let smd = c.raised_by_kind-smd.ensures in
     let area = c.raised_by_kind.ensures in
     record {
-      each = λ one other. by_kinds (λ (kind : Kind). value_of c.args.d.now c.args.net kind other ≤ c.raised_by_kind.result)
-          (omega (arith, wire.values other, via.least, pin.least, smd.least, area.least)) (omega (arith, via.values other, pin.least, smd.least, area.least))
-          (omega (arith, pin.values other, smd.least, area.least)) (omega (arith, smd.values other, area.least)) (area.values other) one;
+      each = λ one other.
+          by_kinds (λ (kind : Kind). value_of c.args.d.now c.args.net kind other ≤ c.raised_by_kind.result)
+          (omega (arith, wire.values other, via.least, pin.least, smd.least, area.least))
+          (omega (arith, via.values other, pin.least, smd.least, area.least))
+          (omega (arith, pin.values other, smd.least, area.least)) (omega (arith, smd.values other, area.least))
+          (area.values other) one;
     }

@@ -9,4 +9,5 @@ returns-clause-least c =
     c.requires.a_within c.requires.b_within e.x0 e.y0 e.x1 e.y1
 
 pub returns-clause-within : goal.returns-clause-within
-returns-clause-within c = let e = c.box_of_step.ensures in box_min_within c.box_of_step.result c.args.a c.args.b c.requires.a_within c.requires.b_within e.x0 e.y0 e.x1 e.y1
+returns-clause-within c = let e = c.box_of_step.ensures in
+    box_min_within c.box_of_step.result c.args.a c.args.b c.requires.a_within c.requires.b_within e.x0 e.y0 e.x1 e.y1

@@ -7,5 +7,8 @@ use Rattle.pcb_model.proofs.pair.pieces_keep.Goals as goal
 pub returns : goal.returns
 returns c =
     let P = KeepsFrom c.args.c c.args.rs.now in
-    let t : IsTrue c.all.result ↔ All P c.args.ps.now = all_answered P c.all.result c.args.ps.now (cases_from_all _ _ _ P (λ p. ¬ (P p)) c.all.ensures.ran (YieldsList-from_slice c.args.ps.now cc) (λ x q k. search (rules, tests)) (λ x q k. search (rules, tests))) in
+    let t : IsTrue c.all.result ↔ All P c.args.ps.now =
+    all_answered P c.all.result c.args.ps.now
+    (cases_from_all _ _ _ P (λ p. ¬ (P p)) c.all.ensures.ran (YieldsList-from_slice c.args.ps.now cc)
+    (λ x q k. search (rules, tests)) (λ x q k. search (rules, tests))) in
     (λ h. record { each = t.0 h }, λ h. t.1 h.each)

@@ -7,5 +7,8 @@ use Rattle.pcb_model.proofs.pair.touches_some.Goals as goal
 pub returns : goal.returns
 returns c =
     let P = PieceTouches c.args.p.now in
-    let t : IsTrue c.any.result ↔ Any P c.args.rs.now = any_answered P c.any.result c.args.rs.now (cases_from_any _ _ _ P (λ p. ¬ (P p)) c.any.ensures.ran (YieldsList-from_slice c.args.rs.now cc) (λ x q k. search (rules, tests)) (λ x q k. search (rules, tests))) in
+    let t : IsTrue c.any.result ↔ Any P c.args.rs.now =
+    any_answered P c.any.result c.args.rs.now
+    (cases_from_any _ _ _ P (λ p. ¬ (P p)) c.any.ensures.ran (YieldsList-from_slice c.args.rs.now cc)
+    (λ x q k. search (rules, tests)) (λ x q k. search (rules, tests))) in
     (λ h. record { some = t.0 h }, λ h. t.1 h.some)

@@ -12,5 +12,10 @@ pub returns : goal.returns
 returns c =
     let Q = KeepsFrom c.args.c c.args.rs.now in
     let P : Piece → Type 0 = λ p. KeepsFrom c.args.c c.args.rs.now (moved_piece c.args.by p) in
-    let t : IsTrue c.all.result ↔ All P c.args.ps.now = all_answered P c.all.result c.args.ps.now (cases_from_all _ _ _ P (λ p. ¬ (P p)) c.all.ensures.ran (YieldsList-from_slice c.args.ps.now cc) (λ x q k. search (rules, tests)) (λ x q k. search (rules, tests))) in
-    (λ h. record { each = All-map Q (moved_piece c.args.by) c.args.ps.now (t.0 h) }, λ h. t.1 (All-unmap Q (moved_piece c.args.by) c.args.ps.now h.each))
+    let t : IsTrue c.all.result ↔ All P c.args.ps.now =
+    all_answered P c.all.result c.args.ps.now
+    (cases_from_all _ _ _ P (λ p. ¬ (P p)) c.all.ensures.ran (YieldsList-from_slice c.args.ps.now cc)
+    (λ x q k. search (rules, tests)) (λ x q k. search (rules, tests))) in (
+      λ h. record { each = All-map Q (moved_piece c.args.by) c.args.ps.now (t.0 h) },
+      λ h. t.1 (All-unmap Q (moved_piece c.args.by) c.args.ps.now h.each),
+    )

@@ -11,5 +11,10 @@ pub returns : goal.returns
 returns c =
     let Q = TouchesSome c.args.rs.now in
     let P : Piece → Type 0 = λ p. TouchesSome c.args.rs.now (moved_piece c.args.by p) in
-    let t : IsTrue c.any.result ↔ Any P c.args.ps.now = any_answered P c.any.result c.args.ps.now (cases_from_any _ _ _ P (λ p. ¬ (P p)) c.any.ensures.ran (YieldsList-from_slice c.args.ps.now cc) (λ x q k. search (rules, tests)) (λ x q k. search (rules, tests))) in
-    (λ h. record { some = Any-map Q (moved_piece c.args.by) c.args.ps.now (t.0 h) }, λ h. t.1 (Any-unmap Q (moved_piece c.args.by) c.args.ps.now h.some))
+    let t : IsTrue c.any.result ↔ Any P c.args.ps.now =
+    any_answered P c.any.result c.args.ps.now
+    (cases_from_any _ _ _ P (λ p. ¬ (P p)) c.any.ensures.ran (YieldsList-from_slice c.args.ps.now cc)
+    (λ x q k. search (rules, tests)) (λ x q k. search (rules, tests))) in (
+      λ h. record { some = Any-map Q (moved_piece c.args.by) c.args.ps.now (t.0 h) },
+      λ h. t.1 (Any-unmap Q (moved_piece c.args.by) c.args.ps.now h.some),
+    )

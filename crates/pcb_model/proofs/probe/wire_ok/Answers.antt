@@ -10,13 +10,24 @@ use Rattle.pcb_model.proofs.probe.wire_ok.Goals as goal
 
 pub chain_keeps_all-requires-clause-c_within : goal.chain_keeps_all-requires-clause-c_within
 chain_keeps_all-requires-clause-c_within c =
-    omega (arith, c.max-c.ensures, c.value.ensures, c.requires.own_is, value_within (2 ^ 28) c.args.d.now (Some c.args.net) kind.Wire c.args.b.now.kind c.requires.design.rules_within, value_within (2 ^ 28) c.args.d.now c.args.b.now.net kind.Wire c.args.b.now.kind c.requires.design.rules_within)
+    omega (
+      arith,
+      c.max-c.ensures,
+      c.value.ensures,
+      c.requires.own_is,
+      value_within (2 ^ 28) c.args.d.now (Some c.args.net) kind.Wire c.args.b.now.kind
+          c.requires.design.rules_within,
+      value_within (2 ^ 28) c.args.d.now c.args.b.now.net kind.Wire c.args.b.now.kind
+          c.requires.design.rules_within,
+    )
 
 pub returns-then-wire_must_keep : goal.returns-then-wire_must_keep
 returns-then-wire_must_keep c =
-    let k = wire_kept c.args.d.now c.args.net c.args.layer c.args.width c.args.points.now c.args.b.now (sym c.wire_must_keep.ensures ∙ c.if-wire_must_keep.true) in
+    let k = wire_kept c.args.d.now c.args.net c.args.layer c.args.width c.args.points.now c.args.b.now
+    (sym c.wire_must_keep.ensures ∙ c.if-wire_must_keep.true) in
     let p = wire_piece c.args.layer c.args.width c.args.points.now in
-    let clear : c.max-c.result ≡ clearance_of c.args.d.now (Some c.args.net) kind.Wire c.args.b.now.net c.args.b.now.kind = omega (arith, c.max-c.ensures, c.value.ensures, c.requires.own_is) in
+    let clear : c.max-c.result ≡ clearance_of c.args.d.now (Some c.args.net) kind.Wire c.args.b.now.net
+    c.args.b.now.kind = omega (arith, c.max-c.ensures, c.value.ensures, c.requires.own_is) in
     let F : ℕ → Type 0 = λ n. KeepsFrom n c.args.b.now.pieces p in
     let G : List Piece → Type 0 = λ rs. KeepsFrom c.max-c.result rs p in (
       λ t. k.0 (subst F clear (subst G c.as_slice.ensures (c.chain_keeps_all.ensures.0 t))),

@@ -9,12 +9,16 @@ loop-rs-preserved c =
     let r = c.reach_of_rules-greatest.result in
     let P = AreRulesWithin r in
     let e = c.reach_of_rules-greatest.ensures in
-    let before = All-weaken (AreRulesWithin c.loop-rs.greatest) P (take c.loop-rs.rs-index c.args.classes.now) (rules_more c.loop-rs.greatest r e.least) c.loop-rs.invariant.reaches in
+    let before = All-weaken (AreRulesWithin c.loop-rs.greatest) P (take c.loop-rs.rs-index c.args.classes.now)
+    (rules_more c.loop-rs.greatest r e.least) c.loop-rs.invariant.reaches in
     record {
-      reaches = All-more P c.args.classes.now c.loop-rs.rs-index c.rs-item.result c.loop-rs-test.true before (subst P c.rs-item.is e.reaches);
+      reaches = All-more P c.args.classes.now c.loop-rs.rs-index c.rs-item.result c.loop-rs-test.true before
+          (subst P c.rs-item.is e.reaches);
       least = omega (arith, e.least, c.loop-rs.invariant.least);
       within = e.within;
     }
 
 pub returns-clause-reaches : goal.returns-clause-reaches
-returns-clause-reaches c = All-whole (AreRulesWithin c.loop-rs.greatest) c.args.classes.now c.loop-rs.rs-index (omega arith) c.loop-rs.invariant.reaches
+returns-clause-reaches c =
+    All-whole (AreRulesWithin c.loop-rs.greatest) c.args.classes.now c.loop-rs.rs-index (omega arith)
+    c.loop-rs.invariant.reaches

@@ -10,12 +10,17 @@ loop-n-preserved c =
     let r = c.reach_of_rules-greatest.result in
     let P : Net → Type 0 = λ n. AreRulesWithin r n.rules in
     let e = c.reach_of_rules-greatest.ensures in
-    let before = All-weaken (λ (n : Net). AreRulesWithin c.loop-n.greatest n.rules) P (take c.loop-n.n-index c.args.nets.now) (λ n. rules_more c.loop-n.greatest r e.least n.rules) c.loop-n.invariant.reaches in
+    let before = All-weaken (λ (n : Net). AreRulesWithin c.loop-n.greatest n.rules) P
+    (take c.loop-n.n-index c.args.nets.now) (λ n. rules_more c.loop-n.greatest r e.least n.rules)
+    c.loop-n.invariant.reaches in
     record {
-      reaches = All-more P c.args.nets.now c.loop-n.n-index c.n-item.result c.loop-n-test.true before (subst P c.n-item.is e.reaches);
+      reaches = All-more P c.args.nets.now c.loop-n.n-index c.n-item.result c.loop-n-test.true before
+          (subst P c.n-item.is e.reaches);
       least = omega (arith, e.least, c.loop-n.invariant.least);
       within = e.within;
     }
 
 pub returns-clause-reaches : goal.returns-clause-reaches
-returns-clause-reaches c = All-whole (λ (n : Net). AreRulesWithin c.loop-n.greatest n.rules) c.args.nets.now c.loop-n.n-index (omega arith) c.loop-n.invariant.reaches
+returns-clause-reaches c =
+    All-whole (λ (n : Net). AreRulesWithin c.loop-n.greatest n.rules) c.args.nets.now c.loop-n.n-index (omega arith)
+    c.loop-n.invariant.reaches

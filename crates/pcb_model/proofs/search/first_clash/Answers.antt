@@ -8,27 +8,44 @@ use Rattle.pcb_model.proofs.First.{found_id, one_more, none_found, item_at, exte
 use Rattle.pcb_model.proofs.search.first_clash.Goals as goal
 
 pub bounds-extents-i : goal.bounds-extents-i
-bounds-extents-i g c = omega (arith, c.loop-i-test.true, zip_length (λ (a : Item) (e : Extent). IsExtentOf a.pieces e) c.args.items.now c.args.extents.now c.requires.paired)
+bounds-extents-i g c =
+    omega (
+      arith,
+      c.loop-i-test.true,
+      zip_length (λ (a : Item) (e : Extent). IsExtentOf a.pieces e) c.args.items.now
+          c.args.extents.now c.requires.paired,
+    )
 
 pub clashes-requires-clause-b_fits : goal.clashes-requires-clause-b_fits
-clashes-requires-clause-b_fits g c = item_at IsItemFit c.args.items.now c.requires.fit c.loop-i.i c.loop-i-test.true c.index-items-i.result c.index-items-i.is
+clashes-requires-clause-b_fits g c =
+    item_at IsItemFit c.args.items.now c.requires.fit c.loop-i.i c.loop-i-test.true c.index-items-i.result
+    c.index-items-i.is
 
 pub clashes-requires-clause-extent_of : goal.clashes-requires-clause-extent_of
-clashes-requires-clause-extent_of g c = extent_at c.args.items.now c.args.extents.now c.loop-i.i c.index-items-i.result no_extent c.requires.paired c.loop-i-test.true c.index-items-i.is
+clashes-requires-clause-extent_of g c =
+    extent_at c.args.items.now c.args.extents.now c.loop-i.i c.index-items-i.result no_extent c.requires.paired
+    c.loop-i-test.true c.index-items-i.is
 
 pub returns-then-clashes-clause-finds : goal.returns-then-clashes-clause-finds
 returns-then-clashes-clause-finds g c =
-    found_id (λ b. Agrees c.args.d.now c.args.a.now b → ⊥) (Agrees c.args.d.now c.args.a.now) c.args.from (Some c.args.a.now.id) c.args.items.now c.loop-i.i c.index-items-i.result c.index-items-i-then-clashes.result c.requires.ascends c.loop-i-test.true c.loop-i.invariant.passed c.index-items-i.is
-    (c.place_of-i.ensures.above c.loop-i.i c.index-items-i.result c.loop-i.auto.i c.loop-i-test.true) c.if-clashes.ensures.yes.0 c.if-clashes.ensures.yes.1
+    found_id (λ b. Agrees c.args.d.now c.args.a.now b → ⊥) (Agrees c.args.d.now c.args.a.now) c.args.from
+    (Some c.args.a.now.id) c.args.items.now c.loop-i.i c.index-items-i.result c.index-items-i-then-clashes.result
+    c.requires.ascends c.loop-i-test.true c.loop-i.invariant.passed c.index-items-i.is
+    (c.place_of-i.ensures.above c.loop-i.i c.index-items-i.result c.loop-i.auto.i c.loop-i-test.true)
+    c.if-clashes.ensures.yes.0 c.if-clashes.ensures.yes.1
 
 pub returns-then-clashes-clause-cost : goal.returns-then-clashes-clause-cost
-returns-then-clashes-clause-cost g c = omega (arith, c.clashes.ensures.cost, c.loop-i.invariant.cost, c.loop-i-test.true)
+returns-then-clashes-clause-cost g c =
+    omega (arith, c.clashes.ensures.cost, c.loop-i.invariant.cost, c.loop-i-test.true)
 
 pub loop-i-preserved : goal.loop-i-preserved
 loop-i-preserved g c = record {
-  passed = one_more (Agrees c.args.d.now c.args.a.now) c.args.from (Some c.args.a.now.id) c.args.items.now c.loop-i.i c.index-items-i.result c.loop-i-test.true c.loop-i.invariant.passed c.index-items-i.is c.if-clashes.ensures.no;
+  passed = one_more (Agrees c.args.d.now c.args.a.now) c.args.from (Some c.args.a.now.id) c.args.items.now c.loop-i.i
+      c.index-items-i.result c.loop-i-test.true c.loop-i.invariant.passed c.index-items-i.is c.if-clashes.ensures.no;
   cost = omega (arith, c.clashes.ensures.cost, c.loop-i.invariant.cost);
 }
 
 pub returns-clause-finds : goal.returns-clause-finds
-returns-clause-finds g c = none_found (Agrees c.args.d.now c.args.a.now) c.args.from (Some c.args.a.now.id) c.args.items.now c.loop-i.i c.loop-i-test.false c.loop-i.invariant.passed
+returns-clause-finds g c =
+    none_found (Agrees c.args.d.now c.args.a.now) c.args.from (Some c.args.a.now.id) c.args.items.now c.loop-i.i
+    c.loop-i-test.false c.loop-i.invariant.passed

@@ -15,7 +15,9 @@ returns-in-Pad c =
     let M : Metal → Type 0 = λ x. IsAnchorOf d x c.args.p in
     let At : ℕ → Point → Type 0 = λ u p. IsSomeAnd (slice_get d.pins pin) (λ (q : Pin). rounded u q.centre ≡ p) in
     let same : IsTrue c.eq-in-Pad.result ↔ (c.pin_anchor.result ≡ c.args.p) = search (rules, tests) in
-    let at : At (scale_of d).nm c.pin_anchor.result = subst (λ u. At u c.pin_anchor.result) c.requires.unit_is c.pin_anchor.ensures in (
+    let at : At (scale_of d).nm c.pin_anchor.result =
+    subst (λ u. At u c.pin_anchor.result) c.requires.unit_is c.pin_anchor.ensures in (
       λ t. subst M (sym c.in-Pad.is) (subst (At (scale_of d).nm) (same.0 t) at),
-      λ h. same.1 (one_value (λ (q : Pin). rounded (scale_of d).nm q.centre) (slice_get d.pins pin) c.pin_anchor.result c.args.p at (subst M c.in-Pad.is h)),
+      λ h. same.1 (one_value (λ (q : Pin). rounded (scale_of d).nm q.centre) (slice_get d.pins pin) c.pin_anchor.result
+          c.args.p at (subst M c.in-Pad.is h)),
     )

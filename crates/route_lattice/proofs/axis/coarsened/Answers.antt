@@ -12,4 +12,6 @@ returns-then-r-clause-same c = λ anchors.
     let r = c.args.r in
     let low = seen r.low (omega arith) in
     let high = seen r.high (omega arith) in
-    subst (λ (p : ℤ × ℤ). line_list r.unit r.unit p.0 p.1 anchors ≡ line_list r.unit r.grid r.low r.high anchors) (λ i. (sym low i, sym high i)) (fine_lines r.unit r.grid r.low r.high anchors c.requires.some_grid (omega arith))
+    subst (λ (p : ℤ × ℤ). line_list r.unit r.unit p.0 p.1 anchors ≡ line_list r.unit r.grid r.low r.high anchors)
+    (λ i. (sym low i, sym high i))
+    (fine_lines r.unit r.grid r.low r.high anchors c.requires.some_grid (omega arith))

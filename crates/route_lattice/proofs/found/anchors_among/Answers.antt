@@ -6,7 +6,11 @@ pub loop-id-preserved : goal.loop-id-preserved
 loop-id-preserved g c =
     let items = g.C.Copper.items c.args.c.now in
     gains_more _ _ _ _ _ _ _ c.loop-id.invariant
-    (gains_less _ _ _ _ _ _ (λ v h. h) (λ v h. among_ids c.args.d.now c.args.lat.now items c.args.ids.now c.loop-id.id-index v c.loop-id-test.true h) c.in_ok-push_of_id.ensures)
+    (gains_less _ _ _ _ _ _ (λ v h. h)
+    (λ v h. among_ids c.args.d.now c.args.lat.now items c.args.ids.now c.loop-id.id-index v c.loop-id-test.true h)
+    c.in_ok-push_of_id.ensures)
 
 pub returns : goal.returns
-returns g c = among_are c.args.d.now c.args.lat.now (g.C.Copper.items c.args.c.now) c.args.ids.now _ _ (gains_all _ _ _ _ _ _ _ c.loop-id-test.false c.loop-id.invariant) c.ascending.ensures
+returns g c =
+    among_are c.args.d.now c.args.lat.now (g.C.Copper.items c.args.c.now) c.args.ids.now _ _
+    (gains_all _ _ _ _ _ _ _ c.loop-id-test.false c.loop-id.invariant) c.ascending.ensures

@@ -3,4 +3,6 @@ use Rattle.route_lattice.specs.Found.{Gains, AtSome, IsAnchorAmong, IsAnchorWith
 use Rattle.route_lattice.proofs.found.anchors_among.Given as goal
 
 abbrev pub invariant-loop-id : goal.invariant-loop-id
-invariant-loop-id g l = Gains (AtSome (λ k. IsAnchorWithId l.d l.lat (g.C.Copper.items l.c) (get_or l.ids k 0)) 0 l.id-index) (IsAnchorAmong l.d l.lat (g.C.Copper.items l.c) l.ids) [] l.found.items
+invariant-loop-id g l =
+    Gains (AtSome (λ k. IsAnchorWithId l.d l.lat (g.C.Copper.items l.c) (get_or l.ids k 0)) 0 l.id-index)
+    (IsAnchorAmong l.d l.lat (g.C.Copper.items l.c) l.ids) [] l.found.items

@@ -5,5 +5,7 @@ use Rattle.route_lattice.proofs.found.first_above.Goals as goal
 
 pub returns-clause-above : goal.returns-clause-above
 returns-clause-above c =
-    let point = IsPartitionPoint-from_clause (λ (z : ℤ). int_le z c.args.high) c.args.lines.now c.partition_point.result c.partition_point.ensures.partitioned (parted_up_to c.args.lines.now c.args.high c.requires) (λ a r q k. search rules) in
+    let point = IsPartitionPoint-from_clause (λ (z : ℤ). int_le z c.args.high) c.args.lines.now c.partition_point.result
+    c.partition_point.ensures.partitioned (parted_up_to c.args.lines.now c.args.high c.requires)
+    (λ a r q k. search rules) in
     λ k h l. fails_le _ c.args.high (point.1 k (pos 0) h l)

@@ -10,7 +10,10 @@ pub loop-k-preserved : goal.loop-k-preserved
 loop-k-preserved c =
     let a = c.args in
     gains_more _ _ _ _ _ _ _ c.loop-k.invariant
-    (subst (λ (n : ℕ). Gains (IsAnchorIn a.d.now a.lat.now a.item.now (point_at a.chain.now n) (point_at a.chain.now c.loop-k.k)) (IsAnchorNode a.d.now a.lat.now a.item.now) c.loop-k.found.items c.push_between.new.found.items) c.saturating_sub.ensures c.in_ok-push_between.ensures)
+    (subst (λ (n : ℕ).
+    Gains (IsAnchorIn a.d.now a.lat.now a.item.now (point_at a.chain.now n) (point_at a.chain.now c.loop-k.k))
+    (IsAnchorNode a.d.now a.lat.now a.item.now) c.loop-k.found.items c.push_between.new.found.items)
+    c.saturating_sub.ensures c.in_ok-push_between.ensures)
 
 pub returns : goal.returns
 returns c = gains_all _ _ _ _ _ _ _ c.loop-k-test.false c.loop-k.invariant

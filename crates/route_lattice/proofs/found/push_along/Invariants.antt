@@ -3,4 +3,6 @@ use Rattle.route_lattice.specs.Found.{Gains, AtSome, IsAnchorNode, IsAnchorIn, p
 use Rattle.route_lattice.proofs.found.push_along.Given as goal
 
 abbrev pub invariant-loop-k : goal.invariant-loop-k
-invariant-loop-k l = Gains (AtSome (λ k. IsAnchorIn l.d l.lat l.item (point_at l.chain (k - 1)) (point_at l.chain k)) 0 l.k) (IsAnchorNode l.d l.lat l.item) l.fn.found.items l.found.items
+invariant-loop-k l =
+    Gains (AtSome (λ k. IsAnchorIn l.d l.lat l.item (point_at l.chain (k - 1)) (point_at l.chain k)) 0 l.k)
+    (IsAnchorNode l.d l.lat l.item) l.fn.found.items l.found.items

@@ -11,4 +11,5 @@ loop-level-preserved c = gains_more _ _ _ _ _ _ _ c.loop-level.invariant c.in_ok
 pub returns : goal.returns
 returns c =
     let e = c.len-level-end.ensures in let f = ap (λ (xs : List ℕ). length xs) c.layers.ensures in
-    gains_all _ _ _ _ (length c.args.lat.now.layers) _ _ (omega (arith, e, f, c.loop-level-test.false)) c.loop-level.invariant
+    gains_all _ _ _ _ (length c.args.lat.now.layers) _ _ (omega (arith, e, f, c.loop-level-test.false))
+    c.loop-level.invariant

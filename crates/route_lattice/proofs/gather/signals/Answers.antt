@@ -12,12 +12,15 @@ loop-i-preserved c =
     let read : get_or ls c.loop-i.i l ≡ l = sym c.index-layers-i.is in
     elim c.if-not-layer.branch [
       | then-not-layer+in_ok-push w ↦ record {
-        listed = layer_kept ls c.loop-i.i l c.loop-i-test.true c.loop-i.found.items c.if-not-layer.found.items (ap (λ (b : BoardLayer). not b.power) read ∙ ap not w.if-not-layer.true) c.loop-i.invariant.listed
+        listed = layer_kept ls c.loop-i.i l c.loop-i-test.true c.loop-i.found.items c.if-not-layer.found.items
+            (ap (λ (b : BoardLayer). not b.power) read ∙ ap not w.if-not-layer.true) c.loop-i.invariant.listed
             (ap (λ (v : Vec ℕ Global). v.items) w.found-is ∙ w.in_ok-push.ensures.items);
         few = omega (arith, w.in_ok-push.ensures.len, ap (λ (v : Vec ℕ Global). vec_len v) w.found-is);
       }
       | else-not-layer w ↦ record {
-        listed = ap (λ (v : Vec ℕ Global). v.items) w.found-is ∙ layer_passed ls c.loop-i.i l c.loop-i-test.true c.loop-i.found.items (ap (λ (b : BoardLayer). not b.power) read ∙ ap not w.if-not-layer.false) c.loop-i.invariant.listed;
+        listed = ap (λ (v : Vec ℕ Global). v.items) w.found-is ∙ layer_passed ls c.loop-i.i l c.loop-i-test.true
+            c.loop-i.found.items (ap (λ (b : BoardLayer). not b.power) read ∙ ap not w.if-not-layer.false)
+            c.loop-i.invariant.listed;
         few = omega (arith, ap (λ (v : Vec ℕ Global). vec_len v) w.found-is);
       }
     ]

@@ -14,7 +14,8 @@ nodes_at-requires-clause-fine c = let a = grid_small _ c.loop.grid c.loop.invari
 pub returns-then-branch-clause-value : goal.returns-then-branch-clause-value
 returns-then-branch-clause-value c =
     let e : 12 - c.loop.counter ≡ suc (12 - (c.loop.counter + 1)) = omega arith in
-    left_found c.args.p.now _ _ c.loop.grid e c.loop.invariant c.in_ok-nodes_at.field-0 c.in_ok-nodes_at.ensures (omega arith)
+    left_found c.args.p.now _ _ c.loop.grid e c.loop.invariant c.in_ok-nodes_at.field-0 c.in_ok-nodes_at.ensures
+    (omega arith)
 
 pub returns-then-branch-clause-some : goal.returns-then-branch-clause-some
 returns-then-branch-clause-some c = grid_some _ c.loop.grid c.loop.invariant.sized
@@ -28,7 +29,8 @@ overflow_mul-grid c = let a = grid_small _ c.loop.grid c.loop.invariant.sized in
 pub loop-preserved : goal.loop-preserved
 loop-preserved c =
     let e : 12 - c.loop.counter ≡ suc (12 - (c.loop.counter + 1)) = omega arith in
-    left_next c.args.p.now _ _ c.loop.grid e c.loop.invariant c.in_ok-nodes_at.field-0 c.in_ok-nodes_at.ensures (omega arith)
+    left_next c.args.p.now _ _ c.loop.grid e c.loop.invariant c.in_ok-nodes_at.field-0 c.in_ok-nodes_at.ensures
+    (omega arith)
 
 pub returns-clause-value : goal.returns-clause-value
 returns-clause-value c = left_none c.args.p.now _ c.loop.grid (omega arith) c.loop.invariant

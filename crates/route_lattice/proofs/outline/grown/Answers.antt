@@ -6,4 +6,5 @@ use Rattle.route_lattice.proofs.outline.grown.Goals as goal
 pub loop-p-preserved : goal.loop-p-preserved
 loop-p-preserved c =
     let w = c.grown_by-r.ensures in
-    box_is_of _ _ _ _ _ _ _ _ w.x0 w.y0 w.x1 w.y1 ∙ widened_more _ c.loop-p.r c.args.points.now c.loop-p.p-index (record { x = pos 0; y = pos 0 }) c.loop-p-test.true c.loop-p.invariant
+    box_is_of _ _ _ _ _ _ _ _ w.x0 w.y0 w.x1 w.y1 ∙ widened_more _ c.loop-p.r c.args.points.now c.loop-p.p-index
+    (record { x = pos 0; y = pos 0 }) c.loop-p-test.true c.loop-p.invariant

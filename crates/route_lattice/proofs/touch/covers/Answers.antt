@@ -10,11 +10,15 @@ pub returns-in-Chain : goal.returns-in-Chain
 returns-in-Chain c =
     let F : Spine → Type 0 = λ s. SpinesTouch (Chain (c.args.p ∷ [])) s c.args.q.now.width in
     let G : List Point → Type 0 = λ ps. Any (Touches c.args.q.now.width (alone c.args.p)) (chain_segments ps) in
-    let t = covers_chain c.args.p c.in-Chain.points c.args.q.now.width in
-    (λ h. subst F (sym c.in-Chain.is) (t.0 (subst G c.as_slice.ensures (c.touches_chain.ensures.0 h))), λ h. c.touches_chain.ensures.1 (subst G (sym c.as_slice.ensures) (t.1 (subst F c.in-Chain.is h))))
+    let t = covers_chain c.args.p c.in-Chain.points c.args.q.now.width in (
+      λ h. subst F (sym c.in-Chain.is) (t.0 (subst G c.as_slice.ensures (c.touches_chain.ensures.0 h))),
+      λ h. c.touches_chain.ensures.1 (subst G (sym c.as_slice.ensures) (t.1 (subst F c.in-Chain.is h))),
+    )
 
 pub returns-in-Area : goal.returns-in-Area
 returns-in-Area c =
     let F : Spine → Type 0 = λ s. SpinesTouch (Chain (c.args.p ∷ [])) s c.args.q.now.width in
-    let t = covers_area c.args.p c.in-Area.loops c.args.q.now.width in
-    (λ h. subst F (sym c.in-Area.is) (t.0 (c.touches_area.ensures.0 h)), λ h. c.touches_area.ensures.1 (t.1 (subst F c.in-Area.is h)))
+    let t = covers_area c.args.p c.in-Area.loops c.args.q.now.width in (
+      λ h. subst F (sym c.in-Area.is) (t.0 (c.touches_area.ensures.0 h)),
+      λ h. c.touches_area.ensures.1 (t.1 (subst F c.in-Area.is h)),
+    )

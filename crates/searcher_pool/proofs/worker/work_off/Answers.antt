@@ -1,9 +1,18 @@
 use Rattle.std.proofs.Common.{arith, subst}
-use Rattle.searcher_pool.specs.declared.worker.Attempt.TheVariants.{Late}
+use Rattle.searcher_pool.specs.declared.worker.Attempt.TheVariants.{Joined, Late}
 use Rattle.searcher_pool.specs.Working.{Attempts, pass_of}
 use Rattle.searcher_pool.proofs.Ending.{late_more, late_still}
 use Rattle.searcher_pool.proofs.Steps.{after_on}
 use Rattle.searcher_pool.proofs.worker.work_off.Goals as goal
+
+pub loop-late-smaller-in-Joined : goal.loop-late-smaller-in-Joined
+loop-late-smaller-in-Joined g c =
+    let fewer : Attempts (pass_of c.args.job) c.args.turn.now c.loop-late.w.pass c.loop-late.w.notes.items
+    c.plan_and_offer.new.w.pass c.plan_and_offer.new.w.notes.items c.args.net Joined =
+    subst (Attempts (pass_of c.args.job) c.args.turn.now c.loop-late.w.pass c.loop-late.w.notes.items
+    c.plan_and_offer.new.w.pass c.plan_and_offer.new.w.notes.items c.args.net) c.in-Joined.is
+    c.in_ok-plan_and_offer.ensures.attempt in
+    omega (arith, fewer)
 
 pub loop-late-preserved-in-Joined : goal.loop-late-preserved-in-Joined
 loop-late-preserved-in-Joined g c =

@@ -7,5 +7,6 @@ abbrev pub invariant-loop-a : goal.invariant-loop-a
 invariant-loop-a l = record {
   count_is : length l.flags.items ≡ length l.d.padstacks;
   flags_are : (k : ℕ) → k < length l.d.padstacks
-      → (get_or l.flags.items k false || has_via_of k (filter (is_printed l.omit_fixed) (drop l.a-index l.items))) ≡ has_via_of k (filter (is_printed l.omit_fixed) l.items);
+      → (get_or l.flags.items k false || has_via_of k (filter (is_printed l.omit_fixed) (drop l.a-index l.items)))
+      ≡ has_via_of k (filter (is_printed l.omit_fixed) l.items);
 }

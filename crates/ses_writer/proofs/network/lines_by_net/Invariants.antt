@@ -8,5 +8,7 @@ abbrev pub invariant-loop-a : goal.invariant-loop-a
 invariant-loop-a l = record {
   count_is : length l.texts.items ≡ length l.d.nets;
   texts_are : (k : ℕ) (e : Vec ℕ Global) → k < length l.d.nets
-      → Leads (get_or l.texts.items k e).items (copper_lines l.d l.nm (filter (is_printed l.omit_fixed) (drop l.a-index l.items)) k) (copper_lines l.d l.nm (filter (is_printed l.omit_fixed) l.items) k);
+      → Leads (get_or l.texts.items k e).items
+      (copper_lines l.d l.nm (filter (is_printed l.omit_fixed) (drop l.a-index l.items)) k)
+      (copper_lines l.d l.nm (filter (is_printed l.omit_fixed) l.items) k);
 }

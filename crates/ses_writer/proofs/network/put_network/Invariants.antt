@@ -7,4 +7,5 @@ use Rattle.ses_writer.proofs.network.put_network.Given as goal
 abbrev pub invariant-loop-i : goal.invariant-loop-i
 invariant-loop-i l =
     let copper = filter (is_printed l.omit_fixed) l.items in
-    Leads l.out.items (flat_map (network_entry l.d l.nm copper) (enumerate_from l.i (drop l.i l.n-items))) (l.fn.out.items ++ network_lines l.d l.nm copper)
+    Leads l.out.items (flat_map (network_entry l.d l.nm copper) (enumerate_from l.i (drop l.i l.n-items)))
+    (l.fn.out.items ++ network_lines l.d l.nm copper)

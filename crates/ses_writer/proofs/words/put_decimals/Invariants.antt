@@ -4,4 +4,6 @@ use Rattle.ses_writer.proofs.Puts.{Leads}
 use Rattle.ses_writer.proofs.words.put_decimals.Given as goal
 
 abbrev pub invariant-loop-place : goal.invariant-loop-place
-invariant-loop-place l = Leads l.out.items (decimals l.microdegrees (drop l.place-index l.places)) (l.fn.out.items ++ decimals l.microdegrees l.places)
+invariant-loop-place l =
+    Leads l.out.items (decimals l.microdegrees (drop l.place-index l.places))
+    (l.fn.out.items ++ decimals l.microdegrees l.places)

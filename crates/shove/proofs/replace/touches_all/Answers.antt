@@ -36,6 +36,7 @@ loop-id-preserved g c =
 pub returns : goal.returns
 returns g c =
     let items = g.C.Copper.items c.args.c.now in (
-      λ t. touches_end items c.args.old.now c.args.new.now c.loop-id.from c.loop-id.invariant c.in_default.ensures.finds,
+      λ t. touches_end items c.args.old.now c.args.new.now c.loop-id.from c.loop-id.invariant
+          c.in_default.ensures.finds,
       λ h. refl,
     )

@@ -5,4 +5,5 @@ use Rattle.tests_board.proofs.FixedItems.{some_fits}
 use Rattle.tests_board.proofs.board.fixed.Goals as goal
 
 pub returns : goal.returns
-returns c = subst (λ (found : Option Item). IfSome found IsItemFit) (sym c.get.ensures.value) (some_fits c.args.d.now c.requires c.args.at)
+returns c = subst (λ (found : Option Item). IfSome found IsItemFit) (sym c.get.ensures.value)
+    (some_fits c.args.d.now c.requires c.args.at)

@@ -5,7 +5,10 @@ use Rattle.wave_search.proofs.Around.{way_more, way_is}
 use Rattle.wave_search.proofs.box_bound.nearest_way.Goals as goal
 
 pub loop-r-preserved : goal.loop-r-preserved
-loop-r-preserved c = way_more c.args.p c.args.boxes.now c.loop-r.r-index c.loop-r.least _ _ _ c.loop-r-test.true refl c.loop-r.invariant (c.min-least.ensures ∙ ap (min c.loop-r.least) c.way_to.ensures)
+loop-r-preserved c =
+    way_more c.args.p c.args.boxes.now c.loop-r.r-index c.loop-r.least _ _ _ c.loop-r-test.true refl c.loop-r.invariant
+    (c.min-least.ensures ∙ ap (min c.loop-r.least) c.way_to.ensures)
 
 pub returns : goal.returns
-returns c = way_is c.args.p c.loop-r.least c.args.boxes.now (take c.loop-r.r-index c.args.boxes.now) (take_all c.loop-r.r-index c.args.boxes.now c.loop-r-test.false) c.loop-r.invariant
+returns c = way_is c.args.p c.loop-r.least c.args.boxes.now (take c.loop-r.r-index c.args.boxes.now)
+    (take_all c.loop-r.r-index c.args.boxes.now c.loop-r-test.false) c.loop-r.invariant

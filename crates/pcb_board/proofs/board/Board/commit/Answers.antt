@@ -23,14 +23,14 @@ long : (a : Inside) (b : BoardOf) → board_of a ≡ b → a.given.items ≡ giv
     → length a.given.items ≡ length (given b)
 long a b view are = ap length (are ∙ ap given view)
 
-pub joined_tiles-requires-clause-fit : goal.joined_tiles-requires-clause-fit
-joined_tiles-requires-clause-fit c =
-    subst (All IsItemFit) (sym (c.as_slice-3.ensures ∙ c.requires.new))
+pub enter-requires-clause-fit : goal.enter-requires-clause-fit
+enter-requires-clause-fit c =
+    subst (All IsItemFit) (sym (c.as_slice-2.ensures ∙ c.requires.new))
     (new_fit c.args.self.now c.args.offer
     (subst IsBoard c.self.view_is c.self.invariant.board) c.requires.heard.formed)
 
-pub joined_tiles-requires-clause-below : goal.joined_tiles-requires-clause-below
-joined_tiles-requires-clause-below c =
+pub enter-requires-clause-below : goal.enter-requires-clause-below
+enter-requires-clause-below c =
     let b = board_of c.self.inside in
     let first_is : c.len-first.result ≡ length c.self.inside.given.items = search rules in
     let same : length c.self.inside.given.items ≡ length (given (board_of c.self.inside)) =
@@ -38,84 +38,80 @@ joined_tiles-requires-clause-below c =
     all_from (λ (a : Item). a.id < c.len-first.result) c.self.inside.tiles.items
     (λ a there. let less = id_within b c.self.invariant.board a there in omega (arith, less, first_is, same))
 
-pub joined_tiles-requires-clause-numbered : goal.joined_tiles-requires-clause-numbered
-joined_tiles-requires-clause-numbered c = λ j a at.
+pub enter-requires-clause-numbered : goal.enter-requires-clause-numbered
+enter-requires-clause-numbered c = λ j a at.
     let first_is : c.len-first.result ≡ length c.self.inside.given.items = search rules in
     let same = long c.self.inside c.args.self.now c.self.view_is c.self.invariant.indexed.items_are in
     let is = new_numbered c.args.self.now c.args.offer
     (subst IsBoard c.self.view_is c.self.invariant.board) c.requires.heard.formed j a
-    (subst (λ (xs : List Item). slice_get xs j ≡ Some a) (c.as_slice-3.ensures ∙ c.requires.new) at) in
+    (subst (λ (xs : List Item). slice_get xs j ≡ Some a) (c.as_slice-2.ensures ∙ c.requires.new) at) in
     omega (arith, is, first_is, same)
 
 pub renew-requires-clause-within : goal.renew-requires-clause-within
 renew-requires-clause-within c =
     let same = long c.self.inside c.args.self.now c.self.view_is c.self.invariant.indexed.items_are in
-    let changed : vec_len c.reserve-2.new.self ≡ length c.self.inside.changed.items = search rules in
+    let changed : vec_len c.make_room.new.changed ≡ length c.self.inside.changed.items = search rules in
     let all = c.self.invariant.indexed.all in
-    subst (All (λ x. x < vec_len c.reserve-2.new.self)) (sym (c.as_slice-4.ensures.value ∙ c.in-Ok.ensures))
+    subst (All (λ x. x < vec_len c.make_room.new.changed))
+    (sym (c.as_slice-3.ensures.value ∙ c.in_ok-gone.ensures.gone))
     (λ k d within. let less = gone_within c.args.self.now c.args.offer
     (subst IsBoard c.self.view_is c.self.invariant.board) c.requires.heard.formed (get_or (gone c.args.offer) k d)
     (Contains-get_or (gone c.args.offer) k d within) in
     omega (arith, less, same, changed, all))
 
-abbrev after_parts : goal.After-drop-gone-2 → Inside
+abbrev after_parts : goal.After-drop-gone → Inside
 after_parts c = record {
   alloc = c.self.inside.alloc;
   design = c.self.inside.design;
   cap = c.self.inside.cap;
-  history = c.push.new.self;
+  history = c.enter.new.history;
   workers = c.count_worker-workers.result;
   given = c.append.new.self;
   started = c.self.inside.started;
   changed = c.renew.new.changed;
-  tiles = c.in-Ok-joined_tiles.tiles;
+  tiles = c.in_ok-gone.tiles;
 }
 
-abbrev come : goal.After-drop-gone-2 → List Item
+abbrev come : goal.After-drop-gone → List Item
 come c = new_items c.args.self.now.design (given c.args.self.now) c.args.offer
 
-first_is : (c : goal.After-drop-gone-2) → c.len-first.result ≡ length c.self.inside.given.items
+first_is : (c : goal.After-drop-gone) → c.len-first.result ≡ length c.self.inside.given.items
 first_is c = search rules
 
-new_long : (c : goal.After-drop-gone-2) → c.len.result ≡ length (come c)
+new_long : (c : goal.After-drop-gone) → c.len.result ≡ length (come c)
 new_long c = c.len.ensures ∙ ap length c.requires.new
 
-history_is : (c : goal.After-drop-gone-2) → c.push.new.self ≡ c.self.inside.history
+history_is : (c : goal.After-drop-gone) → c.enter.new.history ≡ c.self.inside.history
     ++ Join c.args.offer (length c.self.inside.given.items) (length c.self.inside.given.items + length (come c)) ∷ []
 history_is c =
-    let pushed : c.push.new.self ≡ c.self.inside.history
-    ++ Join c.args.offer c.len-first.result (c.len-first.result + c.len.result) ∷ [] =
-    search (rules, c.push.ensures.ok, c.in_default-push.ensures.ok) in
-    pushed
-    ∙ ap (λ (n : ℕ). c.self.inside.history ++ Join c.args.offer n (n + c.len.result) ∷ []) (first_is c)
-    ∙ ap (λ (n : ℕ). c.self.inside.history
-    ++ Join c.args.offer (length c.self.inside.given.items) (length c.self.inside.given.items + n) ∷ [])
-    (new_long c)
+    c.in_ok-gone.ensures.entered
+    ∙ ap (λ (n : ℕ). c.self.inside.history ++ Join c.args.offer n (n + length c.as_slice-2.result.now) ∷ [])
+    (first_is c)
+    ∙ ap (λ (xs : List Item). c.self.inside.history
+    ++ Join c.args.offer (length c.self.inside.given.items) (length c.self.inside.given.items + length xs) ∷ [])
+    (c.as_slice-2.ensures ∙ c.requires.new)
 
-given_is : (c : goal.After-drop-gone-2) → c.append.new.self.items ≡ c.self.inside.given.items ++ come c
+given_is : (c : goal.After-drop-gone) → c.append.new.self.items ≡ c.self.inside.given.items ++ come c
 given_is c =
     let moved : c.append.new.self.items ≡ c.self.inside.given.items ++ c.into_vec-new.result.items = search rules in
     moved ∙ ap (λ (xs : List Item). c.self.inside.given.items ++ xs) (c.into_vec-new.ensures ∙ c.requires.new)
 
-tiles_are : (c : goal.After-drop-gone-2) → c.in-Ok-joined_tiles.tiles
+tiles_are : (c : goal.After-drop-gone) → c.in_ok-gone.tiles
     ≡ holding c.self.inside.tiles (without (gone c.args.offer) c.self.inside.tiles.items ++ come c)
 tiles_are c =
-    c.in-Ok-joined_tiles.ensures
-    ∙ ap (λ (ids : List ℕ).
-    holding c.self.inside.tiles (without ids c.self.inside.tiles.items ++ c.as_slice-3.result.now))
-    (c.as_slice-2.ensures.value ∙ c.in-Ok.ensures)
+    c.in_ok-gone.ensures.tiles
     ∙ ap (λ (xs : List Item). holding c.self.inside.tiles (without (gone c.args.offer) c.self.inside.tiles.items ++ xs))
-    (c.as_slice-3.ensures ∙ c.requires.new)
+    (c.as_slice-2.ensures ∙ c.requires.new)
 
-changed_is : (c : goal.After-drop-gone-2)
+changed_is : (c : goal.After-drop-gone)
     → IsRenewed (gone c.args.offer) (length c.self.inside.given.items)
     (length c.self.inside.history + 1) c.self.inside.changed.items c.renew.new.changed.items
     (length c.self.inside.given.items + length (come c))
 changed_is c =
-    let kept : c.reserve-2.new.self.items ≡ c.self.inside.changed.items = search rules in
-    let count : vec_len c.reserve-2.new.self ≡ length c.self.inside.given.items =
+    let kept : c.make_room.new.changed.items ≡ c.self.inside.changed.items = search rules in
+    let count : vec_len c.make_room.new.changed ≡ length c.self.inside.given.items =
     search (rules, c.self.invariant.indexed.all) in
-    let ids : c.as_slice-4.result.now ≡ gone c.args.offer = c.as_slice-4.ensures.value ∙ c.in-Ok.ensures in
+    let ids : c.as_slice-3.result.now ≡ gone c.args.offer = c.as_slice-3.ensures.value ∙ c.in_ok-gone.ensures.gone in
     let entries : length c.as_slice.result.now ≡ length c.self.inside.history = ap length c.as_slice.ensures in
     subst (λ (n : ℕ). IsRenewed (gone c.args.offer) (length c.self.inside.given.items)
     (length c.self.inside.history + 1) c.self.inside.changed.items c.renew.new.changed.items
@@ -128,13 +124,13 @@ changed_is c =
     (subst (λ (xs : List ℕ). IsRenewed (gone c.args.offer) (length c.self.inside.given.items)
     (length c.as_slice.result.now + 1) xs c.renew.new.changed.items (c.len-first.result + c.len.result)) kept
     (subst (λ (n : ℕ). IsRenewed (gone c.args.offer) n
-    (length c.as_slice.result.now + 1) c.reserve-2.new.self.items c.renew.new.changed.items
+    (length c.as_slice.result.now + 1) c.make_room.new.changed.items c.renew.new.changed.items
     (c.len-first.result + c.len.result)) count
-    (subst (λ (xs : List ℕ). IsRenewed xs (vec_len c.reserve-2.new.self)
-    (length c.as_slice.result.now + 1) c.reserve-2.new.self.items c.renew.new.changed.items
+    (subst (λ (xs : List ℕ). IsRenewed xs (vec_len c.make_room.new.changed)
+    (length c.as_slice.result.now + 1) c.make_room.new.changed.items c.renew.new.changed.items
     (c.len-first.result + c.len.result)) ids c.renew.ensures)))))
 
-parts : (c : goal.After-drop-gone-2) → IsNext c.self.inside (after_parts c) c.args.offer (come c)
+parts : (c : goal.After-drop-gone) → IsNext c.self.inside (after_parts c) c.args.offer (come c)
 parts c = record {
   design_is = refl;
   cap_is = refl;

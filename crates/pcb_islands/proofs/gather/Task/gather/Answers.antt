@@ -14,7 +14,9 @@ join-requires g c =
     omega (arith, slice_get_within c.args.found.now.items c.in-Some.place h.island h.there)
 
 pub open-requires-clause-there : goal.open-requires-clause-there
-open-requires-clause-there g c = pad_in c.args.self.now.d.now (g.C.Copper.items c.args.self.now.c.now) (g.met.C.Copper.serving _ _ c.requires.serves) _ c.pad_of-pad.result.now c.pad_of-pad.ensures
+open-requires-clause-there g c =
+    pad_in c.args.self.now.d.now (g.C.Copper.items c.args.self.now.c.now) (g.met.C.Copper.serving _ _ c.requires.serves)
+    _ c.pad_of-pad.result.now c.pad_of-pad.ensures
 
 pub returns-in-Some : goal.returns-in-Some
 returns-in-Some g c =
@@ -23,10 +25,15 @@ returns-in-Some g c =
     let net = c.args.self.now.net in
     let front = take c.args.k c.args.pins.now in
     let pin = get_or c.args.pins.now c.args.k 0 in
-    let more : take (c.args.k + 1) c.args.pins.now ≡ front ++ pin ∷ [] = take_more c.args.pins.now c.args.k 0 c.requires.place in
-    subst (λ (ps : List ℕ). OnOk c.join.result (IsProgress d items net ps c.join.new.found.items c.args.places.now)) (sym more)
-    (on_ok_weaker c.join.result (joins d items net c.requires.sound (g.met.C.Copper.serving _ _ c.requires.serves) c.requires.in_order front pin c.pad_of-pad.result.now c.pad_of-pad.ensures
-    c.args.found.now.items c.args.places.now c.requires.progress c.in-Some.place c.join.new.found.items (sym c.in-Some.ensures)) c.join.ensures)
+    let more : take (c.args.k + 1) c.args.pins.now ≡ front ++ pin ∷ [] =
+    take_more c.args.pins.now c.args.k 0 c.requires.place in
+    subst (λ (ps : List ℕ). OnOk c.join.result (IsProgress d items net ps c.join.new.found.items c.args.places.now))
+    (sym more)
+    (on_ok_weaker c.join.result
+    (joins d items net c.requires.sound (g.met.C.Copper.serving _ _ c.requires.serves) c.requires.in_order front
+    pin c.pad_of-pad.result.now c.pad_of-pad.ensures
+    c.args.found.now.items c.args.places.now c.requires.progress c.in-Some.place c.join.new.found.items
+    (sym c.in-Some.ensures)) c.join.ensures)
 
 pub returns-in-None : goal.returns-in-None
 returns-in-None g c =
@@ -35,7 +42,12 @@ returns-in-None g c =
     let net = c.args.self.now.net in
     let front = take c.args.k c.args.pins.now in
     let pin = get_or c.args.pins.now c.args.k 0 in
-    let more : take (c.args.k + 1) c.args.pins.now ≡ front ++ pin ∷ [] = take_more c.args.pins.now c.args.k 0 c.requires.place in
-    subst (λ (ps : List ℕ). OnOk c.open.result (IsProgress d items net ps c.open.new.found.items c.open.new.places)) (sym more)
-    (on_ok_weaker c.open.result (opens d items net c.requires.sound (g.met.C.Copper.serving _ _ c.requires.serves) c.requires.in_order front pin c.pad_of-pad.result.now c.pad_of-pad.ensures
-    c.args.found.now.items c.args.places.now c.requires.progress c.pairs_are_symmetric.ensures.touch c.open.new.found.items c.open.new.places (sym c.in-None.ensures)) c.open.ensures)
+    let more : take (c.args.k + 1) c.args.pins.now ≡ front ++ pin ∷ [] =
+    take_more c.args.pins.now c.args.k 0 c.requires.place in
+    subst (λ (ps : List ℕ). OnOk c.open.result (IsProgress d items net ps c.open.new.found.items c.open.new.places))
+    (sym more)
+    (on_ok_weaker c.open.result
+    (opens d items net c.requires.sound (g.met.C.Copper.serving _ _ c.requires.serves) c.requires.in_order front
+    pin c.pad_of-pad.result.now c.pad_of-pad.ensures
+    c.args.found.now.items c.args.places.now c.requires.progress c.pairs_are_symmetric.ensures.touch
+    c.open.new.found.items c.open.new.places (sym c.in-None.ensures)) c.open.ensures)

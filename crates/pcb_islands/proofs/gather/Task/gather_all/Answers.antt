@@ -12,7 +12,8 @@ loop-k-init g c =
     let items = g.C.Copper.items c.args.self.now.c.now in
     let net = c.args.self.now.net in
     subst (λ (fs : List Island). IsProgress d items net [] fs c.new-places.result) (sym c.new-found.ensures.items)
-    (subst (λ (ps : List (ℕ × ℕ)). IsProgress d items net [] [] ps) (sym c.new-places.ensures) (none_gathered d items net))
+    (subst (λ (ps : List (ℕ × ℕ)). IsProgress d items net [] [] ps) (sym c.new-places.ensures)
+    (none_gathered d items net))
 
 pub returns : goal.returns
 returns g c =
@@ -20,5 +21,6 @@ returns g c =
     let items = g.C.Copper.items c.args.self.now.c.now in
     let net = c.args.self.now.net in
     let past : length c.args.pins.now ≤ c.loop-k.k = omega arith in
-    let whole : take c.loop-k.k c.args.pins.now ≡ pins_of d net = take_all c.loop-k.k c.args.pins.now past ∙ c.requires.pins in
+    let whole : take c.loop-k.k c.args.pins.now ≡ pins_of d net = take_all c.loop-k.k c.args.pins.now past
+    ∙ c.requires.pins in
     subst (λ (ps : List ℕ). AreIslandsOf d items net ps c.loop-k.found.items) whole c.loop-k.invariant.islands

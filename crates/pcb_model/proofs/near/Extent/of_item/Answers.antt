@@ -9,4 +9,5 @@ pub returns-clause-within : goal.returns-clause-within
 returns-clause-within c =
     let F : Extent → Type 0 = λ e. IsBoxWithin (2 ^ 29) e.bounds in
     let G : List Piece → Type 0 = λ ps. IsBoxWithin (2 ^ 29) (extent_of ps).bounds in
-    subst F (sym c.of_pieces.ensures.least) (subst G (sym c.as_slice.ensures) (extent_within c.args.a.now.pieces c.requires.pieces_fit))
+    subst F (sym c.of_pieces.ensures.least)
+    (subst G (sym c.as_slice.ensures) (extent_within c.args.a.now.pieces c.requires.pieces_fit))

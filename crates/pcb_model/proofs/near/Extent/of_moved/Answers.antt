@@ -33,7 +33,9 @@ loop-p-preserved c =
     }
 
 pub returns-clause-has : goal.returns-clause-has
-returns-clause-has c = extent_whole (moved_piece c.args.by) c.loop-p.extent c.args.ps.now c.loop-p.p-index (omega arith) c.loop-p.invariant.width_within c.loop-p.invariant.each
+returns-clause-has c =
+    extent_whole (moved_piece c.args.by) c.loop-p.extent c.args.ps.now c.loop-p.p-index (omega arith)
+    c.loop-p.invariant.width_within c.loop-p.invariant.each
 
 pub returns-clause-least : goal.returns-clause-least
 returns-clause-least c =

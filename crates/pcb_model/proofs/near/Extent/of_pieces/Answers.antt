@@ -10,10 +10,12 @@ use Rattle.pcb_model.proofs.near.Extent.of_pieces.Goals as goal
 
 pub loop-p-preserved : goal.loop-p-preserved
 loop-p-preserved c = record {
-  each = piece_joined (λ q. q) c.joined-extent.result c.loop-p.extent c.of_piece.result c.args.ps.now c.loop-p.p-index c.p-item.result c.loop-p-test.true c.p-item.is
+  each = piece_joined (λ q. q) c.joined-extent.result c.loop-p.extent c.of_piece.result c.args.ps.now c.loop-p.p-index
+      c.p-item.result c.loop-p-test.true c.p-item.is
       c.joined-extent.ensures.self_in c.joined-extent.ensures.other_in c.loop-p.invariant.each c.of_piece.ensures.has;
   width_within = c.joined-extent.ensures.width_within;
-  least = extent_more c.joined-extent.result c.loop-p.extent c.args.ps.now c.loop-p.p-index c.p-item.result c.loop-p-test.true c.p-item.is c.of_piece.ensures.layer_within c.loop-p.invariant.least
+  least = extent_more c.joined-extent.result c.loop-p.extent c.args.ps.now c.loop-p.p-index c.p-item.result
+      c.loop-p-test.true c.p-item.is c.of_piece.ensures.layer_within c.loop-p.invariant.least
       (let b = c.of_piece.ensures in
       let j = c.joined-extent.ensures in
       record {
@@ -28,7 +30,12 @@ loop-p-preserved c = record {
 }
 
 pub returns-clause-has : goal.returns-clause-has
-returns-clause-has c = record { each = All-whole (IsPieceIn c.loop-p.extent) c.args.ps.now c.loop-p.p-index (omega arith) c.loop-p.invariant.each; width_within = c.loop-p.invariant.width_within }
+returns-clause-has c =
+    record {
+      each = All-whole (IsPieceIn c.loop-p.extent) c.args.ps.now c.loop-p.p-index (omega arith)
+          c.loop-p.invariant.each;
+      width_within = c.loop-p.invariant.width_within;
+    }
 
 pub returns-clause-least : goal.returns-clause-least
 returns-clause-least c = c.loop-p.invariant.least ∙ ap extent_of (take_all c.loop-p.p-index c.args.ps.now (omega arith))

@@ -10,33 +10,46 @@ use Rattle.pcb_model.proofs.Probes.{disc_fit, step_fit, via_fit, stack_fit}
 use Rattle.pcb_model.proofs.near.Extent.of_probe.Goals as goal
 
 pub of_wire-requires-clause-a_within : goal.of_wire-requires-clause-a_within
-of_wire-requires-clause-a_within c = wire_within c.in-Disc.layer c.in-Disc.width c.in-Disc.at [] (disc_fit c.args.d.now c.args.p.now c.in-Disc.layer c.in-Disc.width c.in-Disc.at c.in-Disc.is c.requires.p_fits)
+of_wire-requires-clause-a_within c =
+    wire_within c.in-Disc.layer c.in-Disc.width c.in-Disc.at []
+    (disc_fit c.args.d.now c.args.p.now c.in-Disc.layer c.in-Disc.width c.in-Disc.at c.in-Disc.is c.requires.p_fits)
 
 pub of_wire-requires-clause-b_within : goal.of_wire-requires-clause-b_within
-of_wire-requires-clause-b_within c = wire_within c.in-Disc.layer c.in-Disc.width c.in-Disc.at [] (disc_fit c.args.d.now c.args.p.now c.in-Disc.layer c.in-Disc.width c.in-Disc.at c.in-Disc.is c.requires.p_fits)
+of_wire-requires-clause-b_within c =
+    wire_within c.in-Disc.layer c.in-Disc.width c.in-Disc.at []
+    (disc_fit c.args.d.now c.args.p.now c.in-Disc.layer c.in-Disc.width c.in-Disc.at c.in-Disc.is c.requires.p_fits)
 
 pub of_wire-requires-clause-width_within : goal.of_wire-requires-clause-width_within
-of_wire-requires-clause-width_within c = (disc_fit c.args.d.now c.args.p.now c.in-Disc.layer c.in-Disc.width c.in-Disc.at c.in-Disc.is c.requires.p_fits).width_within
+of_wire-requires-clause-width_within c =
+    (disc_fit c.args.d.now c.args.p.now c.in-Disc.layer c.in-Disc.width c.in-Disc.at c.in-Disc.is
+    c.requires.p_fits).width_within
 
 pub of_wire-requires-in-Step-clause-a_within : goal.of_wire-requires-in-Step-clause-a_within
 of_wire-requires-in-Step-clause-a_within c =
-    wire_within c.in-Step.layer c.in-Step.width c.in-Step.a (c.in-Step.b ∷ []) (step_fit c.args.d.now c.args.p.now c.in-Step.layer c.in-Step.width c.in-Step.a c.in-Step.b c.in-Step.is c.requires.p_fits)
+    wire_within c.in-Step.layer c.in-Step.width c.in-Step.a (c.in-Step.b ∷ [])
+    (step_fit c.args.d.now c.args.p.now c.in-Step.layer c.in-Step.width c.in-Step.a c.in-Step.b c.in-Step.is
+    c.requires.p_fits)
 
 pub of_wire-requires-in-Step-clause-b_within : goal.of_wire-requires-in-Step-clause-b_within
 of_wire-requires-in-Step-clause-b_within c =
-    wire_end_within c.in-Step.layer c.in-Step.width c.in-Step.a c.in-Step.b (step_fit c.args.d.now c.args.p.now c.in-Step.layer c.in-Step.width c.in-Step.a c.in-Step.b c.in-Step.is c.requires.p_fits)
+    wire_end_within c.in-Step.layer c.in-Step.width c.in-Step.a c.in-Step.b
+    (step_fit c.args.d.now c.args.p.now c.in-Step.layer c.in-Step.width c.in-Step.a c.in-Step.b c.in-Step.is
+    c.requires.p_fits)
 
 pub of_wire-requires-in-Step-clause-width_within : goal.of_wire-requires-in-Step-clause-width_within
 of_wire-requires-in-Step-clause-width_within c =
-    (step_fit c.args.d.now c.args.p.now c.in-Step.layer c.in-Step.width c.in-Step.a c.in-Step.b c.in-Step.is c.requires.p_fits).width_within
+    (step_fit c.args.d.now c.args.p.now c.in-Step.layer c.in-Step.width c.in-Step.a c.in-Step.b c.in-Step.is
+    c.requires.p_fits).width_within
 
 pub of_moved-requires-clause-ps_fit : goal.of_moved-requires-clause-ps_fit
-of_moved-requires-clause-ps_fit c = subst (All IsFit) (sym c.padstack_pieces.ensures) (stack_fit c.args.d.now c.in-Via.padstack c.requires.design)
+of_moved-requires-clause-ps_fit c =
+    subst (All IsFit) (sym c.padstack_pieces.ensures) (stack_fit c.args.d.now c.in-Via.padstack c.requires.design)
 
 pub of_moved-requires-clause-moved_fit : goal.of_moved-requires-clause-moved_fit
 of_moved-requires-clause-moved_fit c =
     let M : Piece → Type 0 = λ r. IsFit (moved_piece c.in-Via.at r) in
-    subst (All M) (sym c.padstack_pieces.ensures) (via_fit c.args.d.now c.args.p.now c.in-Via.padstack c.in-Via.at c.in-Via.is c.requires.p_fits)
+    subst (All M) (sym c.padstack_pieces.ensures)
+    (via_fit c.args.d.now c.args.p.now c.in-Via.padstack c.in-Via.at c.in-Via.is c.requires.p_fits)
 
 pub returns-in-Disc-clause-least : goal.returns-in-Disc-clause-least
 returns-in-Disc-clause-least c =

@@ -10,5 +10,7 @@ invariant_of-self-in-Ok c =
     let e : c.args.self.now ≡ c.self.inside.items = cc in
     let above = subst (All (λ (b : Item). b.id < c.args.item.id)) e c.requires.above in
     let within : c.args.item.id < 2 ^ 64 = omega arith in
-    let p = plain_push c.self.inside.items c.self.inside.extents c.args.item c.of_item-extent.result c.self.invariant above within c.requires.fits c.of_item-extent.ensures.has in
-    subst (λ (xs : List Item). IsPlain xs c.push.new.self) (sym c.in-Ok.ensures.ok) (subst (IsPlain (c.self.inside.items ++ c.args.item ∷ [])) (sym c.in_default.ensures.ok) p)
+    let p = plain_push c.self.inside.items c.self.inside.extents c.args.item c.of_item-extent.result c.self.invariant
+    above within c.requires.fits c.of_item-extent.ensures.has in
+    subst (λ (xs : List Item). IsPlain xs c.push.new.self) (sym c.in-Ok.ensures.ok)
+    (subst (IsPlain (c.self.inside.items ++ c.args.item ∷ [])) (sym c.in_default.ensures.ok) p)

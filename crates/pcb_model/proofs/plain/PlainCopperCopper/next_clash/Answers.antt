@@ -9,11 +9,13 @@ returns-clause-finds g c =
     let s = c.as_slice.ensures in
     let v = c.self.view_is in
     let e : c.as_slice.result.now ≡ c.args.self.now = cc in
-    subst (λ (items : List Item). Finds (λ b. Agrees c.args.d.now c.args.a.now b → ⊥) (Agrees c.args.d.now c.args.a.now) c.args.from (Some c.args.a.now.id) items c.first_clash.result) e c.first_clash.ensures.finds
+    subst (λ (items : List Item). Finds (λ b. Agrees c.args.d.now c.args.a.now b → ⊥) (Agrees c.args.d.now c.args.a.now)
+    c.args.from (Some c.args.a.now.id) items c.first_clash.result) e c.first_clash.ensures.finds
 
 pub returns-clause-cost : goal.returns-clause-cost
 returns-clause-cost g c =
     let s = c.as_slice.ensures in
     let v = c.self.view_is in
     let e : c.as_slice.result.now ≡ c.args.self.now = cc in
-    subst (λ (items : List Item). c.first_clash.new.steps ≤ c.args.steps.now + length items) e c.first_clash.ensures.cost
+    subst (λ (items : List Item). c.first_clash.new.steps ≤ c.args.steps.now + length items) e
+    c.first_clash.ensures.cost

@@ -12,4 +12,5 @@ pub returns-in-Some-clause-shut : goal.returns-in-Some-clause-shut
 returns-in-Some-clause-shut g c =
     let s = c.args.self.now in
     let F : Option Probe → Type 0 = λ o. IsOpen s.d.now (g.C.Copper.items s.c.now) s.net o in
-    off c.is_legal.result _ (λ h. c.is_legal.ensures.1 (subst F {x = _} {y = Some c.in-Some.p} (sym c.in-Some.ensures.value) h))
+    off c.is_legal.result _
+    (λ h. c.is_legal.ensures.1 (subst F {x = _} {y = Some c.in-Some.p} (sym c.in-Some.ensures.value) h))

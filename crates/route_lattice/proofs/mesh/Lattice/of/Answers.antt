@@ -15,12 +15,15 @@ pub returns-clause-lattice : goal.returns-clause-lattice
 returns-clause-lattice c =
     let d = c.args.d.now in
     let parts = c.in_ok-parts.ensures.value in
-    let grid = c.in_ok-grid.ensures.value ∙ ap (λ (p : Parts). unwrap_or c.args.grid (first_grid p)) parts ∙ ap (unwrap_or c.args.grid) (default_is d) in
+    let grid = c.in_ok-grid.ensures.value ∙ ap (λ (p : Parts). unwrap_or c.args.grid (first_grid p)) parts
+    ∙ ap (unwrap_or c.args.grid) (default_is d) in
     subst (λ (m : Mesh). IsLatticeOf m c.build.result) (ap₂ mesh_of parts grid) c.build.ensures
 
 pub returns-clause-fits : goal.returns-clause-fits
 returns-clause-fits c =
     let d = c.args.d.now in
     let parts = c.in_ok-parts.ensures.value in
-    let grid = c.in_ok-grid.ensures.value ∙ ap (λ (p : Parts). unwrap_or c.args.grid (first_grid p)) parts ∙ ap (unwrap_or c.args.grid) (default_is d) in
-    fits_if_ok d (unwrap_or c.args.grid (default_grid d)) c.build.result c.requires.sound (subst (λ n. 1 ≤ n) grid c.in_ok-grid.ensures.some) (returns-clause-lattice c)
+    let grid = c.in_ok-grid.ensures.value ∙ ap (λ (p : Parts). unwrap_or c.args.grid (first_grid p)) parts
+    ∙ ap (unwrap_or c.args.grid) (default_is d) in
+    fits_if_ok d (unwrap_or c.args.grid (default_grid d)) c.build.result c.requires.sound
+    (subst (λ n. 1 ≤ n) grid c.in_ok-grid.ensures.some) (returns-clause-lattice c)

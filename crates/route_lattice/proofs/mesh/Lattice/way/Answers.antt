@@ -8,4 +8,5 @@ use Rattle.route_lattice.proofs.mesh.Lattice.way.Goals as goal
 pub returns-clause-leads : goal.returns-clause-leads
 returns-clause-leads c =
     let m = c.args.self.now in
-    subst (λ (o : Option (Move × ℕ)). IfSome o (λ (w : Move × ℕ). w.1 < node_count m)) (sym c.numbered.ensures) (way_goes c.args.d.now m c.args.net c.args.node c.args.i c.requires.node)
+    subst (λ (o : Option (Move × ℕ)). IfSome o (λ (w : Move × ℕ). w.1 < node_count m)) (sym c.numbered.ensures)
+    (way_goes c.args.d.now m c.args.net c.args.node c.args.i c.requires.node)

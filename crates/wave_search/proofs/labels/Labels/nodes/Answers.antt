@@ -16,6 +16,11 @@ returns c =
     subst (λ (t : List (Option Label)). IsListed t c.dedup.new.self.items) c.self.view_is (record {
       ascends = rw is (IsStrictlyIncreasing-dedup _ c.sort_unstable.ensures.sorted);
       labelled = λ v h.
-          c.self.invariant.labelled c.if-self.false v (subst (λ (xs : List ℕ). Contains xs v) same (Contains-permutation _ _ v (IsPermutation-sym _ _ moved) (Contains-from_dedup _ _ v (rw is at h))));
-      complete = λ v l h. rw is (Contains-dedup_nat _ v (Contains-permutation _ _ v moved (subst (λ (xs : List ℕ). Contains xs v) (sym same) (c.self.invariant.covers c.if-self.false v l h))));
+          let listed =
+          Contains-permutation _ _ v (IsPermutation-sym _ _ moved) (Contains-from_dedup _ _ v (rw is at h)) in
+          c.self.invariant.labelled c.if-self.false v (subst (λ (xs : List ℕ). Contains xs v) same listed);
+      complete = λ v l h.
+          let touched = c.self.invariant.covers c.if-self.false v l h in
+          let listed = subst (λ (xs : List ℕ). Contains xs v) (sym same) touched in
+          rw is (Contains-dedup_nat _ v (Contains-permutation _ _ v moved listed));
     })

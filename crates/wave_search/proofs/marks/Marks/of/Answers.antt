@@ -14,6 +14,9 @@ pub returns : goal.returns
 returns c = λ v.
     let is = dedup_is _ _ _ c.dedup.ensures.filtered in
     let moved = c.sort_unstable.ensures.permutation in (
-      λ h. subst (λ (xs : List ℕ). Contains xs v) c.in_ok-sorted.ensures.items (Contains-permutation _ _ v (IsPermutation-sym _ _ moved) (Contains-from_dedup _ _ v (rw is at h))),
-      λ h. rw is (Contains-dedup_nat _ v (Contains-permutation _ _ v moved (subst (λ (xs : List ℕ). Contains xs v) (sym c.in_ok-sorted.ensures.items) h))),
+      λ h. subst (λ (xs : List ℕ). Contains xs v) c.in_ok-sorted.ensures.items
+          (Contains-permutation _ _ v (IsPermutation-sym _ _ moved) (Contains-from_dedup _ _ v (rw is at h))),
+      λ h.
+          let listed = subst (λ (xs : List ℕ). Contains xs v) (sym c.in_ok-sorted.ensures.items) h in
+          rw is (Contains-dedup_nat _ v (Contains-permutation _ _ v moved listed)),
     )

@@ -7,4 +7,6 @@ use Rattle.wave_search.proofs.rows.Rows.get.Goals as goal
 
 pub returns : goal.returns
 returns c = subst (λ (t : List (Option Label)). c.label_of.result ≡ label_at t c.args.v) c.self.view_is
-    (c.label_of.ensures ∙ ap row_label c.index.ensures ∙ sym (read c.self.inside.rows.items c.args.v c.index.result.now (in_rows _ _ c.args.v c.self.view_is c.requires)))
+    (c.label_of.ensures ∙ ap row_label c.index.ensures
+    ∙ sym (read c.self.inside.rows.items c.args.v c.index.result.now
+    (in_rows _ _ c.args.v c.self.view_is c.requires)))

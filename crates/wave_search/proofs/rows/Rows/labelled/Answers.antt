@@ -1,4 +1,4 @@
-use Rattle.std.proofs.Common.{◌+◌, sym, ◌∙◌, subst, List, ℕ, arith, ap, length}
+use Rattle.std.proofs.Common.{◌+◌, ◌<◌, sym, ◌∙◌, subst, List, ℕ, arith, ap, length}
 use Rattle.std.proofs.lemmas.List.{length-map}
 use Rattle.wave_search.specs.Rows.{row_label}
 use Rattle.wave_search.proofs.Kept.{AreBelow, one_more, no_more}
@@ -8,13 +8,22 @@ use Rattle.wave_search.proofs.rows.Rows.labelled.Goals as goal
 
 pub loop-v-preserved : goal.loop-v-preserved
 loop-v-preserved c = elim c.if-has.branch [
-  | then-has+in_ok-push w ↦ one_more c.args.self.now c.loop-v.v c.loop-v.nodes.items c.if-has.nodes.items c.loop-v.invariant (sym c.has.ensures ∙ w.if-has.true) (ap (λ x. x.items) w.nodes-is ∙ w.in_ok-push.ensures.items)
-  | else-has w ↦ subst (λ (xs : List ℕ). AreBelow c.args.self.now (c.loop-v.v + 1) xs) (sym (ap (λ x. x.items) w.nodes-is)) (no_more c.args.self.now c.loop-v.v c.loop-v.nodes.items c.loop-v.invariant (sym c.has.ensures ∙ w.if-has.false))
+  | then-has+in_ok-push w ↦
+      one_more c.args.self.now c.loop-v.v c.loop-v.nodes.items c.if-has.nodes.items c.loop-v.invariant
+      (sym c.has.ensures ∙ w.if-has.true) (ap (λ x. x.items) w.nodes-is ∙ w.in_ok-push.ensures.items)
+  | else-has w ↦
+      let none = sym c.has.ensures ∙ w.if-has.false in
+      subst (λ (xs : List ℕ). AreBelow c.args.self.now (c.loop-v.v + 1) xs) (sym (ap (λ x. x.items) w.nodes-is))
+      (no_more c.args.self.now c.loop-v.v c.loop-v.nodes.items c.loop-v.invariant none)
 ]
 
 pub returns : goal.returns
 returns c = record {
   ascends = c.loop-v.invariant.ascends;
   labelled = c.loop-v.invariant.labelled;
-  complete = λ u l f. c.loop-v.invariant.complete u l (omega (arith, within c.args.self.now u l f, c.loop-v-test.false, ap length c.self.view_is, length-map c.self.inside.rows.items row_label)) f;
+  complete = λ u l f.
+      let rows_are = length-map c.self.inside.rows.items row_label in
+      let inside = within c.args.self.now u l f in
+      let below : u < c.loop-v.v = omega (arith, inside, c.loop-v-test.false, ap length c.self.view_is, rows_are) in
+      c.loop-v.invariant.complete u l below f;
 }

@@ -7,4 +7,5 @@ use Rattle.wave_search.proofs.rows.Rows.new.Goals as goal
 
 pub returns-clause-none : goal.returns-clause-none
 returns-clause-none c = λ v. subst (λ (rows : List Row). label_at (labels_of rows) v ≡ None)
-    (sym (c.in_ok-rows.ensures.items_if_clones_equal (λ _ h. h))) (blank c.args.count v c.blank_row.result c.blank_row.ensures)
+    (sym (c.in_ok-rows.ensures.items_if_clones_equal (λ _ h. h)))
+    (blank c.args.count v c.blank_row.result c.blank_row.ensures)

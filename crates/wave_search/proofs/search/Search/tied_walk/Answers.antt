@@ -3,4 +3,5 @@ use Rattle.std.specs.Prelude.{Contains, ◌↔◌}
 use Rattle.wave_search.proofs.search.Search.tied_walk.Goals as goal
 
 pub run-requires-clause-marked : goal.run-requires-clause-marked
-run-requires-clause-marked g c = λ v. subst (λ (xs : List ℕ). Contains c.in_ok-marks.marks v ↔ Contains xs v) c.as_slice.ensures (c.in_ok-marks.ensures v)
+run-requires-clause-marked g c = λ v.
+    subst (λ (xs : List ℕ). Contains c.in_ok-marks.marks v ↔ Contains xs v) c.as_slice.ensures (c.in_ok-marks.ensures v)

@@ -10,8 +10,11 @@ loop-way-init g c = record {
   there = c.in-Some.ensures.0;
   inside = c.in-Some.ensures.3;
   small = c.in-Some.ensures.4;
-  passed = begun (g.M.Moves.graph c.args.self.now.m.now) c.args.self.now.starts.now c.args.table.now c.requires.roots c.args.start.node c.in-Some.here c.in-Some.ensures.0 c.in-Some.ensures.2 c.push.new.self.items c.new-moves.result.items
-      (c.in_ok-push.ensures.items ∙ ap (λ (xs : List ℕ). xs ++ c.args.start.node ∷ []) c.new-nodes.ensures.items) c.new-moves.ensures.items;
+  passed = begun (g.M.Moves.graph c.args.self.now.m.now) c.args.self.now.starts.now c.args.table.now c.requires.roots
+      c.args.start.node c.in-Some.here c.in-Some.ensures.0 c.in-Some.ensures.2 c.push.new.self.items
+      c.new-moves.result.items
+      (c.in_ok-push.ensures.items ∙ ap (λ (xs : List ℕ). xs ++ c.args.start.node ∷ []) c.new-nodes.ensures.items)
+      c.new-moves.ensures.items;
 }
 
 pub loop-way-preserved : goal.loop-way-preserved
@@ -19,6 +22,8 @@ loop-way-preserved g c = record {
   there = c.in-Some-label_after.ensures.0;
   inside = c.in-Some-label_after.ensures.2;
   small = c.in-Some-label_after.ensures.3;
-  passed = passed_on (g.M.Moves.graph c.args.self.now.m.now) c.args.self.now.starts.now c.loop-way.nodes.items c.loop-way.moves.items c.loop-way.at c.loop-way.here.price c.in-Some-on.way.to c.in-Some-label_after.after.price
-      c.loop-way.invariant.passed c.in-Some-tight_to.mv c.in-Some-tight_to.ensures c.push-in-Some-on-2.new.self.items c.push-in-Some-on.new.self.items c.in_ok-push-3.ensures.items c.in_ok-push-2.ensures.items;
+  passed = passed_on (g.M.Moves.graph c.args.self.now.m.now) c.args.self.now.starts.now c.loop-way.nodes.items
+      c.loop-way.moves.items c.loop-way.at c.loop-way.here.price c.in-Some-on.way.to c.in-Some-label_after.after.price
+      c.loop-way.invariant.passed c.in-Some-tight_to.mv c.in-Some-tight_to.ensures c.push-in-Some-on-2.new.self.items
+      c.push-in-Some-on.new.self.items c.in_ok-push-3.ensures.items c.in_ok-push-2.ensures.items;
 }

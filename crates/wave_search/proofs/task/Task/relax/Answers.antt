@@ -2,7 +2,8 @@ use Rattle.std.proofs.Common.{◌∙◌, arith}
 use Rattle.wave_search.proofs.task.Task.relax.Goals as goal
 
 pub relax_one-requires-clause-there : goal.relax_one-requires-clause-there
-relax_one-requires-clause-there g c = c.loop-i.invariant.kept c.args.node c.args.label c.requires.there c.requires.is_done
+relax_one-requires-clause-there g c =
+    c.loop-i.invariant.kept c.args.node c.args.label c.requires.there c.requires.is_done
 
 pub loop-i-preserved : goal.loop-i-preserved
 loop-i-preserved g c = record {

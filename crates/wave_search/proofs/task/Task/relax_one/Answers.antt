@@ -1,7 +1,6 @@
-use Rattle.std.proofs.Common.{arith, ◌≡◌, ℕ, ◌+◌, Option, Some, refl, sym, subst, ◌∙◌, true, false}
-use Rattle.wave_search.specs.Waiting.{IsAdded}
+use Rattle.std.proofs.Common.{arith, ◌≡◌, ◌+◌, Option, Some, refl, sym, subst, ◌∙◌, true, false}
 use Rattle.wave_search.specs.declared.rows.Label.{Label}
-use Rattle.wave_search.specs.State.{label_at, improves_on, is_done_by, entry}
+use Rattle.wave_search.specs.State.{label_at, improves_on, is_done_by}
 use Rattle.wave_search.proofs.Steps.{price_room, relabel_keeps, relabelled, better_from, unchanged, done_before}
 use Rattle.wave_search.proofs.Steps.{cheap_from}
 use Rattle.wave_search.proofs.task.Task.relax_one.Goals as goal
@@ -26,28 +25,19 @@ get-old-requires g c = omega (
       (sym c.at.ensures ∙ c.in-Some.is),
 )
 
-pub put-requires-clause-node : goal.put-requires-clause-node
-put-requires-clause-node g c = omega (
+pub let_wait-requires-clause-node : goal.let_wait-requires-clause-node
+let_wait-requires-clause-node g c = omega (
   arith,
   c.requires.state.roots.size,
   c.requires.sound.leads c.args.node c.args.i c.in-Some.field-0-0 c.in-Some.to c.requires.node c.requires.index
       (sym c.at.ensures ∙ c.in-Some.is),
 )
 
-pub overflow_add-key : goal.overflow_add-key
-overflow_add-key g c =
-    let room = price_room (g.M.Moves.graph c.args.self.now.m.now) c.args.self.now.starts.now c.args.self.now.goals.now
-    (g.B.Bound.low_of c.args.self.now.b.now) c.requires.sound c.requires.bound _ _ _ _ _ _ c.requires.state
-    c.args.node c.args.label c.requires.there c.requires.is_done in
-    omega (
-      arith,
-      room,
-      c.low-low.ensures,
-      c.requires.sound.small_price c.args.node c.args.i c.price.result c.requires.node c.requires.index c.price.ensures,
-      c.requires.bound.limit c.in-Some.to
-          (c.requires.sound.leads c.args.node c.args.i c.in-Some.field-0-0 c.in-Some.to c.requires.node c.requires.index
-          (sym c.at.ensures ∙ c.in-Some.is)),
-    )
+pub let_wait-requires-clause-low : goal.let_wait-requires-clause-low
+let_wait-requires-clause-low g c =
+    let limit = c.requires.bound.limit c.in-Some.to
+    (c.requires.sound.leads c.args.node c.args.i c.in-Some.field-0-0 c.in-Some.to c.requires.node c.requires.index
+    (sym c.at.ensures ∙ c.in-Some.is)) in omega (arith, limit)
 
 pub returns-clause-state : goal.returns-clause-state
 returns-clause-state g c =
@@ -69,10 +59,7 @@ returns-clause-state g c =
       costs = c.price.ensures;
     })
     l refl refl refl (better_from c.args.table.now c.in-Some.to l.price better)
-    c.put.new.self c.push.new.self c.in_ok-put.ensures.ok
-    (subst (λ (x : ℕ). IsAdded c.args.front.now
-    (entry (c.args.label.price + c.price.result + x) c.in-Some.to) c.push.new.self) c.low-low.ensures
-    c.in_ok-push.ensures.ok)
+    c.let_wait.new.table c.let_wait.new.front c.in_ok-let_wait.ensures.put c.in_ok-let_wait.ensures.added
 
 pub returns-clause-kept : goal.returns-clause-kept
 returns-clause-kept g c =
@@ -94,7 +81,7 @@ returns-clause-kept g c =
       costs = c.price.ensures;
     })
     l refl refl refl (better_from c.args.table.now c.in-Some.to l.price better)
-    c.put.new.self c.in_ok-put.ensures.ok
+    c.let_wait.new.table c.in_ok-let_wait.ensures.put
 
 pub returns-then-not-improves-clause-state : goal.returns-then-not-improves-clause-state
 returns-then-not-improves-clause-state g c =
@@ -119,8 +106,8 @@ returns-then-is_done-clause-state g c =
     c.in-Some.field-0-0 c.in-Some.to (sym c.at.ensures ∙ c.in-Some.is)
     (subst (λ (o : Option Label). is_done_by o ≡ true) c.get-old.ensures (sym c.if-is_done.ensures))
 
-pub put-requires-clause-price : goal.put-requires-clause-price
-put-requires-clause-price g c =
+pub let_wait-requires-clause-price : goal.let_wait-requires-clause-price
+let_wait-requires-clause-price g c =
     let room = price_room (g.M.Moves.graph c.args.self.now.m.now) c.args.self.now.starts.now c.args.self.now.goals.now
     (g.B.Bound.low_of c.args.self.now.b.now) c.requires.sound c.requires.bound _ _ _ _ _ _ c.requires.state
     c.args.node c.args.label c.requires.there c.requires.is_done in
@@ -131,5 +118,5 @@ put-requires-clause-price g c =
           c.requires.index c.price.ensures,
     )
 
-pub put-requires-clause-origin : goal.put-requires-clause-origin
-put-requires-clause-origin g c = omega (arith, c.requires.node, c.requires.sound.nodes)
+pub let_wait-requires-clause-origin : goal.let_wait-requires-clause-origin
+let_wait-requires-clause-origin g c = omega (arith, c.requires.node, c.requires.sound.nodes)

@@ -1,41 +1,41 @@
-use Rattle.std.proofs.Common.{◌+◌, arith, sym, ◌∙◌, length}
+use Rattle.std.proofs.Common.{◌+◌, arith, ◌∙◌, length}
 use Rattle.wave_search.proofs.Steps.{whole}
 use Rattle.wave_search.proofs.Run.{node_in, node_below, price_small, origin_small, room, none_in, put_keeps, state_now}
-use Rattle.wave_search.proofs.Run.{taken_now, falls}
+use Rattle.wave_search.proofs.Run.{skipped, taken_now, falls}
 use Rattle.wave_search.proofs.task.Task.settle.Goals as goal
 
-pub get-requires : goal.get-requires
-get-requires g c = node_in c.requires.sound c.requires.bound c.settle.invariant.state
+pub waiting-requires-clause-node : goal.waiting-requires-clause-node
+waiting-requires-clause-node g c = node_in c.requires.sound c.requires.bound c.settle.invariant.state
     (taken_now c.settle.front c.pop.new.self _ c.in-Some.entry c.in_ok-entry.ensures c.in-Some.is)
 
 pub overflow_add-label : goal.overflow_add-label
 overflow_add-label g c =
     let r = room c.requires.sound c.requires.bound c.settle.invariant.state
     (taken_now c.settle.front c.pop.new.self _ c.in-Some.entry c.in_ok-entry.ensures c.in-Some.is)
-    (sym c.get.ensures ∙ c.in-Some-get.is) c.if-found-ne0.false in omega (arith, r, c.requires.sound.nodes)
+    c.in-Some-waiting.ensures.0 c.in-Some-waiting.ensures.1 in omega (arith, r, c.requires.sound.nodes)
 
-pub put-requires-clause-node : goal.put-requires-clause-node
-put-requires-clause-node g c = node_in c.requires.sound c.requires.bound c.settle.invariant.state
+pub place-requires-clause-node : goal.place-requires-clause-node
+place-requires-clause-node g c = node_in c.requires.sound c.requires.bound c.settle.invariant.state
     (taken_now c.settle.front c.pop.new.self _ c.in-Some.entry c.in_ok-entry.ensures c.in-Some.is)
 
-pub put-requires-clause-price : goal.put-requires-clause-price
-put-requires-clause-price g c =
+pub place-requires-clause-price : goal.place-requires-clause-price
+place-requires-clause-price g c =
     omega (
       arith,
-      price_small c.requires.sound c.settle.invariant.state.1 c.in-Some.entry.node c.in-Some-get.found
-          (sym c.get.ensures ∙ c.in-Some-get.is),
+      price_small c.requires.sound c.settle.invariant.state.1 c.in-Some.entry.node c.in-Some-waiting.found
+          c.in-Some-waiting.ensures.0,
     )
 
-pub put-requires-clause-origin : goal.put-requires-clause-origin
-put-requires-clause-origin g c =
-    origin_small c.requires.sound c.settle.invariant.state.1.roots c.in-Some.entry.node c.in-Some-get.found
-    (sym c.get.ensures ∙ c.in-Some-get.is)
+pub place-requires-clause-origin : goal.place-requires-clause-origin
+place-requires-clause-origin g c =
+    origin_small c.requires.sound c.settle.invariant.state.1.roots c.in-Some.entry.node c.in-Some-waiting.found
+    c.in-Some-waiting.ensures.0
 
 pub overflow_add-finished : goal.overflow_add-finished
 overflow_add-finished g c =
     let r = room c.requires.sound c.requires.bound c.settle.invariant.state
     (taken_now c.settle.front c.pop.new.self _ c.in-Some.entry c.in_ok-entry.ensures c.in-Some.is)
-    (sym c.get.ensures ∙ c.in-Some-get.is) c.if-found-ne0.false in omega (arith, r, c.requires.sound.nodes)
+    c.in-Some-waiting.ensures.0 c.in-Some-waiting.ensures.1 in omega (arith, r, c.requires.sound.nodes)
 
 pub relax-requires-clause-node : goal.relax-requires-clause-node
 relax-requires-clause-node g c = node_below c.requires.sound c.requires.bound c.settle.invariant.state
@@ -43,9 +43,10 @@ relax-requires-clause-node g c = node_below c.requires.sound c.requires.bound c.
 
 pub relax-requires-clause-state : goal.relax-requires-clause-state
 relax-requires-clause-state g c = state_now c.requires.sound c.requires.bound c.settle.invariant.state
-    (taken_now c.settle.front c.pop.new.self _ c.in-Some.entry c.in_ok-entry.ensures c.in-Some.is) (sym c.get.ensures
-    ∙ c.in-Some-get.is) c.if-found-ne0.false
-    (none_in c.args.self.now.goals.now c.requires.no_goals c.in-Some.entry.node) c.put.new.self c.in_ok-put.ensures.ok
+    (taken_now c.settle.front c.pop.new.self _ c.in-Some.entry c.in_ok-entry.ensures c.in-Some.is)
+    c.in-Some-waiting.ensures.0 c.in-Some-waiting.ensures.1
+    (none_in c.args.self.now.goals.now c.requires.no_goals c.in-Some.entry.node) c.place.new.table
+    c.in_ok-place.ensures.put
 
 pub settle-smaller : goal.settle-smaller
 settle-smaller g c = falls (g.M.Moves.graph c.args.self.now.m.now).count c.settle.finished
@@ -53,23 +54,24 @@ settle-smaller g c = falls (g.M.Moves.graph c.args.self.now.m.now).count c.settl
     (length c.relax.new.front)
     (room c.requires.sound c.requires.bound c.settle.invariant.state
     (taken_now c.settle.front c.pop.new.self _ c.in-Some.entry c.in_ok-entry.ensures c.in-Some.is)
-    (sym c.get.ensures ∙ c.in-Some-get.is) c.if-found-ne0.false)
+    c.in-Some-waiting.ensures.0 c.in-Some-waiting.ensures.1)
     (taken_now c.settle.front c.pop.new.self _ c.in-Some.entry c.in_ok-entry.ensures c.in-Some.is).len
     c.in_ok-relax.ensures.len
 
 pub settle-preserved : goal.settle-preserved
 settle-preserved g c = record {
-  size = c.in_ok-relax.ensures.size ∙ c.in_ok-put.ensures.size ∙ c.settle.invariant.size;
+  size = c.in_ok-relax.ensures.size ∙ c.in_ok-place.ensures.size ∙ c.settle.invariant.size;
   kept = λ v l h d. c.in_ok-relax.ensures.kept v l
       (put_keeps c.requires.sound c.requires.bound c.settle.invariant.state
-      (taken_now c.settle.front c.pop.new.self _ c.in-Some.entry c.in_ok-entry.ensures c.in-Some.is) (sym c.get.ensures
-      ∙ c.in-Some-get.is) c.if-found-ne0.false _ c.put.new.self c.in_ok-put.ensures.ok v l
+      (taken_now c.settle.front c.pop.new.self _ c.in-Some.entry c.in_ok-entry.ensures c.in-Some.is)
+      c.in-Some-waiting.ensures.0 c.in-Some-waiting.ensures.1 _ c.place.new.table
+      c.in_ok-place.ensures.put v l
       (c.settle.invariant.kept v l h d) d) d;
   state = (
-    c.in-Some-get.found.price + g.B.Bound.low_of c.args.self.now.b.now c.in-Some.entry.node,
+    c.in-Some-waiting.found.price + g.B.Bound.low_of c.args.self.now.b.now c.in-Some.entry.node,
     whole (g.M.Moves.graph c.args.self.now.m.now) c.args.self.now.starts.now c.args.self.now.goals.now
         (g.B.Bound.low_of c.args.self.now.b.now) c.requires.sound c.requires.bound c.relax.new.table c.relax.new.front
-        (c.in-Some-get.found.price + g.B.Bound.low_of c.args.self.now.b.now c.in-Some.entry.node)
+        (c.in-Some-waiting.found.price + g.B.Bound.low_of c.args.self.now.b.now c.in-Some.entry.node)
         (c.settle.finished + 1) c.in-Some.entry.node 0 c.in_ok-relax.ensures.state,
   );
 }
@@ -82,3 +84,17 @@ returns-clause-small g c = price_small c.requires.sound c.settle.invariant.state
 
 pub returns-then-entry-limit-clause-small : goal.returns-then-entry-limit-clause-small
 returns-then-entry-limit-clause-small g c = price_small c.requires.sound c.settle.invariant.state.1
+
+pub waiting-requires-clause-there : goal.waiting-requires-clause-there
+waiting-requires-clause-there g c =
+    let e = c.settle.invariant.state.1.labelled c.in-Some.entry (taken_now c.settle.front c.pop.new.self _
+    c.in-Some.entry c.in_ok-entry.ensures c.in-Some.is).there in (e.1.label, e.1.there)
+
+pub settle-preserved-in_default-waiting : goal.settle-preserved-in_default-waiting
+settle-preserved-in_default-waiting g c = record {
+  size = c.settle.invariant.size;
+  kept = c.settle.invariant.kept;
+  state = skipped c.requires.sound c.requires.bound c.settle.invariant.state
+      (taken_now c.settle.front c.pop.new.self _ c.in-Some.entry c.in_ok-entry.ensures c.in-Some.is)
+      c.in_default-waiting.ensures;
+}

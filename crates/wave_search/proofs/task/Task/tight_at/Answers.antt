@@ -6,7 +6,12 @@ pub returns : goal.returns
 returns g c = (
   record {
     hop = hop c.args.i c.in-Some.mv c.in-Some.there c.price.result;
-    opens = record { listed = c.requires.index; leads = sym c.at.ensures ∙ c.in-Some.is; is_open = c.if-not-is_open.ensures.opens; costs = c.price.ensures };
+    opens = record {
+      listed = c.requires.index;
+      leads = sym c.at.ensures ∙ c.in-Some.is;
+      is_open = c.if-not-is_open.ensures.opens;
+      costs = c.price.ensures;
+    };
     to_is = c.if-there-to.false;
     price_is = sym c.if-before-price.false;
   },

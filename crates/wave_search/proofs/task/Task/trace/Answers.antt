@@ -1,26 +1,8 @@
-use Rattle.std.proofs.Common.{sym, refl, ◌∙◌, arith}
-use Rattle.wave_search.proofs.Tracing.{origin_in, rank_pos, trace_step, walked_walk}
+use Rattle.std.proofs.Common.{refl}
+use Rattle.wave_search.proofs.Tracing.{same_walk}
 use Rattle.wave_search.proofs.task.Task.trace.Goals as goal
 
-pub get-requires : goal.get-requires
-get-requires g c = let h = origin_in (g.M.Moves.graph c.args.self.now.m.now) c.args.self.now.starts.now c.args.table.now c.requires.roots c.loop-here.at c.loop-here.here c.loop-here.invariant.there c.in-Some.from c.in-Some.is in
-    omega (arith, h, c.requires.roots.size)
-
-pub tight_to-requires-clause-node : goal.tight_to-requires-clause-node
-tight_to-requires-clause-node g c = origin_in (g.M.Moves.graph c.args.self.now.m.now) c.args.self.now.starts.now c.args.table.now c.requires.roots c.loop-here.at c.loop-here.here c.loop-here.invariant.there c.in-Some.from c.in-Some.is
-
-pub tight_to-requires-clause-small : goal.tight_to-requires-clause-small
-tight_to-requires-clause-small g c = c.requires.small c.in-Some.from c.in-Some-get.before (sym c.get.ensures ∙ c.in-Some-get.is)
-
-pub loop-here-preserved : goal.loop-here-preserved
-loop-here-preserved g c =
-    let was = sym c.get.ensures ∙ c.in-Some-get.is in record {
-      there = was;
-      is_done = rank_pos (g.M.Moves.graph c.args.self.now.m.now) c.args.self.now.starts.now c.args.table.now c.requires.roots c.loop-here.at c.loop-here.here c.loop-here.invariant.there c.in-Some.from c.in-Some.is c.in-Some-get.before was;
-      walked = trace_step (g.M.Moves.graph c.args.self.now.m.now) c.loop-here.nodes.items c.loop-here.moves.items c.loop-here.at c.args.node c.loop-here.here.price c.args.label.price c.in-Some.from c.in-Some-get.before.price
-          c.loop-here.invariant.walked c.in-Some-tight_to.mv c.in-Some-tight_to.ensures c.push-in-Some-2.new.self.items c.push-in-Some.new.self.items c.in_ok-push-3.ensures.items c.in_ok-push-2.ensures.items;
-    }
-
 pub returns-clause-walk : goal.returns-clause-walk
-returns-clause-walk g c = walked_walk (g.M.Moves.graph c.args.self.now.m.now) c.args.self.now.starts.now c.args.self.now.goals.now c.args.table.now c.requires.roots c.loop-here.at c.loop-here.here c.loop-here.invariant.there c.in_default.is
-    c.loop-here.nodes.items c.loop-here.moves.items c.args.node c.args.label.price c.loop-here.invariant.walked c.requires.goal _ (c.from_vec.ensures ∙ c.reverse.ensures.items) (c.from_vec-2.ensures ∙ c.reverse-2.ensures.items) refl
+returns-clause-walk g c =
+    same_walk (g.M.Moves.graph c.args.self.now.m.now) c.args.self.now.starts.now c.args.self.now.goals.now _
+    c.in_ok-trace_into.ensures _ c.from_vec.ensures c.from_vec-2.ensures refl

@@ -5,6 +5,7 @@ use crate::blocks::count_blocked;
 use crate::nets::{board_of, offers_of};
 use crate::wires::fixed_copper;
 use pcb_board::{Answer, Board, Offer, boards_serve, run_offers};
+use pcb_model::{Copper, Design};
 use std::alloc::{AllocError, Global};
 use std::io;
 use std::rt::Runtime;
@@ -58,17 +59,21 @@ fn tell_snaps<R: Runtime>(rt: &R, board: &Board, plan: Plan) -> io::Result<()> {
     }
 }
 
-/// Searches on a snapshot and on the plain list of the same items, as none but those of the start are there.
-fn tell_searches<R: Runtime>(rt: &R, alloc: Global, board: &Board, plan: Plan) -> io::Result<()> {
-    board.keeps();
-    boards_serve();
-    let snap = board.snap()?;
-    let d = snap.design();
-    let plain = fixed_copper(alloc, d)?;
+/// The time of searches on a snapshot and on the plain list of the same items, or what they found.
+fn time_searches<R: Runtime, S: Copper, P: Copper>(
+    rt: &R,
+    snap: &S,
+    plain: &P,
+    d: &Design,
+    plan: Plan,
+) -> io::Result<()>
+    requires snap { S.serves snap.now d.now }
+    requires plain { P.serves plain.now d.now }
+{
     let begun = Instant::now(rt)?;
-    let on_snap = count_blocked(&snap, d, plan.searches);
+    let on_snap = count_blocked(snap, d, plan.searches);
     let middle = begun.elapsed(rt)?.as_nanos();
-    let on_plain = count_blocked(&plain, d, plan.searches);
+    let on_plain = count_blocked(plain, d, plan.searches);
     let end = begun.elapsed(rt)?.as_nanos();
     if plan.timed {
         let calls = u128::from(plan.searches.max(1));
@@ -78,6 +83,15 @@ fn tell_searches<R: Runtime>(rt: &R, alloc: Global, board: &Board, plan: Plan) -
     } else {
         println!(rt; "{on_snap} searches blocked on a snapshot, {on_plain} on a plain list")
     }
+}
+
+/// Searches on a snapshot and on the plain list of the same items, as none but those of the start are there.
+fn tell_searches<R: Runtime>(rt: &R, alloc: Global, board: &Board, plan: Plan) -> io::Result<()> {
+    board.keeps();
+    boards_serve();
+    let snap = board.snap()?;
+    let plain = fixed_copper(alloc, snap.design())?;
+    time_searches(rt, &snap, &plain, snap.design(), plan)
 }
 
 fn tell_offers<R: Runtime>(rt: &R, alloc: Global, board: &mut Board, plan: Plan) -> io::Result<()> {
@@ -93,13 +107,18 @@ fn tell_offers<R: Runtime>(rt: &R, alloc: Global, board: &mut Board, plan: Plan)
     }
 }
 
+/// All of the plan on a board.
+fn tell_all<R: Runtime>(rt: &R, alloc: Global, board: &mut Board, plan: Plan) -> io::Result<()> {
+    tell_snaps(rt, board, plan)?;
+    tell_searches(rt, alloc, board, plan)?;
+    tell_offers(rt, alloc, board, plan)
+}
+
 fn run<R: Runtime>(rt: &R, alloc: Global, plan: Plan) -> io::Result<()> {
-    let Some(mut board) = board_of(alloc, plan.nets) else {
-        return println!(rt; "no board");
-    };
-    tell_snaps(rt, &board, plan)?;
-    tell_searches(rt, alloc, &board, plan)?;
-    tell_offers(rt, alloc, &mut board, plan)
+    match board_of(alloc, plan.nets) {
+        Some(mut board) => tell_all(rt, alloc, &mut board, plan),
+        None => println!(rt; "no board"),
+    }
 }
 
 /// Ten of each on a board of twenty nets.

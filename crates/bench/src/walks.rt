@@ -119,13 +119,16 @@ fn among<T: Ties>(alloc: Global, cells: &Cells, ties: &T, pairs: u32) -> Result<
     Ok(sums)
 }
 
-/// Tells of walks among cells, of which so many in a hundred are walls.
-fn tell_turns_among<R: Runtime>(rt: &R, alloc: Global, side: u32, walls: u32) -> io::Result<()> {
-    let Some(cells) = Cells::square(alloc, side, walls)? else {
-        return Ok(());
-    };
-    let plain = among(alloc, &cells, &NoTies, 100)?;
-    let tied = among(alloc, &cells, &FewTurns, 100)?;
+/// Says what walks among cells cost and how often they turn.
+fn say_turns<R: Runtime>(
+    rt: &R,
+    alloc: Global,
+    cells: &Cells,
+    side: u32,
+    walls: u32,
+) -> io::Result<()> {
+    let plain = among(alloc, cells, &NoTies, 100)?;
+    let tied = among(alloc, cells, &FewTurns, 100)?;
     let Sums {
         walks,
         price,
@@ -137,6 +140,14 @@ fn tell_turns_among<R: Runtime>(rt: &R, alloc: Global, side: u32, walls: u32) ->
         "{side} x {side} cells, {walls} walls in a hundred: {walks} walks of price {price} turn {turns} times, \
         and by the rule, at price {tied_price}, {fewest} times"
     )
+}
+
+/// Tells of walks among cells, of which so many in a hundred are walls.
+fn tell_turns_among<R: Runtime>(rt: &R, alloc: Global, side: u32, walls: u32) -> io::Result<()> {
+    match Cells::square(alloc, side, walls)? {
+        Some(cells) => say_turns(rt, alloc, &cells, side, walls),
+        None => Ok(()),
+    }
 }
 
 fn is_found(found: &Found) -> bool {

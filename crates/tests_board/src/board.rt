@@ -10,6 +10,34 @@ use dsn_design::read_design;
 use pcb_model::{Design, Item, Metal, Probe, copy_metal, make_item};
 use std::alloc::Global;
 
+/// What a test says of a board.
+pub(crate) trait Says {
+    /// Whether it is so.
+    fn holds(&self, alloc: Global, d: &Design) -> bool
+        requires { IsSound d.now };
+}
+
+fn held_of<S: Says>(alloc: Global, d: &Design, rows: &[S]) -> u64
+    requires { IsSound d.now }
+{
+    let mut held = 0u64;
+    for row in rows {
+        if !row.holds(alloc, d) {
+            return held;
+        }
+        held = held.wrapping_add(1);
+    }
+    held
+}
+
+/// How many rows hold of the board of a text before the first that doesn't; none where the text is refused.
+pub(crate) fn held<S: Says>(alloc: Global, text: &str, rows: &[S]) -> u64 {
+    match board(alloc, text) {
+        Some(d) => held_of(alloc, &d, rows),
+        None => 0,
+    }
+}
+
 /// The design of a short text, or None where it is refused.
 pub(crate) fn board(alloc: Global, text: &str) -> Option<Design>
     ensures { IfSome result IsSound }

@@ -1,8 +1,8 @@
 //! Which of several clearances and widths counts.
 //! All lengths are in nm.
 
-use crate::board::board;
-use pcb_model::{Kind, clearance, reach_of, width_of};
+use crate::board::{Says, held};
+use pcb_model::{Design, Kind, clearance, reach_of, width_of};
 use std::alloc::Global;
 
 /// Net 0 has the structure's rules, net 1 those of its class too, and the others clearances of their own.
@@ -22,72 +22,79 @@ const RULES: &str = "(pcb rules
     (net GREATER_LAST (rule (width 150) (clearance 40 (type default_smd)) (clearance 300 (type default_smd))))
     (class plain OF_CLASS (rule (width 400) (clearance 120)))))";
 
-/// The clearance of items of two nets, or of none, and of these kinds.
-fn clearance_of(alloc: Global, a: Option<u32>, b: Option<u32>, kinds: (Kind, Kind)) -> Option<u64> {
-    let d = board(alloc, RULES)?;
-    Some(clearance(&d, a, kinds.0, b, kinds.1))
+/// The clearance in nm of items of two nets, or of none, and of these kinds.
+struct Clearance(Option<u32>, Kind, Option<u32>, Kind, u64);
+
+impl Says for Clearance {
+    fn holds(&self, _alloc: Global, d: &Design) -> bool {
+        clearance(d, self.0, self.1, self.2, self.3) == self.4
+    }
 }
 
-/// That of two items of one net.
-fn own_clearance(alloc: Global, net: u32, kinds: (Kind, Kind)) -> Option<u64> {
-    clearance_of(alloc, Some(net), Some(net), kinds)
-}
+const OF_STRUCTURE_AND_CLASS: [Clearance; 5] = [
+    Clearance(Some(0), Kind::Smd, Some(0), Kind::Smd, 50_000),
+    Clearance(Some(0), Kind::Smd, Some(0), Kind::Wire, 250_000),
+    Clearance(Some(0), Kind::Wire, Some(0), Kind::Wire, 200_100),
+    Clearance(Some(1), Kind::Smd, Some(1), Kind::Smd, 120_000),
+    Clearance(Some(1), Kind::Wire, Some(1), Kind::Wire, 120_000),
+];
 
 #[test]
 fn a_class_comes_before_the_structure(rt: HostRuntime) {
-    for (net, kinds, nm) in [
-        (0, (Kind::Smd, Kind::Smd), 50_000),
-        (0, (Kind::Smd, Kind::Wire), 250_000),
-        (0, (Kind::Wire, Kind::Wire), 200_100),
-        (1, (Kind::Smd, Kind::Smd), 120_000),
-        (1, (Kind::Wire, Kind::Wire), 120_000),
-    ] {
-        assert_eq!(rt; own_clearance(rt.alloc(), net, kinds), Some(nm));
-    }
+    assert_eq!(rt; held(rt.alloc(), RULES, &OF_STRUCTURE_AND_CLASS), 5);
 }
+
+const OF_PAIRS: [Clearance; 6] = [
+    Clearance(Some(2), Kind::Smd, Some(2), Kind::Smd, 50_000),
+    Clearance(Some(3), Kind::Smd, Some(3), Kind::Smd, 50_000),
+    Clearance(Some(3), Kind::Smd, Some(3), Kind::Area, 300_000),
+    Clearance(Some(3), Kind::Pin, Some(3), Kind::Wire, 200_100),
+    Clearance(Some(4), Kind::Via, Some(4), Kind::Smd, 70_000),
+    Clearance(Some(4), Kind::Smd, Some(4), Kind::Via, 70_000),
+];
 
 #[test]
 fn an_exact_pair_comes_before_any_kind_and_counts_in_either_order(rt: HostRuntime) {
-    for (net, kinds, nm) in [
-        (2, (Kind::Smd, Kind::Smd), 50_000),
-        (3, (Kind::Smd, Kind::Smd), 50_000),
-        (3, (Kind::Smd, Kind::Area), 300_000),
-        (3, (Kind::Pin, Kind::Wire), 200_100),
-        (4, (Kind::Via, Kind::Smd), 70_000),
-        (4, (Kind::Smd, Kind::Via), 70_000),
-    ] {
-        assert_eq!(rt; own_clearance(rt.alloc(), net, kinds), Some(nm));
-    }
+    assert_eq!(rt; held(rt.alloc(), RULES, &OF_PAIRS), 6);
 }
+
+const READ_LAST: [Clearance; 2] = [
+    Clearance(Some(5), Kind::Pin, Some(5), Kind::Smd, 40_000),
+    Clearance(Some(6), Kind::Pin, Some(6), Kind::Smd, 300_000),
+];
 
 #[test]
 fn of_like_clearances_the_last_read_counts(rt: HostRuntime) {
-    for (net, nm) in [(5, 40_000), (6, 300_000)] {
-        let kinds = (Kind::Pin, Kind::Smd);
-        assert_eq!(rt; own_clearance(rt.alloc(), net, kinds), Some(nm));
-    }
+    assert_eq!(rt; held(rt.alloc(), RULES, &READ_LAST), 2);
 }
+
+const OF_TWO_NETS: [Clearance; 3] = [
+    Clearance(Some(0), Kind::Smd, Some(1), Kind::Smd, 120_000),
+    Clearance(Some(1), Kind::Smd, Some(0), Kind::Smd, 120_000),
+    Clearance(Some(0), Kind::Smd, None, Kind::Smd, 50_000),
+];
 
 #[test]
 fn two_nets_keep_the_greater_of_their_clearances(rt: HostRuntime) {
-    for (a, b, nm) in [
-        (Some(0), Some(1), 120_000),
-        (Some(1), Some(0), 120_000),
-        (Some(0), None, 50_000),
-    ] {
-        let kinds = (Kind::Smd, Kind::Smd);
-        assert_eq!(rt; clearance_of(rt.alloc(), a, b, kinds), Some(nm));
+    assert_eq!(rt; held(rt.alloc(), RULES, &OF_TWO_NETS), 3);
+}
+
+/// The width of a net, and the reach of its board.
+struct WidthAndReach(u32, u64, u64);
+
+impl Says for WidthAndReach {
+    fn holds(&self, _alloc: Global, d: &Design) -> bool {
+        width_of(d, self.0) == self.1 && reach_of(d) == self.2
     }
 }
 
-fn width_and_reach(alloc: Global, net: u32) -> Option<(u64, u64)> {
-    let d = board(alloc, RULES)?;
-    Some((width_of(&d, net), reach_of(&d)))
-}
+const WIDTHS: [WidthAndReach; 3] = [
+    WidthAndReach(0, 200_000, 300_000),
+    WidthAndReach(1, 400_000, 300_000),
+    WidthAndReach(6, 150_000, 300_000),
+];
 
 #[test]
 fn a_net_has_its_own_width_or_its_classs_and_no_clearance_is_above_the_reach(rt: HostRuntime) {
-    for (net, nm) in [(0, 200_000), (1, 400_000), (6, 150_000)] {
-        assert_eq!(rt; width_and_reach(rt.alloc(), net), Some((nm, 300_000)));
-    }
+    assert_eq!(rt; held(rt.alloc(), RULES, &WIDTHS), 3);
 }

@@ -1,7 +1,7 @@
 //! Designs of two boards from outside, with the values that they hold.
 //! Lengths in the texts are in um, all others in nm.
 
-use crate::board::board;
+use crate::board::{Says, held};
 use geo_kernel::{Point, Spine};
 use pcb_model::{Design, Item, Kind, Metal, Piece};
 use std::alloc::Global;
@@ -66,62 +66,98 @@ const SMALL: &str = "(pcb b
     (via T 3 4 (net N) (type PROTECT)) (via V 50 50 (net N) (type route))))";
 
 /// How many notes, components, pins, fixed items and free wiring there are.
-fn counts(alloc: Global) -> Option<[u64; 5]> {
-    let d = board(alloc, KICAD)?;
-    Some([
-        d.notes,
-        d.components.len() as u64,
-        d.pins.len() as u64,
-        d.fixed.len() as u64,
-        d.free.len() as u64,
-    ])
-}
+struct Counts([u64; 5]);
 
-fn pin_of(d: &Design, at: usize) -> Option<(Option<u32>, bool, Point)> {
-    let pin = d.pins.get(at)?;
-    Some((pin.net, pin.smd, pin.centre))
+impl Says for Counts {
+    fn holds(&self, _alloc: Global, d: &Design) -> bool {
+        self.0
+            == [
+                d.notes,
+                d.components.len() as u64,
+                d.pins.len() as u64,
+                d.fixed.len() as u64,
+                d.free.len() as u64,
+            ]
+    }
 }
 
 /// The net of a pin, whether it is surface-mounted, and its centre.
-fn pin(alloc: Global, at: usize) -> Option<(Option<u32>, bool, Point)> {
-    let d = board(alloc, KICAD)?;
-    pin_of(&d, at)
+struct PinAt(usize, Option<u32>, bool, Point);
+
+impl Says for PinAt {
+    fn holds(&self, _alloc: Global, d: &Design) -> bool {
+        match d.pins.get(self.0) {
+            Some(pin) => pin.net == self.1 && pin.smd == self.2 && pin.centre == self.3,
+            None => false,
+        }
+    }
 }
 
-fn has_of(d: &Design, net: usize, pins: &[u32], vias: &[u32]) -> Option<bool> {
-    let net = d.nets.get(net)?;
-    Some(net.pins.as_slice() == pins && net.vias.as_slice() == vias)
-}
-
-/// Whether a net has these pins and these vias.
-fn has(alloc: Global, text: &str, net: usize, pins: &[u32], vias: &[u32]) -> Option<bool> {
-    let d = board(alloc, text)?;
-    has_of(&d, net, pins, vias)
-}
+const PINS: [PinAt; 4] = [
+    PinAt(
+        0,
+        Some(0),
+        false,
+        Point {
+            x: 105_000_000,
+            y: -105_000_000,
+        },
+    ),
+    PinAt(
+        3,
+        Some(2),
+        true,
+        Point {
+            x: 125_800_000,
+            y: -105_000_000,
+        },
+    ),
+    PinAt(
+        6,
+        Some(2),
+        true,
+        Point {
+            x: 140_000_000,
+            y: -114_200_000,
+        },
+    ),
+    PinAt(
+        7,
+        Some(3),
+        true,
+        Point {
+            x: 140_000_000,
+            y: -115_800_000,
+        },
+    ),
+];
 
 #[test]
 fn a_board_of_kicad(rt: HostRuntime) {
-    assert_eq!(rt; counts(rt.alloc()), Some([1, 4, 8, 10, 0]));
-    for (at, net, smd, x, y) in [
-        (0, 0, false, 105_000_000, -105_000_000),
-        (3, 2, true, 125_800_000, -105_000_000),
-        (6, 2, true, 140_000_000, -114_200_000),
-        (7, 3, true, 140_000_000, -115_800_000),
-    ] {
-        assert!(rt; pin(rt.alloc(), at) == Some((Some(net), smd, Point { x, y })));
+    assert_eq!(rt; held(rt.alloc(), KICAD, &[Counts([1, 4, 8, 10, 0])]), 1);
+    assert_eq!(rt; held(rt.alloc(), KICAD, &PINS), 4);
+}
+
+/// The pins and the vias of a net.
+struct Lists(usize, &'static [u32], &'static [u32]);
+
+impl Says for Lists {
+    fn holds(&self, _alloc: Global, d: &Design) -> bool {
+        match d.nets.get(self.0) {
+            Some(net) => net.pins.as_slice() == self.1 && net.vias.as_slice() == self.2,
+            None => false,
+        }
     }
 }
 
+const LISTS_OF_KICAD: [Lists; 2] = [Lists(0, &[0, 2], &[2]), Lists(3, &[5, 7], &[2])];
+
+const LISTS_OF_SMALL: [Lists; 2] = [Lists(0, &[0, 3], &[2, 2]), Lists(1, &[], &[])];
+
 #[test]
 fn nets_have_their_pins_and_the_vias_of_their_last_class(rt: HostRuntime) {
-    for (text, net, pins, vias) in [
-        (KICAD, 0, [0, 2].as_slice(), [2].as_slice()),
-        (KICAD, 3, &[5, 7], &[2]),
-        (SMALL, 0, &[0, 3], &[2, 2]),
-        (SMALL, 1, &[], &[]),
-    ] {
-        assert_eq!(rt; has(rt.alloc(), text, net, pins, vias), Some(true));
-    }
+    assert_eq!(rt; held(rt.alloc(), KICAD, &LISTS_OF_KICAD), 2);
+    assert_eq!(rt; held(rt.alloc(), SMALL, &LISTS_OF_SMALL), 2);
 }
 
 fn layers(pieces: &[Piece]) -> u64 {
@@ -162,54 +198,47 @@ fn bans(item: &Item) -> Option<(bool, bool)> {
     }
 }
 
-/// What a fixed item is: its kind and net, what it bans, and its pieces.
-#[derive(Clone, Copy, PartialEq, Eq)]
-struct Told {
-    kind: Kind,
-    net: Option<u32>,
-    bans: Option<(bool, bool)>,
-    pieces: (u64, u64, usize),
+/// What the fixed item at a place is: its kind and net, what it bans, and its pieces.
+struct Told(
+    usize,
+    Kind,
+    Option<u32>,
+    Option<(bool, bool)>,
+    (u64, u64, usize),
+);
+
+impl Says for Told {
+    fn holds(&self, _alloc: Global, d: &Design) -> bool {
+        match d.fixed.get(self.0) {
+            Some(item) => {
+                item.kind == self.1
+                    && item.net == self.2
+                    && bans(item) == self.3
+                    && summary(item.pieces.as_slice()) == self.4
+            }
+            None => false,
+        }
+    }
 }
 
-fn item_of(d: &Design, at: usize) -> Option<Told> {
-    let item = d.fixed.get(at)?;
-    Some(Told {
-        kind: item.kind,
-        net: item.net,
-        bans: bans(item),
-        pieces: summary(item.pieces.as_slice()),
-    })
-}
-
-fn item(alloc: Global, at: usize) -> Option<Told> {
-    let d = board(alloc, SMALL)?;
-    item_of(&d, at)
-}
+const FIXED: [Told; 12] = [
+    Told(0, Kind::Area, None, Some((true, true)), (123_123, 2_000, 4)),
+    Told(1, Kind::Area, None, Some((false, true)), (2, 4_000, 1)),
+    Told(2, Kind::Area, None, Some((true, true)), (1, 0, 4)),
+    Told(3, Kind::Area, None, Some((true, false)), (1, 0, 4)),
+    Told(4, Kind::Smd, Some(0), None, (1, 2_000, 1)),
+    Told(5, Kind::Pin, None, None, (13, 2_000, 1)),
+    Told(6, Kind::Area, None, Some((true, false)), (3, 0, 4)),
+    Told(7, Kind::Smd, None, None, (3, 2_000, 1)),
+    Told(8, Kind::Pin, Some(0), None, (31, 2_000, 1)),
+    Told(9, Kind::Via, Some(0), None, (13, 2_000, 1)),
+    Told(10, Kind::Wire, None, None, (3, 4_000, 2)),
+    Told(11, Kind::Via, Some(1), None, (13, 2_000, 1)),
+];
 
 #[test]
 fn fixed_items_in_the_order_of_their_ids(rt: HostRuntime) {
-    for (at, kind, net, bans, pieces) in [
-        (0, Kind::Area, None, Some((true, true)), (123_123, 2_000, 4)),
-        (1, Kind::Area, None, Some((false, true)), (2, 4_000, 1)),
-        (2, Kind::Area, None, Some((true, true)), (1, 0, 4)),
-        (3, Kind::Area, None, Some((true, false)), (1, 0, 4)),
-        (4, Kind::Smd, Some(0), None, (1, 2_000, 1)),
-        (5, Kind::Pin, None, None, (13, 2_000, 1)),
-        (6, Kind::Area, None, Some((true, false)), (3, 0, 4)),
-        (7, Kind::Smd, None, None, (3, 2_000, 1)),
-        (8, Kind::Pin, Some(0), None, (31, 2_000, 1)),
-        (9, Kind::Via, Some(0), None, (13, 2_000, 1)),
-        (10, Kind::Wire, None, None, (3, 4_000, 2)),
-        (11, Kind::Via, Some(1), None, (13, 2_000, 1)),
-    ] {
-        let told = Told {
-            kind,
-            net,
-            bans,
-            pieces,
-        };
-        assert!(rt; item(rt.alloc(), at) == Some(told));
-    }
+    assert_eq!(rt; held(rt.alloc(), SMALL, &FIXED), 12);
 }
 
 /// Of free wiring the layer or the padstack, the width of a wire, and the first vertex.
@@ -225,24 +254,38 @@ fn metal_of(metal: &Metal) -> Option<(u32, u64, Point)> {
     }
 }
 
-fn free_of(d: &Design, at: usize) -> Option<(u64, u32, Option<(u32, u64, Point)>)> {
-    let free = d.free.get(at)?;
-    Some((free.at, free.net, metal_of(&free.metal)))
+/// The place in the text and the net of free wiring, and what it is made of.
+struct Free(usize, u64, u32, (u32, u64, Point));
+
+impl Says for Free {
+    fn holds(&self, _alloc: Global, d: &Design) -> bool {
+        match d.free.get(self.0) {
+            Some(free) => {
+                free.at == self.1 && free.net == self.2 && metal_of(&free.metal) == Some(self.3)
+            }
+            None => false,
+        }
+    }
 }
 
-/// The place in the text and the net of free wiring, and what it is made of.
-fn free(alloc: Global, at: usize) -> Option<(u64, u32, Option<(u32, u64, Point)>)> {
-    let d = board(alloc, SMALL)?;
-    free_of(&d, at)
-}
+const FREE: [Free; 2] = [
+    Free(0, 751, 0, (0, 4_000, Point { x: 1_000, y: 1_000 })),
+    Free(
+        1,
+        883,
+        1,
+        (
+            2,
+            0,
+            Point {
+                x: 50_000,
+                y: 50_000,
+            },
+        ),
+    ),
+];
 
 #[test]
 fn free_wiring_of_a_board(rt: HostRuntime) {
-    for (at, place, net, number, width, nm) in [
-        (0, 751, 0, 0, 4_000, 1_000),
-        (1, 883, 1, 2, 0, 50_000),
-    ] {
-        let metal = Some((number, width, Point { x: nm, y: nm }));
-        assert!(rt; free(rt.alloc(), at) == Some((place, net, metal)));
-    }
+    assert_eq!(rt; held(rt.alloc(), SMALL, &FREE), 2);
 }

@@ -5,7 +5,7 @@ ghost use Rattle.std.specs.Prelude.{◌≡◌, ◌<◌};
 ghost use Rattle.pcb_model.specs.Bounds.{IsDesignFit, IsItemFit, IsProbeFit};
 ghost use Rattle.pcb_model.specs.Sound.{IsSound};
 
-use crate::board::{board, fixed, probe, routed};
+use crate::board::{Says, fixed, held, probe, routed};
 use pcb_model::{
     Design, Extent, Item, Probe, Steps, copy_item, inside_board, pair_ok, probe_inside, probe_ok,
     touch, width_ok,
@@ -114,24 +114,28 @@ fn meet_at(alloc: Global, d: &Design, free: usize, item: usize) -> Option<Meetin
     meet(alloc, d, &a, &p, b)
 }
 
-/// What free wiring of net 0 and a fixed item of a text are to each other.
-fn met(alloc: Global, text: &str, free: usize, item: usize) -> Option<Meeting> {
-    let d = board(alloc, text)?;
-    meet_at(alloc, &d, free, item)
-}
+/// Of free wiring of net 0 and a fixed item: whether they touch, and whether they agree, which is so in each way.
+struct Pair(usize, usize, bool, bool);
 
-/// Whether they touch, and whether they agree in each way.
-fn pair(alloc: Global, text: &str, free: usize, item: usize) -> Option<(bool, [bool; 3])> {
-    let met = met(alloc, text, free, item)?;
-    let agree = met.agree;
-    Some((met.touch, agree))
+impl Says for Pair {
+    fn holds(&self, alloc: Global, d: &Design) -> bool {
+        match meet_at(alloc, d, self.0, self.1) {
+            Some(met) => met.touch == self.2 && met.agree == [self.3; 3],
+            None => false,
+        }
+    }
 }
 
 /// Whether free wiring and its probe lie inside the board, and whether it lies as its net wants it.
-fn lies(alloc: Global, text: &str, free: usize) -> Option<([bool; 2], bool)> {
-    let met = met(alloc, text, free, 0)?;
-    let inside = met.inside;
-    Some((inside, met.laid))
+struct Lies(usize, bool, bool);
+
+impl Says for Lies {
+    fn holds(&self, alloc: Global, d: &Design) -> bool {
+        match meet_at(alloc, d, self.0, 0) {
+            Some(met) => met.inside == [self.1; 2] && met.laid == self.2,
+            None => false,
+        }
+    }
 }
 
 // ---- wires
@@ -157,33 +161,50 @@ const WIRES: &str = "(pcb wires
     (via V 50600.999 50000 (net VCC) (type fix))
     (wire (path B 200 50000 40000 50000 60000) (net VCC) (type fix))))";
 
+const BESIDE: [Pair; 3] = [
+    Pair(0, 1, false, true),
+    Pair(0, 2, false, false),
+    Pair(0, 3, false, true),
+];
+
 #[test]
 fn wires_keep_their_clearance_and_half_of_each_width(rt: HostRuntime) {
-    for (item, agree) in [(1, true), (2, false), (3, true)] {
-        assert_eq!(rt; pair(rt.alloc(), WIRES, 0, item), Some((false, [agree; 3])));
-    }
+    assert_eq!(rt; held(rt.alloc(), WIRES, &BESIDE), 3);
 }
+
+const ACROSS: [Pair; 3] = [
+    Pair(0, 4, true, false),
+    Pair(0, 5, false, true),
+    Pair(1, 8, true, false),
+];
 
 #[test]
 fn items_meet_on_each_layer_that_both_have(rt: HostRuntime) {
-    for (free, item, meet) in [(0, 4, true), (0, 5, false), (1, 8, true)] {
-        assert_eq!(rt;
-            pair(rt.alloc(), WIRES, free, item),
-            Some((meet, [!meet; 3]))
-        );
+    assert_eq!(rt; held(rt.alloc(), WIRES, &ACROSS), 3);
+}
+
+/// Whether free wiring, and its probe, are far from a fixed item.
+struct Far(usize, usize, bool);
+
+impl Says for Far {
+    fn holds(&self, alloc: Global, d: &Design) -> bool {
+        match meet_at(alloc, d, self.0, self.1) {
+            Some(met) => met.far == [self.2; 2],
+            None => false,
+        }
     }
 }
 
-fn extents(alloc: Global, free: usize, item: usize) -> Option<[bool; 2]> {
-    let met = met(alloc, WIRES, free, item)?;
-    Some(met.far)
-}
+const FAR: [Far; 4] = [
+    Far(1, 6, true),
+    Far(1, 7, false),
+    Far(0, 4, false),
+    Far(0, 5, true),
+];
 
 #[test]
 fn items_are_far_where_their_boxes_or_layers_are(rt: HostRuntime) {
-    for (free, item, far) in [(1, 6, true), (1, 7, false), (0, 4, false), (0, 5, true)] {
-        assert_eq!(rt; extents(rt.alloc(), free, item), Some([far; 2]));
-    }
+    assert_eq!(rt; held(rt.alloc(), WIRES, &FAR), 4);
 }
 
 // ---- vias at pads
@@ -218,15 +239,12 @@ const OPEN_PAD: &str = "(pcb pad
   (network (net GND (pins C1-1)))
   (wiring (via V 5000 5000 (net GND))))";
 
+const AT_PAD: [Pair; 2] = [Pair(0, 1, true, false), Pair(1, 1, false, true)];
+
 #[test]
 fn a_via_stays_off_an_smd_pad_of_its_net_unless_it_is_allowed(rt: HostRuntime) {
-    for (text, free, touch, agree) in [
-        (PAD, 0, true, false),
-        (PAD, 1, false, true),
-        (OPEN_PAD, 0, true, true),
-    ] {
-        assert_eq!(rt; pair(rt.alloc(), text, free, 1), Some((touch, [agree; 3])));
-    }
+    assert_eq!(rt; held(rt.alloc(), PAD, &AT_PAD), 2);
+    assert_eq!(rt; held(rt.alloc(), OPEN_PAD, &[Pair(0, 1, true, true)]), 1);
 }
 
 // ---- widths, layers and padstacks
@@ -250,18 +268,18 @@ const LAID: &str = "(pcb laid
     (via V 7 -5 (net GND))
     (via W 7 -5 (net GND))))";
 
+const LYING: [Lies; 6] = [
+    Lies(0, true, true),
+    Lies(1, true, true),
+    Lies(2, true, false),
+    Lies(3, true, false),
+    Lies(4, true, true),
+    Lies(5, true, false),
+];
+
 #[test]
 fn wires_lie_wide_enough_on_signal_layers_and_vias_are_of_a_listed_padstack(rt: HostRuntime) {
-    for (free, laid) in [
-        (0, true),
-        (1, true),
-        (2, false),
-        (3, false),
-        (4, true),
-        (5, false),
-    ] {
-        assert_eq!(rt; lies(rt.alloc(), LAID, free), Some(([true; 2], laid)));
-    }
+    assert_eq!(rt; held(rt.alloc(), LAID, &LYING), 6);
 }
 
 // ---- the board's edge
@@ -280,17 +298,24 @@ const EDGE: &str = "(pcb edge
     (wire (path F 200 -299.9 1000 -299.9 2000) (net GND))
     (wire (path F 200 -300 1000 -300 2000) (net GND))))";
 
+const INSIDE: [Lies; 4] = [
+    Lies(0, true, true),
+    Lies(1, true, true),
+    Lies(2, false, true),
+    Lies(3, false, true),
+];
+
+const FROM_EDGE: [Pair; 4] = [
+    Pair(0, 0, false, true),
+    Pair(1, 0, false, false),
+    Pair(2, 0, false, false),
+    Pair(3, 0, false, true),
+];
+
 #[test]
 fn routed_copper_is_inside_and_keeps_from_the_edge(rt: HostRuntime) {
-    for (free, inside, agree) in [
-        (0, true, true),
-        (1, true, false),
-        (2, false, false),
-        (3, false, true),
-    ] {
-        assert_eq!(rt; lies(rt.alloc(), EDGE, free), Some(([inside; 2], true)));
-        assert_eq!(rt; pair(rt.alloc(), EDGE, free, 0), Some((false, [agree; 3])));
-    }
+    assert_eq!(rt; held(rt.alloc(), EDGE, &INSIDE), 4);
+    assert_eq!(rt; held(rt.alloc(), EDGE, &FROM_EDGE), 4);
 }
 
 // ---- keepouts
@@ -312,20 +337,17 @@ const KEEPOUTS: &str = "(pcb keepouts
     (via V 22000 22000 (net GND))
     (via V 30500 25000 (net GND))))";
 
+const BANNED: [Pair; 7] = [
+    Pair(0, 1, true, false),
+    Pair(1, 1, true, false),
+    Pair(2, 1, false, true),
+    Pair(0, 2, true, false),
+    Pair(1, 2, true, true),
+    Pair(0, 3, true, true),
+    Pair(1, 3, true, false),
+];
+
 #[test]
 fn a_keepout_bans_what_it_names_and_leaves_what_is_beside_it(rt: HostRuntime) {
-    for (item, free, touch, agree) in [
-        (1, 0, true, false),
-        (1, 1, true, false),
-        (1, 2, false, true),
-        (2, 0, true, false),
-        (2, 1, true, true),
-        (3, 0, true, true),
-        (3, 1, true, false),
-    ] {
-        assert_eq!(rt;
-            pair(rt.alloc(), KEEPOUTS, free, item),
-            Some((touch, [agree; 3]))
-        );
-    }
+    assert_eq!(rt; held(rt.alloc(), KEEPOUTS, &BANNED), 7);
 }

@@ -5,7 +5,7 @@ ghost use Rattle.std.specs.Prelude.{◌≡◌, ◌<◌, ◌++◌, ◌∷◌, [],
 ghost use Rattle.pcb_model.specs.Bounds.{IsItemFit, IsProbeFit};
 ghost use Rattle.pcb_model.specs.Sound.{IsSound, Serves};
 
-use crate::board::{board, fixed, probe};
+use crate::board::{Says, fixed, held, probe};
 use pcb_model::{Copper, Design, Item, PlainCopper, Probe, Steps, copy_item};
 use std::alloc::{AllocError, Global};
 use std::marker::Brand;
@@ -93,25 +93,28 @@ fn search_at(alloc: Global, d: &Design, item: usize, from: u64) -> Option<[Optio
 }
 
 /// What a search from an id answers for a fixed item, and for the free wire.
-fn found(alloc: Global, item: usize, from: u64) -> Option<[Option<u64>; 3]> {
-    let d = board(alloc, WIRES)?;
-    search_at(alloc, &d, item, from)
+struct Finds(usize, u64, [Option<u64>; 3]);
+
+impl Says for Finds {
+    fn holds(&self, alloc: Global, d: &Design) -> bool {
+        search_at(alloc, d, self.0, self.1) == Some(self.2)
+    }
 }
+
+const FOUND: [Finds; 8] = [
+    Finds(1, 0, [Some(3), Some(3), Some(4)]),
+    Finds(1, 3, [Some(3), Some(3), Some(4)]),
+    Finds(1, 4, [Some(5), Some(5), Some(4)]),
+    Finds(1, 6, [None, None, None]),
+    Finds(3, 2, [Some(4), Some(3), None]),
+    Finds(4, 0, [Some(3), Some(3), Some(1)]),
+    Finds(5, 4, [Some(4), Some(5), None]),
+    Finds(5, 5, [None, Some(5), None]),
+];
 
 #[test]
 fn a_search_answers_the_least_id_or_none(rt: HostRuntime) {
-    for (item, from, answers) in [
-        (1, 0, [Some(3), Some(3), Some(4)]),
-        (1, 3, [Some(3), Some(3), Some(4)]),
-        (1, 4, [Some(5), Some(5), Some(4)]),
-        (1, 6, [None, None, None]),
-        (3, 2, [Some(4), Some(3), None]),
-        (4, 0, [Some(3), Some(3), Some(1)]),
-        (5, 4, [Some(4), Some(5), None]),
-        (5, 5, [None, Some(5), None]),
-    ] {
-        assert_eq!(rt; found(rt.alloc(), item, from), Some(answers));
-    }
+    assert_eq!(rt; held(rt.alloc(), WIRES, &FOUND), 8);
 }
 
 /// Whether an item of this id is found.
@@ -143,13 +146,22 @@ fn take_twice(alloc: Global, d: &Design, id: u64) -> Option<([bool; 4], usize)>
 }
 
 /// Whether the item is found, taken out, found again and taken out again, and how many items are left.
-fn taken_twice(alloc: Global, id: u64) -> Option<([bool; 4], usize)> {
-    let d = board(alloc, WIRES)?;
-    take_twice(alloc, &d, id)
+struct TakenTwice(u64, [bool; 4], usize);
+
+impl Says for TakenTwice {
+    fn holds(&self, alloc: Global, d: &Design) -> bool {
+        take_twice(alloc, d, self.0) == Some((self.1, self.2))
+    }
 }
 
 #[test]
 fn an_item_is_found_until_it_is_taken_out(rt: HostRuntime) {
-    let answers = ([true, true, false, false], 5);
-    assert_eq!(rt; taken_twice(rt.alloc(), 2), Some(answers));
+    assert_eq!(rt;
+        held(
+            rt.alloc(),
+            WIRES,
+            &[TakenTwice(2, [true, true, false, false], 5)]
+        ),
+        1
+    );
 }

@@ -3,7 +3,7 @@
 
 ghost use Rattle.pcb_model.specs.Sound.{IsSound};
 
-use crate::board::{board, routed};
+use crate::board::{Says, board, held, routed};
 use pcb_model::{Design, Item, SesScale};
 use ses_writer::items_session;
 use std::alloc::Global;
@@ -34,17 +34,14 @@ fn has_session(
     is_text(alloc, d, other.fixed.as_slice(), omit_fixed, want)
 }
 
-/// Whether the session of one board with the fixed items of another is this text, and the nm of its unit.
-fn session(
-    alloc: Global,
-    text: &str,
-    other: &str,
-    omit_fixed: bool,
-    want: &str,
-) -> Option<(bool, u64)> {
-    let d = board(alloc, text)?;
-    let is = has_session(alloc, &d, other, omit_fixed, want)?;
-    Some((is, SesScale::pick(&d).nm))
+/// The session of a board with the fixed items of another, whether fixed wiring is left out, and the nm of its unit.
+struct Session(&'static str, bool, &'static str, u64);
+
+impl Says for Session {
+    fn holds(&self, alloc: Global, d: &Design) -> bool {
+        SesScale::pick(d).nm == self.3
+            && has_session(alloc, d, self.0, self.1, self.2) == Some(true)
+    }
 }
 
 fn has_routed_session(alloc: Global, d: &Design, want: &str) -> Option<bool>
@@ -54,10 +51,13 @@ fn has_routed_session(alloc: Global, d: &Design, want: &str) -> Option<bool>
     is_text(alloc, d, std::slice::from_ref(&item), true, want)
 }
 
-/// Whether the session of a board with its first free wiring, and without fixed items, is this text.
-fn routed_session(alloc: Global, text: &str, want: &str) -> Option<bool> {
-    let d = board(alloc, text)?;
-    has_routed_session(alloc, &d, want)
+/// The session of a board with its first free wiring, and without fixed items.
+struct RoutedSession(&'static str);
+
+impl Says for RoutedSession {
+    fn holds(&self, alloc: Global, d: &Design) -> bool {
+        has_routed_session(alloc, d, self.0) == Some(true)
+    }
 }
 
 // ---- two pads and a wire
@@ -116,10 +116,18 @@ const SESSION_OF_TWO_PADS: &str = "(session T
 
 #[test]
 fn a_session_has_the_wire_of_a_net(rt: HostRuntime) {
-    let fixed = session(rt.alloc(), TWO_PADS, TWO_PADS, false, SESSION_OF_TWO_PADS);
-    assert_eq!(rt; fixed, Some((true, 100)));
-    let routed = routed_session(rt.alloc(), TWO_PADS, SESSION_OF_TWO_PADS);
-    assert_eq!(rt; routed, Some(true));
+    assert_eq!(rt;
+        held(
+            rt.alloc(),
+            TWO_PADS,
+            &[Session(TWO_PADS, false, SESSION_OF_TWO_PADS, 100)]
+        ),
+        1
+    );
+    assert_eq!(rt;
+        held(rt.alloc(), TWO_PADS, &[RoutedSession(SESSION_OF_TWO_PADS)]),
+        1
+    );
 }
 
 // ---- a wire off the resolution
@@ -161,8 +169,14 @@ const FINE_SESSION: &str = "(session T
 
 #[test]
 fn a_wire_that_is_not_whole_in_the_resolution_makes_the_session_finer(rt: HostRuntime) {
-    let finer = session(rt.alloc(), FINE_WIRE, FINE_WIRE, false, FINE_SESSION);
-    assert_eq!(rt; finer, Some((true, 1)));
+    assert_eq!(rt;
+        held(
+            rt.alloc(),
+            FINE_WIRE,
+            &[Session(FINE_WIRE, false, FINE_SESSION, 1)]
+        ),
+        1
+    );
 }
 
 const ROUNDED_SESSION: &str = "(session T
@@ -195,8 +209,14 @@ const ROUNDED_SESSION: &str = "(session T
 
 #[test]
 fn what_is_not_whole_in_a_kept_resolution_is_rounded_half_upwards(rt: HostRuntime) {
-    let rounded = session(rt.alloc(), TWO_PADS, FINE_WIRE, false, ROUNDED_SESSION);
-    assert_eq!(rt; rounded, Some((true, 100)));
+    assert_eq!(rt;
+        held(
+            rt.alloc(),
+            TWO_PADS,
+            &[Session(FINE_WIRE, false, ROUNDED_SESSION, 100)]
+        ),
+        1
+    );
 }
 
 // ---- all parts of a session
@@ -298,12 +318,12 @@ const SESSION_WITHOUT_WIRING: &str = "(session \"K board.dsn\"
 )
 ";
 
+const SESSIONS_OF_ALL: [Session; 2] = [
+    Session(ALL, false, SESSION_OF_ALL, 100),
+    Session(ALL, true, SESSION_WITHOUT_WIRING, 100),
+];
+
 #[test]
 fn a_session_has_all_parts_and_leaves_fixed_wiring_out_where_asked(rt: HostRuntime) {
-    for (omit_fixed, want) in [(false, SESSION_OF_ALL), (true, SESSION_WITHOUT_WIRING)] {
-        assert_eq!(rt;
-            session(rt.alloc(), ALL, ALL, omit_fixed, want),
-            Some((true, 100))
-        );
-    }
+    assert_eq!(rt; held(rt.alloc(), ALL, &SESSIONS_OF_ALL), 2);
 }

@@ -130,6 +130,47 @@ fn shared(d: &Design, tiles: &Tiles) -> Option<Tiles>
     }
 }
 
+/// Whether the tiles answer as a plain list does after each phase, where only the last is still to come.
+fn answers_back(
+    alloc: Global,
+    d: &Design,
+    laid: &Tiles,
+    taken: &Tiles,
+    tiles: &mut Tiles,
+) -> Option<[bool; 3]>
+    requires sound { IsSound d.now }
+    requires laid { ServesSpread laid.now d.now }
+    requires taken { ServesSpread taken.now d.now }
+    requires tiles { ServesSpread tiles.old d.now }
+{
+    put_sixths_back(alloc, d, tiles)?;
+    Some([
+        is_as_plain(alloc, d, laid, Phase::Laid),
+        is_as_plain(alloc, d, taken, Phase::TakenOut),
+        is_as_plain(alloc, d, tiles, Phase::PutBack),
+    ])
+}
+
+/// The same, where each third item is still to be taken out of the tiles, too.
+fn answers_taken(alloc: Global, d: &Design, laid: &Tiles, tiles: &mut Tiles) -> Option<[bool; 3]>
+    requires sound { IsSound d.now }
+    requires laid { ServesSpread laid.now d.now }
+    requires tiles { ServesSpread tiles.old d.now }
+{
+    take_thirds(d, tiles)?;
+    let taken = shared(d, tiles)?;
+    answers_back(alloc, d, laid, &taken, tiles)
+}
+
+/// The same, of tiles in which all free wiring is laid.
+fn answers_laid(alloc: Global, d: &Design, laid: &Tiles) -> Option<[bool; 3]>
+    requires sound { IsSound d.now }
+    requires laid { ServesSpread laid.now d.now }
+{
+    let mut tiles = shared(d, laid)?;
+    answers_taken(alloc, d, laid, &mut tiles)
+}
+
 /// Whether the tiles answer as a plain list does after each phase. Those of the first two phases are asked at the
 /// end,
 /// when shares of them were changed.
@@ -137,15 +178,7 @@ fn answers(alloc: Global, d: &Design) -> Option<[bool; 3]>
     requires { IsSound d.now }
 {
     let laid = laid_tiles(alloc, d)?;
-    let mut tiles = shared(d, &laid)?;
-    take_thirds(d, &mut tiles)?;
-    let taken = shared(d, &tiles)?;
-    put_sixths_back(alloc, d, &mut tiles)?;
-    Some([
-        is_as_plain(alloc, d, &laid, Phase::Laid),
-        is_as_plain(alloc, d, &taken, Phase::TakenOut),
-        is_as_plain(alloc, d, &tiles, Phase::PutBack),
-    ])
+    answers_laid(alloc, d, &laid)
 }
 
 fn answers_of(alloc: Global, seed: u64, count: u32) -> Option<[bool; 3]> {

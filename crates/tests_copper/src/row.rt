@@ -3,6 +3,7 @@
 
 ghost use Rattle.std.specs.Prelude.{◌≡◌, ◌<◌, [], ◌∷◌};
 ghost use Rattle.pcb_model.specs.Bounds.{IsItemFit};
+ghost use Rattle.pcb_model.specs.Sound.{IsSound};
 ghost use Rattle.pcb_tiles.specs.Spread.{ServesSpread};
 ghost use Rattle.pcb_tiles.specs.Tiling.{own_block, asked_block, entries_in};
 ghost use Rattle.tests_copper.specs.Row.{row_area, row_items, wire_of_a, wire_of_b, edge, pad, at};
@@ -73,12 +74,26 @@ fn clash(tiles: &Tiles, d: &Design, a: &Item) -> Option<u64>
 }
 
 /// The number of fixed items, and what the wire of B clashes with once the wire of A has the next id.
+fn row_in(alloc: Global, d: &Design, tiles: &mut Tiles) -> Option<(usize, Option<u64>)>
+    requires sound { IsSound d.now }
+    requires serves { ServesSpread tiles.old d.now }
+{
+    lay(alloc, d, tiles, 0, 5)?;
+    let a = routed(alloc, d, 1, 6)?;
+    Some((d.fixed.len(), clash(tiles, d, &a)))
+}
+
+/// The same, on tiles of the board's fixed items.
+fn row_on(alloc: Global, d: &Design) -> Option<(usize, Option<u64>)>
+    requires { IsSound d.now }
+{
+    let mut tiles = fixed_tiles(alloc, d, AREA).ok()?;
+    row_in(alloc, d, &mut tiles)
+}
+
 fn row(alloc: Global) -> Option<(usize, Option<u64>)> {
     let d = board(alloc, ROW)?;
-    let mut tiles = fixed_tiles(alloc, &d, AREA).ok()?;
-    lay(alloc, &d, &mut tiles, 0, 5)?;
-    let a = routed(alloc, &d, 1, 6)?;
-    Some((d.fixed.len(), clash(&tiles, &d, &a)))
+    row_on(alloc, &d)
 }
 
 #[test]

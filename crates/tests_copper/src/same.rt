@@ -86,8 +86,8 @@ fn same_at<L: Ledger>(
     requires plain { Serves plain.now d.now }
     requires tiles { ServesSpread tiles.now d.now }
 {
-    let a = routed(alloc, d, at, ASKED)?;
     let p = probe(d, at)?;
+    let a = routed(alloc, d, at, ASKED)?;
     let item = same_of_item(plain, tiles, d, &a, from, steps);
     Some(item && same_of_probe(plain, tiles, d, &p, from, steps))
 }

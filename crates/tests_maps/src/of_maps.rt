@@ -213,22 +213,42 @@ fn seen_in_turn(
     Some([made, followed, back])
 }
 
-fn seen_with(alloc: Global, d: &Design) -> Option<[[Seen; 2]; 3]>
+/// What is seen from the copper with the first item on.
+fn seen_from(alloc: Global, lat: &Lattice, d: &Design, first: &Routed) -> Option<[[Seen; 2]; 3]>
     requires sound { IsSound d.now }
+    requires fits { FitsDesign d.now lat.now }
+    requires two { 2 ≤ length d.now.nets }
+    requires first { IsLaidOn d.now first.now.item first.now.copper }
+{
+    let second = laid(alloc, d, 1)?;
+    seen_in_turn(alloc, lat, d, first, &second)
+}
+
+/// What is seen over a lattice of the board.
+fn seen_over(alloc: Global, lat: &Lattice, d: &Design) -> Option<[[Seen; 2]; 3]>
+    requires sound { IsSound d.now }
+    requires fits { FitsDesign d.now lat.now }
     requires two { 2 ≤ length d.now.nets }
 {
-    let lat = lattice_of(alloc, d)?;
     let first = laid(alloc, d, 0)?;
-    let second = laid(alloc, d, 1)?;
-    seen_in_turn(alloc, &lat, d, &first, &second)
+    seen_from(alloc, lat, d, &first)
+}
+
+/// What is seen on a board, or None where it has other than two nets.
+fn seen_with(alloc: Global, d: &Design) -> Option<[[Seen; 2]; 3]>
+    requires { IsSound d.now }
+{
+    if d.nets.len() != 2 {
+        return None;
+    }
+    let lat = lattice_of(alloc, d)?;
+    seen_over(alloc, &lat, d)
 }
 
 /// What is seen on a board of two nets, whose free wiring is laid in turn.
 fn seen(alloc: Global, text: &str) -> Option<[[Seen; 2]; 3]> {
-    match board(alloc, text) {
-        Some(d) if d.nets.len() == 2 => seen_with(alloc, &d),
-        _ => None,
-    }
+    let d = board(alloc, text)?;
+    seen_with(alloc, &d)
 }
 
 // Each layer has 81 nodes, and each node 4 numbers of steps and 2 of vias: 576 steps and 162 vias are there. The wall

@@ -72,25 +72,65 @@ fn passed_on(
     Some([first, second])
 }
 
-fn passed_with(alloc: Global, d: &Design) -> Option<[[Seen; 2]; 2]>
+/// What is seen of the two nets past an item of the free wiring.
+fn passed_by(
+    alloc: Global,
+    fixed: &MoveMaps,
+    lat: &Lattice,
+    d: &Design,
+    at: usize,
+) -> Option<[Seen; 2]>
     requires sound { IsSound d.now }
+    requires fits { FitsDesign d.now lat.now }
+    requires two { 2 ≤ length d.now.nets }
+    requires fixed { AreMapsOf d.now lat.now d.now.fixed fixed.now }
+{
+    let laid = laid(alloc, d, at)?;
+    passed_on(alloc, fixed, lat, d, &laid.copper)
+}
+
+/// What is seen past each of the two items.
+fn passed_in_turn(
+    alloc: Global,
+    fixed: &MoveMaps,
+    lat: &Lattice,
+    d: &Design,
+) -> Option<[[Seen; 2]; 2]>
+    requires sound { IsSound d.now }
+    requires fits { FitsDesign d.now lat.now }
+    requires two { 2 ≤ length d.now.nets }
+    requires fixed { AreMapsOf d.now lat.now d.now.fixed fixed.now }
+{
+    let before = passed_by(alloc, fixed, lat, d, 0)?;
+    let after = passed_by(alloc, fixed, lat, d, 1)?;
+    Some([before, after])
+}
+
+/// What is seen over a lattice of the board.
+fn passed_over(alloc: Global, lat: &Lattice, d: &Design) -> Option<[[Seen; 2]; 2]>
+    requires sound { IsSound d.now }
+    requires fits { FitsDesign d.now lat.now }
     requires two { 2 ≤ length d.now.nets }
 {
+    let fixed = fixed_of(alloc, lat, d)?;
+    passed_in_turn(alloc, &fixed, lat, d)
+}
+
+/// What is seen on a board, or None where it has other than two nets.
+fn passed_with(alloc: Global, d: &Design) -> Option<[[Seen; 2]; 2]>
+    requires { IsSound d.now }
+{
+    if d.nets.len() != 2 {
+        return None;
+    }
     let lat = lattice_of(alloc, d)?;
-    let fixed = fixed_of(alloc, &lat, d)?;
-    let first = laid(alloc, d, 0)?;
-    let second = laid(alloc, d, 1)?;
-    let before = passed_on(alloc, &fixed, &lat, d, &first.copper)?;
-    let after = passed_on(alloc, &fixed, &lat, d, &second.copper)?;
-    Some([before, after])
+    passed_over(alloc, &lat, d)
 }
 
 /// What is seen on a board of two nets, with each of two items of its free wiring.
 fn passed(alloc: Global, text: &str) -> Option<[[Seen; 2]; 2]> {
-    match board(alloc, text) {
-        Some(d) if d.nets.len() == 2 => passed_with(alloc, &d),
-        _ => None,
-    }
+    let d = board(alloc, text)?;
+    passed_with(alloc, &d)
 }
 
 // Of the 738 moves the wall shuts 122, and for the second net each pad 18. The map of the fixed items opens by itself,

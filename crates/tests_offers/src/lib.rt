@@ -1,4 +1,5 @@
-//! The tests of boards and of the offers to them: what is answered, and what stands afterwards.
+//! The tests of boards and of the offers to them: what is answered, what stands afterwards, and what passes of a turn
+//! see of one another's offers.
 //! They stand over public calls in a crate of their own, so that the crates below are proved without them.
 #![tactic(auto)]
 
@@ -10,3 +11,7 @@ mod board;
 mod changes;
 #[cfg(test)]
 mod refusals;
+#[cfg(test)]
+mod turn_board;
+#[cfg(test)]
+mod turns;

@@ -90,6 +90,50 @@ fn passing_price(
     price_between(alloc, &moves, from, to)
 }
 
+/// What a least walk of the second net costs on a lattice.
+fn cost_on(
+    alloc: Global,
+    lat: &Lattice,
+    snap: &Snap,
+    from: (u16, u16),
+    to: (u16, u16),
+    penalty: Option<u64>,
+) -> Option<u64>
+    requires can { CanMove snap.now.design lat.now 1 2000000 }
+    requires serves { Serves snap.now.items snap.now.design }
+    requires penalty { IfSome penalty (λ p. p ≤ 2 ^ 30) }
+{
+    let d = snap.design();
+    let start = node_at(lat, from.0, from.1)?;
+    let goal = node_at(lat, to.0, to.1)?;
+    match penalty {
+        None => legal_price(alloc, lat, d, snap, start, goal),
+        Some(penalty) => passing_price(alloc, lat, d, snap, penalty, start, goal),
+    }
+}
+
+/// What a least walk of the second net costs on a snapshot.
+fn cost_over(
+    alloc: Global,
+    snap: &Snap,
+    from: (u16, u16),
+    to: (u16, u16),
+    penalty: Option<u64>,
+) -> Option<u64>
+    requires sound { IsSound snap.now.design }
+    requires serves { Serves snap.now.items snap.now.design }
+    requires penalty { IfSome penalty (λ p. p ≤ 2 ^ 30) }
+{
+    let d = snap.design();
+    if d.nets.len() < 2 {
+        return None;
+    }
+    match Lattice::of(alloc, d, Some(1_000_000)) {
+        Ok(lat) => cost_on(alloc, &lat, snap, from, to, penalty),
+        Err(_) => None,
+    }
+}
+
 /// What a least walk of the second net of a board costs: by legal moves, or past routed items at a penalty.
 fn cost(
     alloc: Global,
@@ -102,21 +146,9 @@ fn cost(
 {
     board.keeps();
     boards_serve();
-    let Ok(snap) = board.snap() else {
-        return None;
-    };
-    let d = snap.design();
-    if d.nets.len() < 2 {
-        return None;
-    }
-    let Ok(lat) = Lattice::of(alloc, d, Some(1_000_000)) else {
-        return None;
-    };
-    let start = node_at(&lat, from.0, from.1)?;
-    let goal = node_at(&lat, to.0, to.1)?;
-    match penalty {
-        None => legal_price(alloc, &lat, d, &snap, start, goal),
-        Some(penalty) => passing_price(alloc, &lat, d, &snap, penalty, start, goal),
+    match board.snap() {
+        Ok(snap) => cost_over(alloc, &snap, from, to, penalty),
+        Err(_) => None,
     }
 }
 
@@ -176,19 +208,26 @@ fn shoved_on(alloc: Global, lat: &Lattice, snap: &Snap, id: u64, up: bool) -> Op
     }
 }
 
+/// The chain of the free wire between the walls with its middle run on the next line, on a snapshot.
+fn shoved_over(alloc: Global, snap: &Snap, up: bool) -> Option<List<Point>>
+    requires sound { IsSound snap.now.design }
+    requires serves { Serves snap.now.items snap.now.design }
+{
+    match Lattice::of(alloc, snap.design(), Some(1_000_000)) {
+        Ok(lat) => shoved_on(alloc, &lat, snap, 7, up),
+        Err(_) => None,
+    }
+}
+
 /// The chain of the free wire between the walls with its middle run on the next line.
 fn shoved(alloc: Global, up: bool) -> Option<List<Point>> {
     let board = start(alloc, WALLS)?;
     board.keeps();
     boards_serve();
-    let Ok(snap) = board.snap() else {
-        return None;
-    };
-    let d = snap.design();
-    let Ok(lat) = Lattice::of(alloc, d, Some(1_000_000)) else {
-        return None;
-    };
-    shoved_on(alloc, &lat, &snap, 7, up)
+    match board.snap() {
+        Ok(snap) => shoved_over(alloc, &snap, up),
+        Err(_) => None,
+    }
 }
 
 /// Whether the run goes up.

@@ -76,11 +76,15 @@ fn placing_with(alloc: Global, structure: &Structure, library: &Library) -> Opti
     read_placement(alloc, &tree, UM, structure, library).ok()
 }
 
+fn placing_on(alloc: Global, structure: &Structure) -> Option<Placing> {
+    let library = library_with(alloc, structure)?;
+    placing_with(alloc, structure, &library)
+}
+
 /// The placement of the board.
 pub(crate) fn placing(alloc: Global) -> Option<Placing> {
     let structure = structure(alloc)?;
-    let library = library_with(alloc, &structure)?;
-    placing_with(alloc, &structure, &library)
+    placing_on(alloc, &structure)
 }
 
 fn network_with(alloc: Global, library: &Library, placing: &Placing) -> Option<Network> {
@@ -107,8 +111,8 @@ fn wiring_with(
 }
 
 fn wiring_of(alloc: Global, library: &Library, network: &Network) -> Option<Wiring> {
-    let structure = structure(alloc)?;
     let placing = placing(alloc)?;
+    let structure = structure(alloc)?;
     wiring_with(alloc, &structure, library, &placing, network)
 }
 

@@ -20,14 +20,15 @@ fn is_name(name: &Option<Name>, wanted: &str) -> bool {
 }
 
 fn is_of_kicad(head: &Head) -> bool {
-    head.name.as_slice() == b"K board.dsn".as_slice() && is_name(&head.host_cad, "KiCad's Pcbnew")
+    head.name.as_slice() == b"K board.dsn".as_slice()
+        && is_name(&head.host_cad, "KiCad's Pcbnew")
+        && head.host_version.is_none()
 }
 
 #[test]
 fn a_head_has_its_name_and_its_hosts(rt: HostRuntime) {
     let head = head(rt.alloc(), KICAD).expect(&rt, "a head");
     assert!(rt; is_of_kicad(&head));
-    assert!(rt; head.host_version.is_none());
 }
 
 /// The unit and the count of a resolution, how many nm the unit of the numbers has, and what was passed over.
@@ -38,7 +39,7 @@ fn measures(alloc: Global, text: &str) -> Option<(Unit, u64, u64, u64)> {
 
 #[test]
 fn numbers_are_in_the_first_unit_or_else_in_that_of_the_resolution(rt: HostRuntime) {
-    for (text, unit, per, nm, notes) in [
+    for &(text, unit, per, nm, notes) in &[
         (KICAD, Unit::Um, 10, 1_000_000, 2),
         ("(PCB b (Resolution MIL 1e1))", Unit::Mil, 10, 25_400, 0),
     ] {

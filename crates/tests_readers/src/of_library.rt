@@ -12,15 +12,19 @@ fn is_stack(library: &Library, i: usize, name: &str, shapes: usize) -> bool {
     }
 }
 
+fn holds_all(library: &Library) -> bool {
+    is_stack(library, 0, "V", 0)
+        && is_stack(library, 1, "W", 0)
+        && is_stack(library, 2, "P", 1)
+        && (library.stacks.len(), library.images.len()) == (3, 2)
+        // Each (z): in an image, a library, a shape and a padstack.
+        && library.notes == 4
+}
+
 #[test]
 fn a_library_holds_the_padstacks_and_images_of_all_its_sections(rt: HostRuntime) {
     let library = library(rt.alloc()).expect(&rt, "a library");
-    for (i, name, shapes) in [(0, "V", 0), (1, "W", 0), (2, "P", 1)] {
-        assert!(rt; is_stack(&library, i, name, shapes), "padstack {i}");
-    }
-    // Notes are each (z): in an image, a library, a shape and a padstack.
-    let counts = [library.stacks.len(), library.images.len()];
-    assert_eq!(rt; (counts, library.notes), ([3, 2], 4));
+    assert!(rt; holds_all(&library));
 }
 
 /// Whether pin `i` of an image has this name, padstack, angle in microdegrees and place.
@@ -34,39 +38,36 @@ fn is_pin(image: &Image, i: usize, name: &str, angle: u32, at: Point) -> bool {
     }
 }
 
-fn has_pin(library: &Library, image: usize, i: usize, name: &str, angle: u32, at: Point) -> bool {
-    match library.images.get(image) {
-        Some(image) => is_pin(image, i, name, angle, at),
-        None => false,
+fn has_pins(images: &[Image]) -> bool {
+    match images {
+        [one, two] => {
+            is_pin(one, 0, "1", 90_000_000, Point { x: -800_000, y: 0 })
+                && is_pin(one, 1, "2", 0, Point { x: 800_000, y: 500 })
+                && is_pin(two, 0, "1-2", 0, Point { x: 0, y: 0 })
+        }
+        _ => false,
     }
 }
 
 #[test]
 fn pins_of_images_have_their_names_padstacks_angles_and_places(rt: HostRuntime) {
     let library = library(rt.alloc()).expect(&rt, "a library");
-    for (image, i, name, angle, x, y) in [
-        (0, 0, "1", 90_000_000, -800_000, 0),
-        (0, 1, "2", 0, 800_000, 500),
-        (1, 0, "1-2", 0, 0, 0),
-    ] {
-        assert!(rt;
-            has_pin(&library, image, i, name, angle, Point { x, y }),
-            "{name}"
-        );
-    }
+    assert!(rt; has_pins(library.images.as_slice()));
 }
 
-/// What the keepouts of an image ban, wires and vias, where there is one.
-fn banned(library: &Library, image: usize) -> Option<(bool, bool)> {
-    match library.images.get(image)?.bans.as_slice() {
-        [ban] => Some((ban.wires, ban.vias)),
-        _ => None,
+/// Whether the first of two images has one keepout, of vias alone, and the second not one.
+fn has_bans(images: &[Image]) -> bool {
+    match images {
+        [one, two] => match one.bans.as_slice() {
+            [ban] => !ban.wires && ban.vias && two.bans.len() != 1,
+            _ => false,
+        },
+        _ => false,
     }
 }
 
 #[test]
 fn an_image_has_its_keepouts(rt: HostRuntime) {
     let library = library(rt.alloc()).expect(&rt, "a library");
-    assert_eq!(rt; banned(&library, 0), Some((false, true)));
-    assert_eq!(rt; banned(&library, 1), None);
+    assert!(rt; has_bans(library.images.as_slice()));
 }

@@ -3,7 +3,7 @@
 
 use crate::board::{library, network, placing};
 use dsn_network::split_pin;
-use dsn_shapes::{Library, Network, PinRef, Placing, ReadClass, Split};
+use dsn_shapes::{Library, Network, PinRef, Placing, ReadClass, ReadNet, Split};
 use geo_kernel::List;
 use std::alloc::Global;
 
@@ -20,7 +20,7 @@ fn split_on_board(alloc: Global, text: &str) -> Option<Split> {
 
 #[test]
 fn a_reference_is_split_at_each_hyphen(rt: HostRuntime) {
-    for (text, wanted) in [
+    for &(text, wanted) in &[
         ("R1-2", Split::One(PinRef { place: 0, pin: 1 })),
         ("J-1-1", Split::One(PinRef { place: 5, pin: 0 })),
         ("K-1-2", Split::One(PinRef { place: 4, pin: 0 })),
@@ -39,58 +39,68 @@ fn is_net(network: &Network, i: usize, name: &str, pins: &[PinRef]) -> bool {
     }
 }
 
+fn has_nets(network: &Network) -> bool {
+    let gnd = [PinRef { place: 0, pin: 0 }, PinRef { place: 2, pin: 1 }];
+    let vcc = [PinRef { place: 5, pin: 0 }];
+    is_net(network, 0, "GND", gnd.as_slice())
+        && is_net(network, 1, "VCC", vcc.as_slice())
+        && is_net(network, 2, "", &[])
+        && network.nets.len() == 3
+}
+
 #[test]
 fn a_net_has_each_of_its_pins_once(rt: HostRuntime) {
     let network = network(rt.alloc()).expect(&rt, "a network");
-    let gnd = [PinRef { place: 0, pin: 0 }, PinRef { place: 2, pin: 1 }];
-    let vcc = [PinRef { place: 5, pin: 0 }];
-    assert!(rt; is_net(&network, 0, "GND", gnd.as_slice()));
-    assert!(rt; is_net(&network, 1, "VCC", vcc.as_slice()));
-    assert!(rt; is_net(&network, 2, "", &[]));
-    assert_eq!(rt; network.nets.len(), 3);
+    assert!(rt; has_nets(&network));
 }
 
-/// A net's width and class.
-fn rule(network: &Network, i: usize) -> Option<(Option<u64>, Option<u32>)> {
-    let net = network.nets.get(i)?;
-    Some((net.rules.width, net.class))
+/// Whether the nets are three, of these classes, and the first alone has a width.
+fn has_net_rules(nets: &[ReadNet]) -> bool {
+    match nets {
+        [one, two, three] => {
+            (one.rules.width, one.class) == (Some(300), Some(0))
+                && (two.rules.width, two.class) == (None, Some(1))
+                && (three.rules.width, three.class) == (None, Some(0))
+        }
+        _ => false,
+    }
 }
 
 #[test]
 fn a_net_has_its_rules_and_the_last_class_that_names_it(rt: HostRuntime) {
     let network = network(rt.alloc()).expect(&rt, "a network");
-    for (i, width, class) in [
-        (0, Some(300), Some(0)),
-        (1, None, Some(1)),
-        (2, None, Some(0)),
-    ] {
-        assert_eq!(rt; rule(&network, i), Some((width, class)));
-    }
+    assert!(rt; has_net_rules(network.nets.as_slice()));
 }
 
 fn has_rules(class: &ReadClass, width: Option<u64>, plain: Option<u64>) -> bool {
     class.rules.width == width && class.rules.plain == plain
 }
 
-/// The vias of a class, or none where it names none.
-fn vias(class: &ReadClass) -> &[u32] {
+/// Whether the class names these vias.
+fn names_vias(class: &ReadClass, wanted: &[u32]) -> bool {
     match &class.vias {
-        Some(vias) => vias.as_slice(),
-        None => &[],
+        Some(vias) => vias.as_slice() == wanted,
+        None => false,
+    }
+}
+
+/// Whether there are three classes, and the first names vias and the second none.
+fn has_classes(classes: &[ReadClass]) -> bool {
+    match classes {
+        [one, two, three] => {
+            has_rules(one, None, Some(200))
+                && has_rules(two, Some(400_000), None)
+                && has_rules(three, None, None)
+                && names_vias(one, &[1, 0])
+                && two.vias.is_none()
+        }
+        _ => false,
     }
 }
 
 #[test]
 fn classes_have_their_rules_and_their_vias_in_the_order_of_the_text(rt: HostRuntime) {
     let network = network(rt.alloc()).expect(&rt, "a network");
-    let [one, two, three] = network.classes.as_slice() else {
-        return assert!(rt; false, "three classes are wanted");
-    };
-    assert!(rt; has_rules(one, None, Some(200)));
-    assert!(rt; has_rules(two, Some(400_000), None));
-    assert!(rt; has_rules(three, None, None));
-    assert_eq!(rt; vias(one), [1, 0].as_slice());
-    assert!(rt; one.vias.is_some() && two.vias.is_none());
     // Two (z) in lists, a net that a class names and that isn't there, and a (z) in a section.
-    assert_eq!(rt; network.notes, 4);
+    assert!(rt; has_classes(network.classes.as_slice()) && network.notes == 4);
 }

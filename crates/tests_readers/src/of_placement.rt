@@ -22,7 +22,7 @@ fn points_are_placed_on_both_sides(rt: HostRuntime) {
     let a = Angle {
         microdegrees: 30_000_000,
     };
-    for (back, flip_last, x, y) in [
+    for &(back, flip_last, x, y) in &[
         (false, false, 8_660_254, 5_000_000),
         (false, true, 8_660_254, 5_000_000),
         (true, false, -8_660_254, -5_000_000),
@@ -64,14 +64,14 @@ fn turned_over(count: u8, layers: u32) -> u32 {
 
 #[test]
 fn sets_of_layers_are_turned_over(rt: HostRuntime) {
-    for (count, layers, wanted) in [
+    for &(count, layers, wanted) in &[
         (2, 0b01, 0b10),
         (4, 0b0011, 0b1100),
         (3, 0b111_010, 0b010),
         (32, 1, 0x8000_0000),
         (0, 7, 0),
     ] {
-        assert_eq!(rt; turned_over(count, layers), wanted);
+        assert!(rt; turned_over(count, layers) == wanted);
     }
 }
 
@@ -170,39 +170,41 @@ fn is_place(placing: &Placing, i: usize, name: &str, image: u32, back: bool) -> 
     }
 }
 
+fn has_places(placing: &Placing) -> bool {
+    is_place(placing, 0, "R1", 0, true)
+        && is_place(placing, 1, "R3", 0, false)
+        && is_place(placing, 2, "R2", 0, false)
+        && is_place(placing, 3, "J", 1, false)
+        && is_place(placing, 4, "K", 1, false)
+        && is_place(placing, 5, "J-1", 0, false)
+        // Each (z): in a section and in a component.
+        && (placing.places.len(), placing.notes) == (6, 2)
+}
+
 #[test]
 fn components_of_all_sections_are_in_the_order_of_the_text(rt: HostRuntime) {
     let placing = placing(rt.alloc()).expect(&rt, "a placement");
-    for (i, name, image, back) in [
-        (0, "R1", 0, true),
-        (1, "R3", 0, false),
-        (2, "R2", 0, false),
-        (3, "J", 1, false),
-        (4, "K", 1, false),
-        (5, "J-1", 0, false),
-    ] {
-        assert!(rt; is_place(&placing, i, name, image, back), "{name}");
-    }
-    // Each (z): in a section and in a component.
-    assert_eq!(rt; (placing.places.len(), placing.notes), (6, 2));
+    assert!(rt; has_places(&placing));
 }
 
-/// Where component `i` stands, and its angle in microdegrees.
-fn stand(placing: &Placing, i: usize) -> Option<(Option<Point>, u32)> {
-    let place = placing.places.get(i)?;
-    Some((place.at, place.angle.microdegrees))
+/// Whether component `i` stands there or nowhere, at this angle in microdegrees.
+fn stands(placing: &Placing, i: usize, at: Option<Point>, microdegrees: u32) -> bool {
+    match placing.places.get(i) {
+        Some(place) => place.at == at && place.angle.microdegrees == microdegrees,
+        None => false,
+    }
+}
+
+fn has_stands(placing: &Placing) -> bool {
+    let second = Point { x: 1_500, y: 2_000 };
+    stands(placing, 0, Some(BACK.at), 90_000_000)
+        && stands(placing, 1, None, 0)
+        && stands(placing, 2, Some(second), 270_000_000)
+        && stands(placing, 3, Some(ORIGIN), 0)
 }
 
 #[test]
 fn components_have_their_places_and_angles_or_stand_nowhere(rt: HostRuntime) {
     let placing = placing(rt.alloc()).expect(&rt, "a placement");
-    let second = Point { x: 1_500, y: 2_000 };
-    for (i, at, microdegrees) in [
-        (0, Some(BACK.at), 90_000_000),
-        (1, None, 0),
-        (2, Some(second), 270_000_000),
-        (3, Some(ORIGIN), 0),
-    ] {
-        assert!(rt; stand(&placing, i) == Some((at, microdegrees)));
-    }
+    assert!(rt; has_stands(&placing));
 }

@@ -2,15 +2,19 @@
 //! They stand on the layers of the board, F.Cu, the power layer GND, and B.Cu.
 
 use crate::board::{UM, structure};
-use dsn_shapes::{LayerShape, read_shape};
+use dsn_shapes::{Layer, LayerShape, read_shape};
 use dsn_tree::read_tree;
 use geo_kernel::{List, Point, Spine};
 use std::alloc::Global;
 
+fn shape_on(alloc: Global, text: &str, layers: &List<Layer>) -> Option<LayerShape> {
+    let tree = read_tree(alloc, text.as_bytes()).ok()?;
+    read_shape(alloc, &tree, UM, layers).ok()
+}
+
 fn shape(alloc: Global, text: &str) -> Option<LayerShape> {
     let structure = structure(alloc)?;
-    let tree = read_tree(alloc, text.as_bytes()).ok()?;
-    read_shape(alloc, &tree, UM, &structure.layers).ok()
+    shape_on(alloc, text, &structure.layers)
 }
 
 /// The points of a chain, or of an area's only loop.
@@ -37,7 +41,7 @@ fn form(alloc: Global, text: &str) -> Option<(u32, u64, bool, usize)> {
 
 #[test]
 fn each_form_has_the_layers_of_its_word_and_its_width_rounded_up(rt: HostRuntime) {
-    for (text, wanted) in [
+    for &(text, wanted) in &[
         ("(circle F.Cu 1000)", (0b001, 1_000_000, true, 1)),
         ("(Circle PCB 1000)", (0b111, 1_000_000, true, 1)),
         ("(circle signal 1000)", (0b101, 1_000_000, true, 1)),
@@ -50,7 +54,7 @@ fn each_form_has_the_layers_of_its_word_and_its_width_rounded_up(rt: HostRuntime
             (0b001, 1, false, 3),
         ),
     ] {
-        assert_eq!(rt; form(rt.alloc(), text), Some(wanted), "{text}");
+        assert!(rt; form(rt.alloc(), text) == Some(wanted), "{text}");
     }
 }
 
@@ -61,7 +65,7 @@ fn vertex(alloc: Global, text: &str, i: usize) -> Option<Point> {
 #[test]
 fn a_rect_has_its_four_corners_and_a_circle_its_centre(rt: HostRuntime) {
     let rect = "(rect B.Cu 1 2 3 4)";
-    for (text, i, x, y) in [
+    for &(text, i, x, y) in &[
         (rect, 0, 1_000, 2_000),
         (rect, 1, 3_000, 2_000),
         (rect, 2, 3_000, 4_000),

@@ -2,27 +2,19 @@
 //! Lengths are in nm.
 
 use crate::board::structure;
-use dsn_shapes::Structure;
+use dsn_shapes::{BanShape, LayerShape, Structure};
 use geo_kernel::{Point, Spine};
-use pcb_model::{Kind, RuleSet, Typed};
+use pcb_model::{Kind, Typed};
 use std::alloc::Global;
 
-/// How many layers, padstacks of vias, boundaries and keepouts there are, and lists that were passed over.
-fn counts(alloc: Global) -> Option<(usize, usize, usize, usize, u64)> {
-    let s = structure(alloc)?;
-    Some((
-        s.layers.len(),
-        s.vias.len(),
-        s.bounds.len(),
-        s.bans.len(),
-        s.notes,
-    ))
-}
-
-#[test]
-fn a_structure_holds_what_stands_in_all_its_sections(rt: HostRuntime) {
-    // Notes are a plane, (note), (x), three (z) and a clearance for a pair of kinds that isn't known.
-    assert_eq!(rt; counts(rt.alloc()), Some((3, 3, 2, 3, 7)));
+/// Whether there are so many layers, padstacks of vias, boundaries and keepouts, and lists that were passed over.
+fn has_counts(s: &Structure) -> bool {
+    s.layers.len() == 3
+        && s.vias.len() == 3
+        && s.bounds.len() == 2
+        && s.bans.len() == 3
+        // A plane, (note), (x), three (z) and a clearance for a pair of kinds that isn't known.
+        && s.notes == 7
 }
 
 /// Whether layer `i` has this name and is a power layer or none, and the via at the same place this padstack.
@@ -37,73 +29,51 @@ fn are_named(structure: &Structure, i: usize, layer: &str, power: bool, via: &st
     }
 }
 
-fn has_names(alloc: Global, i: usize, layer: &str, power: bool, via: &str) -> bool {
-    match structure(alloc) {
-        Some(structure) => are_named(&structure, i, layer, power, via),
-        None => false,
-    }
+fn has_names(structure: &Structure) -> bool {
+    are_named(structure, 0, "F.Cu", false, "V")
+        && are_named(structure, 1, "GND", true, "W")
+        && are_named(structure, 2, "B.Cu", false, "V")
 }
 
-#[test]
-fn layers_and_names_of_vias_are_in_the_order_of_the_text(rt: HostRuntime) {
-    for (i, layer, power, via) in [
-        (0, "F.Cu", false, "V"),
-        (1, "GND", true, "W"),
-        (2, "B.Cu", false, "V"),
-    ] {
-        assert!(rt; has_names(rt.alloc(), i, layer, power, via), "{i}");
-    }
+/// Whether the width, the clearance of all pairs, and the switches (vias at pads, mirroring after the turn) are the
+/// last of the text.
+fn has_last_words(s: &Structure) -> bool {
+    s.rules.width == Some(300) && s.rules.plain == Some(200_100) && s.via_at_smd && s.flip_last
 }
 
-/// The width, the clearance of all pairs, and the switches: vias at pads, and mirroring after the turn.
-fn last_words(alloc: Global) -> Option<(Option<u64>, Option<u64>, bool, bool)> {
-    let s = structure(alloc)?;
-    Some((s.rules.width, s.rules.plain, s.via_at_smd, s.flip_last))
-}
-
-#[test]
-fn the_last_width_the_last_clearance_and_the_last_switches_count(rt: HostRuntime) {
-    let wanted = (Some(300), Some(200_100), true, true);
-    assert_eq!(rt; last_words(rt.alloc()), Some(wanted));
-}
-
-fn typed(alloc: Global, i: usize) -> Option<Typed> {
-    let rules: RuleSet = structure(alloc)?.rules;
-    rules.typed.get(i).copied()
-}
-
-#[test]
-fn clearances_of_pairs_of_kinds_are_in_the_order_of_the_text(rt: HostRuntime) {
-    for (i, a, b, value) in [
-        (0, Kind::Smd, Some(Kind::Smd), 50_000),
-        (1, Kind::Smd, None, 6_000),
-    ] {
-        assert!(rt; typed(rt.alloc(), i) == Some(Typed { a, b, value }));
-    }
-    assert!(rt; typed(rt.alloc(), 2).is_none());
-}
-
-/// A boundary's layers, its width, its number of loops, and the last corner of the first.
-fn bound(structure: &Structure, i: usize) -> Option<(u32, u64, usize, Point)> {
-    let shape = structure.bounds.get(i)?;
-    match &shape.spine {
-        Spine::Area(loops) => {
-            let last = loops.get(0)?.as_slice().last()?;
-            Some((shape.layers, shape.width, loops.len(), *last))
+/// Whether there are the two clearances of pairs of kinds, and no third.
+fn has_pairs(typed: &[Typed]) -> bool {
+    match typed {
+        [one, two] => {
+            (one.a, one.b, one.value) == (Kind::Smd, Some(Kind::Smd), 50_000)
+                && (two.a, two.b, two.value) == (Kind::Smd, None, 6_000)
         }
-        Spine::Chain(_) => None,
+        _ => false,
     }
 }
 
-fn read_bound(alloc: Global, i: usize) -> Option<(u32, u64, usize, Point)> {
-    bound(&structure(alloc)?, i)
+/// Whether a boundary on all layers has this width and so many loops, and this last corner of the first.
+fn is_bound(shape: &LayerShape, width: u64, count: usize, corner: Point) -> bool {
+    match &shape.spine {
+        Spine::Area(loops) => match loops.as_slice() {
+            [first, ..] => {
+                (shape.layers, shape.width, loops.len()) == (0b111, width, count)
+                    && first.as_slice().last() == Some(&corner)
+            }
+            [] => false,
+        },
+        Spine::Chain(_) => false,
+    }
 }
 
-#[test]
-fn boundaries_are_areas_of_all_their_forms(rt: HostRuntime) {
-    for (i, width, loops, x, y) in [(0, 0, 1, 0, 20_000), (1, 1_000, 2, 9_000, 9_000)] {
-        let wanted = (0b111, width, loops, Point { x, y });
-        assert!(rt; read_bound(rt.alloc(), i) == Some(wanted));
+fn has_bounds(bounds: &[LayerShape]) -> bool {
+    let (x, y) = (9_000, 9_000);
+    match bounds {
+        [one, two] => {
+            is_bound(one, 0, 1, Point { x: 0, y: 20_000 })
+                && is_bound(two, 1_000, 2, Point { x, y })
+        }
+        _ => false,
     }
 }
 
@@ -115,27 +85,83 @@ fn loops(spine: &Spine) -> usize {
     }
 }
 
-/// What a keepout bans, wires and vias, its layers, its width and its number of loops.
-fn ban(alloc: Global, i: usize) -> Option<(bool, bool, u32, u64, usize)> {
-    let structure = structure(alloc)?;
-    let ban = structure.bans.get(i)?;
+/// Whether a keepout bans wires and vias, and has these layers, this width and so many loops.
+fn is_ban(ban: &BanShape, bans: (bool, bool), layers: u32, width: u64, count: usize) -> bool {
     let shape = &ban.shape;
-    Some((
-        ban.wires,
-        ban.vias,
-        shape.layers,
-        shape.width,
-        loops(&shape.spine),
-    ))
+    (ban.wires, ban.vias) == bans
+        && (shape.layers, shape.width) == (layers, width)
+        && loops(&shape.spine) == count
+}
+
+fn has_bans(bans: &[BanShape]) -> bool {
+    match bans {
+        [one, two, three] => {
+            is_ban(one, (true, true), 0b001, 7_000, 3)
+                && is_ban(two, (false, true), 0b101, 5_000, 0)
+                && is_ban(three, (true, false), 0b100, 5_000, 0)
+        }
+        _ => false,
+    }
+}
+
+/// Whether the structure of the board is as each test below says.
+#[derive(Clone, Copy)]
+struct Found {
+    counts: bool,
+    names: bool,
+    last_words: bool,
+    pairs: bool,
+    bounds: bool,
+    bans: bool,
+}
+
+fn findings_of(s: &Structure) -> Found {
+    Found {
+        counts: has_counts(s),
+        names: has_names(s),
+        last_words: has_last_words(s),
+        pairs: has_pairs(s.rules.typed.as_slice()),
+        bounds: has_bounds(s.bounds.as_slice()),
+        bans: has_bans(s.bans.as_slice()),
+    }
+}
+
+fn findings(alloc: Global) -> Option<Found> {
+    Some(findings_of(&structure(alloc)?))
+}
+
+#[test]
+fn a_structure_holds_what_stands_in_all_its_sections(rt: HostRuntime) {
+    let found = findings(rt.alloc()).expect(&rt, "a structure");
+    assert!(rt; found.counts);
+}
+
+#[test]
+fn layers_and_names_of_vias_are_in_the_order_of_the_text(rt: HostRuntime) {
+    let found = findings(rt.alloc()).expect(&rt, "a structure");
+    assert!(rt; found.names);
+}
+
+#[test]
+fn the_last_width_the_last_clearance_and_the_last_switches_count(rt: HostRuntime) {
+    let found = findings(rt.alloc()).expect(&rt, "a structure");
+    assert!(rt; found.last_words);
+}
+
+#[test]
+fn clearances_of_pairs_of_kinds_are_in_the_order_of_the_text(rt: HostRuntime) {
+    let found = findings(rt.alloc()).expect(&rt, "a structure");
+    assert!(rt; found.pairs);
+}
+
+#[test]
+fn boundaries_are_areas_of_all_their_forms(rt: HostRuntime) {
+    let found = findings(rt.alloc()).expect(&rt, "a structure");
+    assert!(rt; found.bounds);
 }
 
 #[test]
 fn keepouts_ban_wires_or_vias_or_both_and_windows_are_loops_of_theirs(rt: HostRuntime) {
-    for (i, wanted) in [
-        (0, (true, true, 0b001, 7_000, 3)),
-        (1, (false, true, 0b101, 5_000, 0)),
-        (2, (true, false, 0b100, 5_000, 0)),
-    ] {
-        assert_eq!(rt; ban(rt.alloc(), i), Some(wanted));
-    }
+    let found = findings(rt.alloc()).expect(&rt, "a structure");
+    assert!(rt; found.bans);
 }

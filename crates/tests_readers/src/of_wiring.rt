@@ -21,9 +21,8 @@ fn wire(wiring: &Wiring, i: usize) -> Option<(u8, u64, usize)> {
 #[test]
 fn wires_have_their_layers_widths_and_vertices(rt: HostRuntime) {
     let wiring = wiring(rt.alloc()).expect(&rt, "a wiring");
-    for (i, wanted) in [(0, (0, 200_000, 2)), (3, (2, 250, 3))] {
-        assert_eq!(rt; wire(&wiring, i), Some(wanted));
-    }
+    assert!(rt; wire(&wiring, 0) == Some((0, 200_000, 2)));
+    assert!(rt; wire(&wiring, 3) == Some((2, 250, 3)));
 }
 
 /// The padstack and the place of a via.
@@ -37,7 +36,7 @@ fn via(wiring: &Wiring, i: usize) -> Option<(u32, Point)> {
 #[test]
 fn vias_have_their_padstacks_and_places(rt: HostRuntime) {
     let wiring = wiring(rt.alloc()).expect(&rt, "a wiring");
-    for (i, padstack, x, y) in [(1, 0, 3_000, 4_000), (2, 0, 5_000, 6_000), (4, 2, 0, 0)] {
+    for &(i, padstack, x, y) in &[(1, 0, 3_000, 4_000), (2, 0, 5_000, 6_000), (4, 2, 0, 0)] {
         assert!(rt; via(&wiring, i) == Some((padstack, Point { x, y })));
     }
 }
@@ -58,18 +57,18 @@ fn is_listed(wiring: &Wiring, i: usize, text: &str, net: Option<u32>, fixed: boo
     }
 }
 
+fn are_listed(wiring: &Wiring) -> bool {
+    is_listed(wiring, 0, "(wire (path F.Cu", Some(0), true)
+        && is_listed(wiring, 1, "(via V 3 4", Some(1), false)
+        && is_listed(wiring, 2, "(via V 5 6", None, true)
+        && is_listed(wiring, 3, "(wire (type", Some(1), false)
+        && is_listed(wiring, 4, "(Via P", Some(2), true)
+        // A list in a via and one in a section.
+        && (wiring.wires.len(), wiring.notes) == (5, 2)
+}
+
 #[test]
 fn wires_and_vias_are_in_the_order_of_the_text_with_their_nets(rt: HostRuntime) {
     let wiring = wiring(rt.alloc()).expect(&rt, "a wiring");
-    for (i, text, net, fixed) in [
-        (0, "(wire (path F.Cu", Some(0), true),
-        (1, "(via V 3 4", Some(1), false),
-        (2, "(via V 5 6", None, true),
-        (3, "(wire (type", Some(1), false),
-        (4, "(Via P", Some(2), true),
-    ] {
-        assert!(rt; is_listed(&wiring, i, text, net, fixed), "{text}");
-    }
-    // A list in a via and one in a section.
-    assert_eq!(rt; (wiring.wires.len(), wiring.notes), (5, 2));
+    assert!(rt; are_listed(&wiring));
 }

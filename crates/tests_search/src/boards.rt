@@ -20,7 +20,7 @@ fn read_bytes(alloc: Global, text: &[u8]) -> Result<Design, DesignFault>
 }
 
 /// The design of a text.
-pub(crate) fn read(alloc: Global, text: &str) -> Option<Design>
+fn read(alloc: Global, text: &str) -> Option<Design>
     ensures { IfSome result IsSound }
 {
     let bytes = text.as_bytes();
@@ -44,22 +44,28 @@ fn grid_of(grid: u32) -> Option<u64>
     }
 }
 
-/// The lattice of a design at a grid, or the number of its nodes where they are too many.
-pub(crate) fn lattice_of(alloc: Global, d: &Design, grid: u32) -> Result<Lattice, u128>
+/// What a test says of a lattice and its design.
+pub(crate) trait Says {
+    /// Whether it is so.
+    fn holds(&self, alloc: Global, d: &Design, lat: &Lattice) -> bool
+        requires sound { IsSound d.now }
+        requires fits { FitsDesign d.now lat.now };
+}
+
+fn holds_at<S: Says>(alloc: Global, d: &Design, grid: u32, says: &S) -> Result<bool, u128>
     requires { IsSound d.now }
-    ensures { IfOk result (FitsDesign d.now) }
 {
     match Lattice::of(alloc, d, grid_of(grid)) {
-        Ok(lattice) => Ok(lattice),
+        Ok(lattice) => Ok(says.holds(alloc, d, &lattice)),
         Err(LatticeFault::TooManyNodes { count }) => Err(count),
         Err(LatticeFault::Memory(_)) => Err(0),
     }
 }
 
-/// The lattice of a text at a grid, or the number of its nodes where they are too many.
-pub(crate) fn lattice(alloc: Global, text: &str, grid: u32) -> Result<Lattice, u128> {
+/// Whether it holds of the lattice of a text at a grid, or the number of the nodes where they are too many.
+pub(crate) fn holds<S: Says>(alloc: Global, text: &str, grid: u32, says: &S) -> Result<bool, u128> {
     match read(alloc, text) {
-        Some(d) => lattice_of(alloc, &d, grid),
+        Some(d) => holds_at(alloc, &d, grid, says),
         None => Err(0),
     }
 }

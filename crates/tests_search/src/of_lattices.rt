@@ -1,10 +1,10 @@
 //! The nodes and lines of lattices, by boards whose lattices are counted by hand.
 //! The boards are squares with a corner at the origin.
 
-use crate::boards::lattice;
+use crate::boards::{Says, holds};
+use pcb_model::Design;
 use route_lattice::Lattice;
 use std::alloc::Global;
-use std::test::Fail;
 
 const TEN_MM: &str =
     "(pcb b (resolution um 10) (structure (layer T (type signal)) (layer B (type signal))
@@ -27,41 +27,29 @@ const LARGE_WITH_POWER: &str =
   (boundary (rect pcb 0 0 200000 200000))))";
 
 /// The number of nodes, of lines across and of lines up, the grid, and the unit of the session.
-type Size = (u32, usize, usize, u64, u64);
+struct Size(u32, usize, usize, u64, u64);
 
-fn size_of(lat: &Lattice) -> Size {
-    (
-        lat.count(),
-        lat.xs().len(),
-        lat.ys().len(),
-        lat.grid(),
-        lat.unit(),
-    )
-}
-
-fn has_size(alloc: Global, text: &str, grid: u32, size: Size) -> bool {
-    match lattice(alloc, text, grid) {
-        Ok(lat) => size_of(&lat) == size,
-        Err(_) => false,
+impl Says for Size {
+    fn holds(&self, _alloc: Global, _d: &Design, lat: &Lattice) -> bool {
+        lat.count() == self.0
+            && lat.xs().len() == self.1
+            && lat.ys().len() == self.2
+            && lat.grid() == self.3
+            && lat.unit() == self.4
     }
 }
+
+const SIZES: [(&str, u32, Size); 4] = [
+    (TEN_MM, 1_000_000, Size(162, 9, 9, 1_000_000, 100)),
+    (TEN_MM_WITH_POWER, 1_000_000, Size(81, 9, 9, 1_000_000, 100)),
+    (SMALL, 0, Size(139_392, 264, 264, 100_000, 100)),
+    (LARGE, 0, Size(1_122_002, 749, 749, 400_000, 100)),
+];
 
 #[test]
 fn a_node_is_a_crossing_of_two_lines_on_a_signal_layer(rt: HostRuntime) {
-    for (text, grid, size) in [
-        (TEN_MM, 1_000_000, (162, 9, 9, 1_000_000, 100)),
-        (TEN_MM_WITH_POWER, 1_000_000, (81, 9, 9, 1_000_000, 100)),
-        (SMALL, 0, (139_392, 264, 264, 100_000, 100)),
-        (LARGE, 0, (1_122_002, 749, 749, 400_000, 100)),
-    ] {
-        assert!(rt; has_size(rt.alloc(), text, grid, size), "{text}");
-    }
-}
-
-fn too_many(alloc: Global, text: &str, grid: u32) -> u128 {
-    match lattice(alloc, text, grid) {
-        Ok(_) => 0,
-        Err(count) => count,
+    for (text, grid, size) in &SIZES {
+        assert!(rt; holds(rt.alloc(), text, *grid, size) == Ok(true), "{text}");
     }
 }
 
@@ -73,9 +61,15 @@ fn too_many_nodes_are_counted_exactly(rt: HostRuntime) {
         (TEN_MM, 199_960_002),
         (SMALL, 1_404_394_002),
     ] {
-        assert_eq!(rt; too_many(rt.alloc(), text, 1_000), count);
+        assert!(rt;
+            holds(rt.alloc(), text, 1_000, &Size(0, 0, 0, 0, 0)) == Err(count),
+            "{text}"
+        );
     }
 }
+
+/// The nodes that lie at an x and y in mm, on a layer.
+struct NodesAt([(u32, i64, i64, u8); 5]);
 
 /// Whether a node lies at this x and y in mm, on this layer.
 fn is_at(lat: &Lattice, node: u32, x: i64, y: i64, layer: u8) -> bool {
@@ -86,21 +80,28 @@ fn is_at(lat: &Lattice, node: u32, x: i64, y: i64, layer: u8) -> bool {
     at.x / 1_000_000 == x && at.y / 1_000_000 == y && lat.layer(node) == layer
 }
 
-#[test]
-fn nodes_are_numbered_by_rows_and_then_by_layers(rt: HostRuntime) -> Result<(), Fail> {
-    let Ok(lat) = lattice(rt.alloc(), TEN_MM, 1_000_000) else {
-        return Err("the board is refused".into());
-    };
-    for (node, x, y, layer) in [
-        (0, 1, 1, 0),
-        (21, 4, 3, 0),
-        (80, 9, 9, 0),
-        (81, 1, 1, 1),
-        (161, 9, 9, 1),
-    ] {
-        assert!(rt; is_at(&lat, node, x, y, layer), "node {node}");
+impl Says for NodesAt {
+    fn holds(&self, _alloc: Global, _d: &Design, lat: &Lattice) -> bool {
+        for (node, x, y, layer) in &self.0 {
+            if !is_at(lat, *node, *x, *y, *layer) {
+                return false;
+            }
+        }
+        true
     }
-    Ok(())
+}
+
+const NODES: NodesAt = NodesAt([
+    (0, 1, 1, 0),
+    (21, 4, 3, 0),
+    (80, 9, 9, 0),
+    (81, 1, 1, 1),
+    (161, 9, 9, 1),
+]);
+
+#[test]
+fn nodes_are_numbered_by_rows_and_then_by_layers(rt: HostRuntime) {
+    assert!(rt; holds(rt.alloc(), TEN_MM, 1_000_000, &NODES) == Ok(true));
 }
 
 /// A board of 5 um whose session's unit is 1 um.
@@ -113,29 +114,28 @@ const HALVES: &str = "(pcb b (resolution um 1) (structure (layer T) (boundary (r
   (library (image I (pin S 1 1.5 -1.5) (pin S 2 2.499 -2.501) (pin S 3 -4 -4)) (padstack S (shape (circle T 1))))
   (network (net A (pins C-1 C-2))))";
 
-fn are_lines(lat: &Lattice, xs: &[i64], ys: &[i64]) -> bool {
-    lat.xs().as_slice() == xs && lat.ys().as_slice() == ys
-}
+/// The lines across and up.
+struct Lines(&'static [i64], &'static [i64]);
 
-/// Whether a board has these lines across and up.
-fn has_lines(alloc: Global, text: &str, grid: u32, xs: &[i64], ys: &[i64]) -> bool {
-    match lattice(alloc, text, grid) {
-        Ok(lat) => are_lines(&lat, xs, ys),
-        Err(_) => false,
+impl Says for Lines {
+    fn holds(&self, _alloc: Global, _d: &Design, lat: &Lattice) -> bool {
+        lat.xs().as_slice() == self.0 && lat.ys().as_slice() == self.1
     }
 }
 
+const ALL: Lines = Lines(&[1_000, 2_000, 3_000, 4_000], &[1_000, 2_000, 3_000, 4_000]);
+
+const SOME: Lines = Lines(&[1_000, 3_000, 4_000], &[1_000, 3_000, 4_000]);
+
 #[test]
 fn lines_are_multiples_of_the_grid_rounded_down_to_the_unit(rt: HostRuntime) {
-    let all = [1_000, 2_000, 3_000, 4_000];
-    assert!(rt; has_lines(rt.alloc(), FIVE_UM, 300, &all, &all));
-    let some = [1_000, 3_000, 4_000];
-    assert!(rt; has_lines(rt.alloc(), FIVE_UM, 1_500, &some, &some));
+    assert!(rt; holds(rt.alloc(), FIVE_UM, 300, &ALL) == Ok(true));
+    assert!(rt; holds(rt.alloc(), FIVE_UM, 1_500, &SOME) == Ok(true));
 }
+
+const ANCHORS: Lines = Lines(&[0, 2_000], &[-3_000, -1_000, 0]);
 
 #[test]
 fn anchors_of_pins_with_a_net_are_rounded_half_upwards(rt: HostRuntime) {
-    let xs = [0, 2_000];
-    let ys = [-3_000, -1_000, 0];
-    assert!(rt; has_lines(rt.alloc(), HALVES, 10_000, &xs, &ys));
+    assert!(rt; holds(rt.alloc(), HALVES, 10_000, &ANCHORS) == Ok(true));
 }

@@ -8,14 +8,13 @@ ghost use Rattle.route_lattice.specs.Legal.{CanMove};
 ghost use Rattle.route_lattice.specs.Mesh.{node_count};
 ghost use Rattle.path_wire.specs.Wires.{IsNetWalk};
 
-use crate::boards::{fixed_copper, lattice_of, read};
+use crate::boards::{Says, fixed_copper, holds};
 use geo_kernel::{List, Point};
 use path_wire::{net_walks, walk_items};
 use pcb_islands::{Island, is_whole, islands};
 use pcb_model::{Design, Metal, PlainCopper};
 use route_lattice::{Found, Lattice, LegalMoves, Walk, anchor_nodes, legal_graph_sound};
 use std::alloc::{AllocError, Global};
-use std::test::Fail;
 use wave_search::least_walk;
 
 // ---- islands and anchors
@@ -89,25 +88,18 @@ fn are_anchored(alloc: Global, d: &Design, lat: &Lattice) -> bool
         && is_anchored(alloc, d, lat, 4, &[0, 4, 8])
 }
 
-fn has_anchors(alloc: Global, d: &Design) -> bool
-    requires { IsSound d.now }
-{
-    match lattice_of(alloc, d, 1_000_000) {
-        Ok(lat) => are_anchored(alloc, d, &lat),
-        Err(_) => false,
+/// Its islands and what anchors its items.
+struct ThreePins;
+
+impl Says for ThreePins {
+    fn holds(&self, alloc: Global, d: &Design, lat: &Lattice) -> bool {
+        has_islands(alloc, d) && are_anchored(alloc, d, lat)
     }
 }
 
 #[test]
-fn a_fixed_wire_joins_two_of_three_pins_and_is_anchored_along_its_spine(
-    rt: HostRuntime,
-) -> Result<(), Fail> {
-    let Some(d) = read(rt.alloc(), THREE_PINS) else {
-        return Err("the board is refused".into());
-    };
-    assert!(rt; has_islands(rt.alloc(), &d));
-    assert!(rt; has_anchors(rt.alloc(), &d));
-    Ok(())
+fn a_fixed_wire_joins_two_of_three_pins_and_is_anchored_along_its_spine(rt: HostRuntime) {
+    assert!(rt; holds(rt.alloc(), THREE_PINS, 1_000_000, &ThreePins) == Ok(true));
 }
 
 // ---- a walk
@@ -215,33 +207,22 @@ fn goes_one_way(alloc: Global, lat: &Lattice, d: &Design, copper: &PlainCopper) 
     }
 }
 
-fn has_one_way_on(alloc: Global, lat: &Lattice, d: &Design) -> bool
-    requires sound { IsSound d.now }
-    requires fits { FitsDesign d.now lat.now }
-{
-    if d.nets.is_empty() || lat.count() == 0 {
-        return false;
-    }
-    match fixed_copper(alloc, d) {
-        Ok(copper) => goes_one_way(alloc, lat, d, &copper),
-        Err(_) => false,
-    }
-}
+/// Its walk is the one way.
+struct OneWay;
 
-fn has_one_way(alloc: Global, d: &Design) -> bool
-    requires { IsSound d.now }
-{
-    match lattice_of(alloc, d, 1_000_000) {
-        Ok(lat) => has_one_way_on(alloc, &lat, d),
-        Err(_) => false,
+impl Says for OneWay {
+    fn holds(&self, alloc: Global, d: &Design, lat: &Lattice) -> bool {
+        if d.nets.is_empty() || lat.count() == 0 {
+            return false;
+        }
+        match fixed_copper(alloc, d) {
+            Ok(copper) => goes_one_way(alloc, lat, d, &copper),
+            Err(_) => false,
+        }
     }
 }
 
 #[test]
-fn a_walk_with_a_corner_and_a_via_is_two_wires_and_a_via(rt: HostRuntime) -> Result<(), Fail> {
-    let Some(d) = read(rt.alloc(), ONE_WAY) else {
-        return Err("the board is refused".into());
-    };
-    assert!(rt; has_one_way(rt.alloc(), &d));
-    Ok(())
+fn a_walk_with_a_corner_and_a_via_is_two_wires_and_a_via(rt: HostRuntime) {
+    assert!(rt; holds(rt.alloc(), ONE_WAY, 1_000_000, &OneWay) == Ok(true));
 }

@@ -9,7 +9,6 @@ use crate::cells::{Cells, cells_sound};
 use geo_kernel::List;
 use route_lattice::{Found, Move, Moves};
 use std::alloc::{AllocError, Global};
-use std::test::Fail;
 use wave_search::{Bound, Heading, NoBound, Search, Ties, guided_walk, heading_of, least_walk};
 
 /// A least walk from a cell to one of the goals, or all that is reached; from no start where there is no such cell.
@@ -128,11 +127,25 @@ fn there_and_back(alloc: Global, cells: &Cells) -> bool {
     }
 }
 
+fn corridor_holds(alloc: Global, cells: &Cells, is_guided: bool) -> bool {
+    if is_guided {
+        goes_guided(alloc, cells)
+    } else {
+        there_and_back(alloc, cells)
+    }
+}
+
+/// Whether searches in the corridor find their walks: one with a bound, or two by one memory.
+fn in_corridor(alloc: Global, is_guided: bool) -> bool {
+    match Cells::drawn(alloc, 8, CORRIDOR) {
+        Ok(cells) => corridor_holds(alloc, &cells, is_guided),
+        Err(_) => false,
+    }
+}
+
 #[test]
-fn memory_serves_one_search_after_another(rt: HostRuntime) -> Result<(), Fail> {
-    let cells = Cells::drawn(rt.alloc(), 8, CORRIDOR)?;
-    assert!(rt; there_and_back(rt.alloc(), &cells));
-    Ok(())
+fn memory_serves_one_search_after_another(rt: HostRuntime) {
+    assert!(rt; in_corridor(rt.alloc(), false));
 }
 
 /// One more step is to be paid for wherever the goal isn't.
@@ -165,12 +178,16 @@ fn guided(alloc: Global, cells: &Cells, from: u32, goal: u32) -> Result<Found, A
     guided_walk(alloc, cells, &OneStep { goal }, &starts, &goals)
 }
 
+fn goes_guided(alloc: Global, cells: &Cells) -> bool {
+    match guided(alloc, cells, 9, 14) {
+        Ok(found) => is_told(&found, 13, &[9, 10, 11, 12, 13, 14]),
+        Err(_) => false,
+    }
+}
+
 #[test]
-fn a_bound_changes_no_price(rt: HostRuntime) -> Result<(), Fail> {
-    let cells = Cells::drawn(rt.alloc(), 8, CORRIDOR)?;
-    let found = guided(rt.alloc(), &cells, 9, 14)?;
-    assert!(rt; is_told(&found, 13, &[9, 10, 11, 12, 13, 14]));
-    Ok(())
+fn a_bound_changes_no_price(rt: HostRuntime) {
+    assert!(rt; in_corridor(rt.alloc(), true));
 }
 
 /// Few turns.
@@ -205,17 +222,42 @@ fn straight(
     search.tied_walk(alloc, cells, &NoBound, &FewTurns, &starts, &goals)
 }
 
+fn is_straight(
+    alloc: Global,
+    search: &mut Search,
+    cells: &Cells,
+    goals: &[u32],
+    price: u64,
+    nodes: &[u32],
+) -> bool
+    requires { search.old ≡ length cells.now.prices }
+{
+    match straight(alloc, search, cells, 7, goals) {
+        Ok(found) => is_told(&found, price, nodes),
+        Err(_) => false,
+    }
+}
+
+fn goes_straight_on(
+    alloc: Global,
+    cells: &Cells,
+    goals: &[u32],
+    price: u64,
+    nodes: &[u32],
+) -> bool {
+    match Search::new(alloc, cells.count()) {
+        Ok(memory) => {
+            let mut search = memory;
+            is_straight(alloc, &mut search, cells, goals, price, nodes)
+        }
+        Err(_) => false,
+    }
+}
+
 /// Whether the walk of few turns from cell 7 of a map to one of the goals has this price and these nodes.
 fn goes_straight(alloc: Global, map: &str, goals: &[u32], price: u64, nodes: &[u32]) -> bool {
-    let Ok(cells) = Cells::drawn(alloc, 6, map) else {
-        return false;
-    };
-    let Ok(memory) = Search::new(alloc, cells.count()) else {
-        return false;
-    };
-    let mut search = memory;
-    match straight(alloc, &mut search, &cells, 7, goals) {
-        Ok(found) => is_told(&found, price, nodes),
+    match Cells::drawn(alloc, 6, map) {
+        Ok(cells) => goes_straight_on(alloc, &cells, goals, price, nodes),
         Err(_) => false,
     }
 }
@@ -343,19 +385,32 @@ fn reaches(alloc: Global, cells: &Cells, nodes: &[u32]) -> Result<bool, AllocErr
     Ok(is_told(&found, 0, nodes))
 }
 
+/// Whether a search from cell 44 to a wall reaches just the cells to which a walk has a price.
+fn reaches_all(alloc: Global, cells: &Cells, slow: &[u64]) -> Result<bool, AllocError> {
+    let nodes = reached(alloc, slow)?;
+    reaches(alloc, cells, nodes.as_slice())
+}
+
+/// Whether the searches from cell 44 have the prices and the reach of the slow fixed point.
+fn are_as_slow(alloc: Global, cells: &Cells, slow: &mut [u64]) -> Result<bool, AllocError> {
+    lower_often(cells, slow);
+    Ok(are_least(alloc, cells, slow)? && reaches_all(alloc, cells, slow)?)
+}
+
+fn agrees(alloc: Global, cells: &Cells) -> Result<bool, AllocError> {
+    let mut least = first_prices(alloc)?;
+    are_as_slow(alloc, cells, least.as_mut_slice())
+}
+
+fn next_agrees(alloc: Global, numbers: &mut Numbers) -> Result<bool, AllocError> {
+    let cells = random_cells(alloc, numbers)?;
+    agrees(alloc, &cells)
+}
+
 #[test]
-fn random_cells_have_the_prices_and_the_reach_of_a_slow_fixed_point(
-    rt: HostRuntime,
-) -> Result<(), Fail> {
+fn random_cells_have_the_prices_and_the_reach_of_a_slow_fixed_point(rt: HostRuntime) {
     let mut numbers = Numbers { seed: 1 };
     for _ in 0..20 {
-        let cells = random_cells(rt.alloc(), &mut numbers)?;
-        let mut least = first_prices(rt.alloc())?;
-        let slow = least.as_mut_slice();
-        lower_often(&cells, slow);
-        assert!(rt; are_least(rt.alloc(), &cells, slow)?);
-        let nodes = reached(rt.alloc(), slow)?;
-        assert!(rt; reaches(rt.alloc(), &cells, nodes.as_slice())?);
+        assert!(rt; next_agrees(rt.alloc(), &mut numbers) == Ok(true));
     }
-    Ok(())
 }

@@ -3,7 +3,7 @@
 ghost use Rattle.std.specs.Prelude.{◌≡◌, IfSome};
 ghost use Rattle.board_turn.specs.Turns.{count_of};
 
-use crate::board::{across, along, crossing};
+use crate::turn_board::{across, along, crossing};
 use board_turn::{Pass, Turn};
 use pcb_board::{Answer, Board, Offer, Snap};
 use pcb_model::Copper;

@@ -8,6 +8,7 @@ use Rattle.dsn_shapes.specs.declared.parts.ReadWire.{ReadWire}
 use Rattle.dsn_shapes.specs.Fits.{IsShapeFit}
 use Rattle.dsn_shapes.specs.Within.{IsLibraryWithin}
 use Rattle.dsn_design.specs.declared.parts.Parts.{Parts}
+use Rattle.dsn_shapes.specs.declared.limits.TheConstants.{MOST_LAYERS}
 
 -- shapes with coordinates up to 2^29 and widths up to 2^28
 pub record IsStackFit (s : Stack) : Type 0 where
@@ -23,7 +24,7 @@ pub record IsWireFit (w : ReadWire) : Type 0 where
 
 -- what making a design of its parts needs
 pub record ArePartsFit (p : Parts) : Type 0 where
-  pub few_layers : length p.structure.layers ≤ 32
+  pub few_layers : length p.structure.layers ≤ MOST_LAYERS
   pub library : IsLibraryWithin p.library
   pub stacks : All IsStackFit p.library.stacks
   pub places : All IsPlaceWithin p.placing.places

@@ -12,6 +12,7 @@ use Rattle.dsn_shapes.specs.Lists.{at_of, nth_word, name_of, place_of}
 use Rattle.dsn_shapes.specs.Numbers.{coord_at, coord_refusal}
 use Rattle.dsn_shapes.specs.Angles.{word_angle, word_angle_refusal, no_turn}
 use Rattle.dsn_shapes.specs.Names.{first_place, place_index}
+use Rattle.dsn_shapes.specs.declared.table.TheConstants.{NO_NUMBER, NO_PADSTACK}
 
 -- ---- angles
 -- the degrees of a list such as `(rotate 180)`, where they are wanted
@@ -19,7 +20,7 @@ unfoldable pub degrees_in : Tree → Angle
 degrees_in t = unwrap_or (option_map_or word_angle (nth_word t 1) None) no_turn
 
 unfoldable pub degrees_refusals : Tree → List Refusal
-degrees_refusals t = option_map_or word_angle_refusal (nth_word t 1) (refused 9 (at_of t) ∷ [])
+degrees_refusals t = option_map_or word_angle_refusal (nth_word t 1) (refused NO_NUMBER (at_of t) ∷ [])
 
 -- the angle of a pin; one without such a list isn't turned
 unfoldable pub rotation_of : Tree → Angle
@@ -37,7 +38,7 @@ unfoldable pub pin_stack : List (List ℕ) → Tree → ℕ
 pin_stack stacks t = stack_at (first_place (name_of t 1) stacks)
 
 abbrev pub unknown_at : ℕ → Option ℕ → List Refusal
-unknown_at at None = refused 14 at ∷ []
+unknown_at at None = refused NO_PADSTACK at ∷ []
 unknown_at at (Some n) = []
 
 unfoldable pub unknown_stack : List (List ℕ) → Tree → List Refusal

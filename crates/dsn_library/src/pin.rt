@@ -7,6 +7,7 @@ ghost use Rattle.dsn_shapes.specs.Angles.{no_turn};
 ghost use Rattle.dsn_library.specs.Pins.{degrees_in, degrees_refusals, pin_place, pin_place_refusals, pin_stack};
 ghost use Rattle.dsn_library.specs.Pins.{rotation_of, rotation_refusals, unknown_stack};
 
+use dsn_shapes::table::{NO_NUMBER, NO_PADSTACK};
 use dsn_shapes::{
     ImagePin, NameIndex, Part, Refusal, angle_in, at_of, coord_at, name_of, note, nth_word,
     place_index, place_of, refused,
@@ -34,7 +35,7 @@ fn degrees_in(first: &mut Option<Refusal>, tree: &Tree) -> Angle
             None => no_turn(),
         },
         None => {
-            note(first, refused(9, at_of(tree)));
+            note(first, refused(NO_NUMBER, at_of(tree)));
             no_turn()
         }
     }
@@ -60,7 +61,7 @@ fn pin_stack(first: &mut Option<Refusal>, stacks: &NameIndex, pin: &Tree) -> u32
     match stacks.first_place(name_of(pin, 1)) {
         Some(place) => place_index(place),
         None => {
-            note(first, refused(14, place_of(pin, 1)));
+            note(first, refused(NO_PADSTACK, place_of(pin, 1)));
             0
         }
     }

@@ -12,6 +12,7 @@ use Rattle.dsn_shapes.specs.Lists.{at_of, text_of, lists}
 use Rattle.dsn_shapes.specs.Names.{first_place, place_index}
 use Rattle.dsn_shapes.specs.Rules.{rule_set, rule_refusals}
 use Rattle.dsn_network.specs.Words.{words_from, words_in, rules_in}
+use Rattle.dsn_shapes.specs.declared.table.TheConstants.{NO_PADSTACK}
 
 -- ---- the nets of a class, as in `(class POWER GND VCC (rule (width 400)))`
 -- a class list names a net by a word behind its own name
@@ -50,7 +51,7 @@ via_stack stacks w = stack_at (first_place (text_of w) stacks)
 
 -- a via's padstack that the library lacks
 abbrev pub unknown_via : List (List ℕ) → Tree → List Refusal
-unknown_via stacks w = if is_some (first_place (text_of w) stacks) then [] else refused 14 (at_of w) ∷ []
+unknown_via stacks w = if is_some (first_place (text_of w) stacks) then [] else refused NO_PADSTACK (at_of w) ∷ []
 
 unfoldable pub via_refusals : List (List ℕ) → List Tree → List Refusal
 via_refusals stacks ts = flat_map (unknown_via stacks) (words_in 1 ts)

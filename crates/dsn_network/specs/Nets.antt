@@ -20,6 +20,8 @@ use Rattle.dsn_shapes.specs.Rules.{rule_set, rule_refusals}
 use Rattle.dsn_network.specs.Words.{words_in, rules_in}
 use Rattle.dsn_network.specs.Splits.{split_of}
 use Rattle.dsn_network.specs.Classes.{class_of}
+use Rattle.dsn_shapes.specs.declared.table.TheConstants.{NO_PIN, PAST_LIMIT, TAKEN_PIN, TWO_PINS, UNPLACED_PIN}
+use Rattle.dsn_shapes.specs.declared.limits.TheConstants.{MOST_NETS}
 
 -- ---- references of pins
 -- the references of a net such as `(net GND (pins R1-1 R2-2))`
@@ -31,9 +33,9 @@ abbrev pub is_placed : Placing → PinRef → Bool
 is_placed placing p = option_map_or (λ (place : Place). is_some place.at) (slice_get placing.places p.place) false
 
 abbrev pub split_refusals : Placing → ℕ → Split → List Refusal
-split_refusals placing at Unknown = refused 16 at ∷ []
-split_refusals placing at (One p) = if is_placed placing p then [] else refused 19 at ∷ []
-split_refusals placing at Many = refused 17 at ∷ []
+split_refusals placing at Unknown = refused NO_PIN at ∷ []
+split_refusals placing at (One p) = if is_placed placing p then [] else refused UNPLACED_PIN at ∷ []
+split_refusals placing at Many = refused TWO_PINS at ∷ []
 
 unfoldable pub ref_refusals : Library → Placing → Tree → List Refusal
 ref_refusals lib placing w = split_refusals placing (at_of w) (split_of lib placing (text_of w))
@@ -72,7 +74,7 @@ first_net p nets = position_from (has_pin p) 0 nets
 -- net k names a pin that is an earlier net's
 abbrev pub split_taken : List (List PinRef) → ℕ → ℕ → Split → List Refusal
 split_taken nets k at Unknown = []
-split_taken nets k at (One p) = if is_at k (first_net p nets) then [] else refused 18 at ∷ []
+split_taken nets k at (One p) = if is_at k (first_net p nets) then [] else refused TAKEN_PIN at ∷ []
 split_taken nets k at Many = []
 
 unfoldable pub ref_taken : Library → Placing → List (List PinRef) → ℕ → Tree → List Refusal
@@ -106,10 +108,11 @@ net_refusals nm lib placing t =
 -- the first net past the limit
 abbrev pub net_past_limit : Option Tree → List Refusal
 net_past_limit None = []
-net_past_limit (Some t) = record { number = 23; at = at_of t; what = Nets; limit = 65536 } ∷ []
+net_past_limit (Some t) = record { number = PAST_LIMIT; at = at_of t; what = Nets; limit = MOST_NETS } ∷ []
 
 -- nets that are together the design's
 unfoldable pub nets_refusals : ℕ → Library → Placing → List Tree → List Refusal
 nets_refusals nm lib placing ts =
     same_names 1 ts
-    ++ (net_past_limit (slice_get ts 65536) ++ (flat_map (net_refusals nm lib placing) ts ++ pins_taken lib placing ts))
+    ++ (net_past_limit (slice_get ts MOST_NETS)
+    ++ (flat_map (net_refusals nm lib placing) ts ++ pins_taken lib placing ts))

@@ -12,6 +12,7 @@ use Rattle.dsn_shapes.specs.declared.parts.Placing.{Placing}
 use Rattle.dsn_shapes.specs.declared.parts.ReadClass.{ReadClass}
 use Rattle.dsn_shapes.specs.declared.parts.ReadNet.{ReadNet}
 use Rattle.dsn_shapes.specs.Fits.{IsRuleSetFit}
+use Rattle.dsn_shapes.specs.declared.limits.TheConstants.{MOST_NETS}
 
 -- each component's place among all is an index of 32 bits
 pub record HasFewPlaces (placing : Placing) : Type 0 where
@@ -43,6 +44,6 @@ pub record IsReadClassSound (stacks : ℕ) (c : ReadClass) : Type 0 where
 pub record IsNetworkSound (lib : Library) (placing : Placing) (network : Network) : Type 0 where
   pub nets : All (IsReadNetSound lib placing (length network.classes)) network.nets
   pub names : AllPairs (λ (a b : ReadNet). a.name ≢ b.name) network.nets
-  pub few : length network.nets ≤ 65536
+  pub few : length network.nets ≤ MOST_NETS
   pub apart : AllPairs (λ (a b : ReadNet). (r : PinRef) → Contains a.pins r → Contains b.pins r → ⊥) network.nets
   pub classes : All (IsReadClassSound (length lib.stacks)) network.classes

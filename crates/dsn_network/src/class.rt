@@ -12,6 +12,7 @@ ghost use Rattle.dsn_network.specs.Classes.{class_refusals, read_class_of, unkno
 ghost use Rattle.dsn_network.specs.Classes.{via_stack, vias_of};
 
 use crate::words::words_in;
+use dsn_shapes::table::NO_PADSTACK;
 use dsn_shapes::{
     NameIndex, ReadClass, Refusal, Trees, at_of, note, place_index, read_rules, refused, text_of,
 };
@@ -28,7 +29,7 @@ fn via_stack(first: &mut Option<Refusal>, word: &Tree, stacks: &NameIndex) -> u3
     match stacks.first_place(text_of(word)) {
         Some(place) => place_index(place),
         None => {
-            note(first, refused(14, at_of(word)));
+            note(first, refused(NO_PADSTACK, at_of(word)));
             0
         }
     }

@@ -17,6 +17,8 @@ use crate::classes::ClassIndex;
 use crate::owners::{Owners, each_once, refuse_taken};
 use crate::pins::PinIndex;
 use crate::refs::{read_refs, refs_of};
+use dsn_shapes::limits::MOST_NETS;
+use dsn_shapes::table::PAST_LIMIT;
 use dsn_shapes::{
     NameIndex, PinRef, ReadNet, Refusal, Trees, What, at_of, name_of, note, read_rules,
     refuse_quoted_name,
@@ -117,16 +119,16 @@ fn read_each_net(
 
 // Refuses the first net past the limit.
 fn refuse_past(first: &mut Option<Refusal>, lists: &Trees)
-    ensures { first.new ≡ noted first.old (net_past_limit (slice_get lists.now 65536)) }
+    ensures { first.new ≡ noted first.old (net_past_limit (slice_get lists.now MOST_NETS)) }
 {
-    if let Some(tree) = lists.get(65_536) {
+    if let Some(tree) = lists.get(MOST_NETS as usize) {
         note(
             first,
             Refusal {
-                number: 23,
+                number: PAST_LIMIT,
                 at: at_of(tree),
                 what: What::Nets,
-                limit: 65_536,
+                limit: MOST_NETS,
             },
         );
     }

@@ -12,6 +12,7 @@ ghost use Rattle.dsn_network.specs.Owners.{net_by, pins_of};
 
 use crate::pins::PinIndex;
 use crate::refs::{refs_of, split_at};
+use dsn_shapes::table::TAKEN_PIN;
 use dsn_shapes::{PinRef, ReadNet, Refusal, Split, at_of, note, refused};
 use dsn_tree::Tree;
 use geo_kernel::List;
@@ -121,7 +122,7 @@ fn refuse_ref(first: &mut Option<Refusal>, word: &Tree, k: usize, owners: &Owner
         Split::Unknown => {}
         Split::One(pin) => {
             if owners.net_of(pin) != Some(k) {
-                note(first, refused(18, at_of(word)));
+                note(first, refused(TAKEN_PIN, at_of(word)));
             }
         }
         Split::Many => {}

@@ -12,6 +12,7 @@ ghost use Rattle.dsn_network.specs.Splits.{split_of};
 use crate::pins::PinIndex;
 use crate::split::split_by;
 use crate::words::words_in;
+use dsn_shapes::table::{NO_PIN, TWO_PINS, UNPLACED_PIN};
 use dsn_shapes::{PinRef, Placing, Refusal, Split, Trees, at_of, note, refused, text_of};
 use dsn_tree::Tree;
 use geo_kernel::List;
@@ -48,17 +49,17 @@ fn read_ref(first: &mut Option<Refusal>, word: &Tree, pins: &PinIndex) -> Option
 {
     match split_at(word, pins) {
         Split::Unknown => {
-            note(first, refused(16, at_of(word)));
+            note(first, refused(NO_PIN, at_of(word)));
             None
         }
         Split::One(pin) => {
             if !is_placed(pins.placing, pin) {
-                note(first, refused(19, at_of(word)));
+                note(first, refused(UNPLACED_PIN, at_of(word)));
             }
             Some(pin)
         }
         Split::Many => {
-            note(first, refused(17, at_of(word)));
+            note(first, refused(TWO_PINS, at_of(word)));
             None
         }
     }

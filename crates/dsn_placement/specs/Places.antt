@@ -19,6 +19,7 @@ use Rattle.dsn_shapes.specs.Angles.{no_turn, word_angle, word_angle_refusal}
 use Rattle.dsn_placement.specs.declared.seat.Stand.{Stand}
 use Rattle.dsn_placement.specs.declared.place.Laid.{Laid}
 use Rattle.dsn_placement.specs.Copper.{is_image_placed}
+use Rattle.dsn_shapes.specs.declared.table.TheConstants.{BAD_FORM, NO_IMAGE, NO_NUMBER, OUT_OF_RANGE}
 
 -- ---- the words of a component
 -- one that has words behind its name has coordinates; without them it isn't placed
@@ -46,14 +47,14 @@ abbrev pub side_in : Tree → Option Bool
 side_in t = if says t 4 (codes "front") then Some false else (if says t 4 (codes "back") then Some true else None)
 
 abbrev pub side_refusal : Tree → List Refusal
-side_refusal t = if is_some (side_in t) then [] else refused 22 (at_of t) ∷ []
+side_refusal t = if is_some (side_in t) then [] else refused BAD_FORM (at_of t) ∷ []
 
 -- word 5
 abbrev pub angle_in : Tree → Option Angle
 angle_in t = option_map_or word_angle (nth_word t 5) None
 
 abbrev pub angle_refusal : Tree → List Refusal
-angle_refusal t = option_map_or word_angle_refusal (nth_word t 5) (refused 9 (at_of t) ∷ [])
+angle_refusal t = option_map_or word_angle_refusal (nth_word t 5) (refused NO_NUMBER (at_of t) ∷ [])
 
 abbrev pub turn_by : Bool → Point → Option Bool → Option Angle → Option Stand
 turn_by flip_last at None angle = None
@@ -96,7 +97,7 @@ index_of None = 0
 index_of (Some n) = place_index n
 
 abbrev pub unknown_at : ℕ → Option ℕ → List Refusal
-unknown_at at None = refused 15 at ∷ []
+unknown_at at None = refused NO_IMAGE at ∷ []
 unknown_at at (Some n) = []
 
 -- how many pins, and how many items, a placed component has: an item for each keepout and each pin
@@ -113,7 +114,8 @@ items_of (Some i) = capped (length i.bans + length i.pins)
 abbrev pub far_refusal : ℕ → List Stack → Option Image → Option Stand → List Refusal
 far_refusal at stacks None stand = []
 far_refusal at stacks (Some image) None = []
-far_refusal at stacks (Some image) (Some stand) = if is_image_placed stand stacks image then [] else refused 10 at ∷ []
+far_refusal at stacks (Some image) (Some stand) = if is_image_placed stand stacks image then []
+    else refused OUT_OF_RANGE at ∷ []
 
 unfoldable pub place_refusals : ℕ → Bool → Library → Option ℕ → Tree → List Refusal
 place_refusals nm flip_last lib image t =

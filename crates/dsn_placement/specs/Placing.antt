@@ -13,6 +13,8 @@ use Rattle.dsn_shapes.specs.Lists.{capped, left_out_in, lists, notes_in}
 use Rattle.dsn_shapes.specs.Names.{same_names}
 use Rattle.dsn_placement.specs.declared.place.Laid.{Laid}
 use Rattle.dsn_placement.specs.Places.{component_laid, component_refusals, places_in}
+use Rattle.dsn_shapes.specs.declared.table.TheConstants.{PAST_LIMIT}
+use Rattle.dsn_shapes.specs.declared.limits.TheConstants.{MOST_ITEMS, MOST_PINS}
 
 -- ---- lists
 abbrev pub placements : Tree → List Tree
@@ -43,7 +45,7 @@ adds Vertices l = 0
 abbrev pub past_limit : What → ℕ → ℕ → List Laid → List Refusal
 past_limit what limit n [] = []
 past_limit what limit n (l ∷ ls) = if nat_lt limit (n + adds what l)
-    then record { number = 23; at = l.at; what = what; limit = limit } ∷ []
+    then record { number = PAST_LIMIT; at = l.at; what = what; limit = limit } ∷ []
     else past_limit what limit (n + adds what l) ls
 
 -- the items of the structure: its boundaries and its keepouts
@@ -52,7 +54,7 @@ items_before st = capped (length st.bounds + length st.bans)
 
 -- where a component passes both limits, the pins count
 unfoldable pub limit_refusals : ℕ → List Laid → List Refusal
-limit_refusals before ls = past_limit Pins 262144 0 ls ++ past_limit Items 1048576 before ls
+limit_refusals before ls = past_limit Pins MOST_PINS 0 ls ++ past_limit Items MOST_ITEMS before ls
 
 -- ---- the whole
 unfoldable pub all_laid : ℕ → Structure → Library → Tree → List Laid

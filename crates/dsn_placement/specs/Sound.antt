@@ -12,6 +12,7 @@ use Rattle.dsn_shapes.specs.declared.parts.Placing.{Placing}
 use Rattle.dsn_shapes.specs.declared.parts.Structure.{Structure}
 use Rattle.dsn_placement.specs.Copper.{is_image_placed, stand_of}
 use Rattle.dsn_placement.specs.Places.{counted_by, pins_of}
+use Rattle.dsn_shapes.specs.declared.limits.TheConstants.{MOST_PINS}
 
 -- each image's place in the library is an index of 32 bits
 pub record HasFewImages (lib : Library) : Type 0 where
@@ -38,4 +39,4 @@ placed_pins lib p = counted_by (is_some p.at) (pins_of (slice_get lib.images p.i
 pub record IsPlacingSound (st : Structure) (lib : Library) (placing : Placing) : Type 0 where
   pub places : All (IsPlaceSound st.flip_last lib) placing.places
   pub names : AllPairs (λ (a b : Place). a.name ≢ b.name) placing.places
-  pub few_pins : sum_by (placed_pins lib) placing.places ≤ 262144
+  pub few_pins : sum_by (placed_pins lib) placing.places ≤ MOST_PINS

@@ -20,6 +20,7 @@ ghost use Rattle.dsn_placement.specs.Places.{stand_refusals, turn_by, unknown_at
 
 use crate::reach::is_image_placed;
 use crate::seat::Stand;
+use dsn_shapes::table::{BAD_FORM, NO_IMAGE, NO_NUMBER, OUT_OF_RANGE};
 use dsn_shapes::{
     Image, Library, NameIndex, Place, Refusal, Trees, angle_in as word_angle, at_of, coord_in,
     name_of, note, nth_word, place_index, place_of, refuse_quoted_name, refused, says,
@@ -55,7 +56,7 @@ fn coord_word(first: &mut Option<Refusal>, tree: &Tree, i: usize, s: Scale) -> O
     match nth_word(tree, i) {
         Some(word) => coord_in(first, word, s),
         None => {
-            note(first, refused(9, at_of(tree)));
+            note(first, refused(NO_NUMBER, at_of(tree)));
             None
         }
     }
@@ -95,7 +96,7 @@ fn side_in(first: &mut Option<Refusal>, tree: &Tree) -> Option<bool>
     } else if says(tree, 4, b"back") {
         Some(true)
     } else {
-        note(first, refused(22, at_of(tree)));
+        note(first, refused(BAD_FORM, at_of(tree)));
         None
     }
 }
@@ -108,7 +109,7 @@ fn angle_in(first: &mut Option<Refusal>, tree: &Tree) -> Option<Angle>
     match nth_word(tree, 5) {
         Some(word) => word_angle(first, word),
         None => {
-            note(first, refused(9, at_of(tree)));
+            note(first, refused(NO_NUMBER, at_of(tree)));
             None
         }
     }
@@ -196,7 +197,7 @@ fn refuse_far(
     if let Some(image) = image {
         if let Some(stand) = stand {
             if !is_image_placed(stand, &library.stacks, image) {
-                note(first, refused(10, at));
+                note(first, refused(OUT_OF_RANGE, at));
             }
         }
     }
@@ -322,7 +323,7 @@ fn refuse_unknown(first: &mut Option<Refusal>, at: u64, image: Option<usize>)
     ensures { first.new ≡ noted first.old (unknown_at at image) }
 {
     if image.is_none() {
-        note(first, refused(15, at));
+        note(first, refused(NO_IMAGE, at));
     }
 }
 

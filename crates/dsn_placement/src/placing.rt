@@ -14,6 +14,8 @@ ghost use Rattle.dsn_placement.specs.Placing.{placements, placing_of};
 ghost use Rattle.dsn_placement.specs.Sound.{HasFewImages, IsPlacingSound};
 
 use crate::place::{Around, Laid, read_components};
+use dsn_shapes::limits::{MOST_ITEMS, MOST_PINS};
+use dsn_shapes::table::PAST_LIMIT;
 use dsn_shapes::{
     Library, ListKind, NameIndex, Place, Placing, ReadFault, Refusal, Structure, Trees, What,
     names_of, note, pass_over,
@@ -81,7 +83,7 @@ fn refuse_past(first: &mut Option<Refusal>, what: What, limit: u64, before: u64,
             note(
                 first,
                 Refusal {
-                    number: 23,
+                    number: PAST_LIMIT,
                     at: component.at,
                     what,
                     limit,
@@ -96,8 +98,8 @@ fn refuse_past(first: &mut Option<Refusal>, what: What, limit: u64, before: u64,
 fn refuse_many(first: &mut Option<Refusal>, before: u64, laid: &[Laid])
     ensures { first.new ≡ noted first.old (limit_refusals before laid.now) }
 {
-    refuse_past(first, What::Pins, 262_144, 0, laid);
-    refuse_past(first, What::Items, 1_048_576, before, laid);
+    refuse_past(first, What::Pins, MOST_PINS, 0, laid);
+    refuse_past(first, What::Items, MOST_ITEMS, before, laid);
 }
 
 fn items_before(st: &Structure) -> u64

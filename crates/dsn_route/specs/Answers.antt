@@ -25,6 +25,7 @@ use Rattle.dsn_route.specs.Lines.{max_bytes, number_of, usage_line, refused_line
 use Rattle.dsn_route.specs.Lines.{over_line, nodes_line}
 use Rattle.dsn_route.specs.Texts.{IsRefused, IsOverLimit}
 use Rattle.dsn_route.specs.Commands.{mesh_of, run_of, IsText, is_short}
+use Rattle.dsn_shapes.specs.declared.table.TheConstants.{NO_BOUNDARY}
 
 -- ---- calls that stop before they route
 -- the number of the refused words, and the line that says so
@@ -41,7 +42,7 @@ pub record IsRefusal (command : Command) (desk : DeskState) (line : List ℕ) : 
   pub is_text : IsText command desk text
   pub refused : IsRefused text number place
   pub from : 1 ≤ number
-  pub to : number ≤ 24
+  pub to : number ≤ NO_BOUNDARY
   pub line_is : line ≡ refused_line number place
 
 -- a text that passes the limit on what it counts, which is something, and the line that says so

@@ -5,10 +5,11 @@ use Rattle.dsn_shapes.specs.declared.refusal.What.{What}
 use Rattle.dsn_shapes.specs.declared.refusal.What.TheVariants.{Nothing, Layers, Nets, Pins, Items, Vertices}
 use Rattle.route_words.specs.declared.command.WordFault.{WordFault}
 use Rattle.route_words.specs.declared.command.WordFault.TheVariants.{NoCommand, UnknownCommand, Usage, Memory}
+use Rattle.dsn_shapes.specs.declared.limits.TheConstants.{MOST_BYTES}
 
 -- the most bytes of an input
 abbrev pub max_bytes : ℕ
-max_bytes = 33554432
+max_bytes = MOST_BYTES
 
 -- the number by which refused words are reported; want of memory is no fault of the words
 abbrev pub number_of : WordFault → Option ℕ

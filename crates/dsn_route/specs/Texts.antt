@@ -10,15 +10,17 @@ use Rattle.dsn_shapes.specs.declared.refusal.DesignFault.{DesignFault}
 use Rattle.dsn_shapes.specs.declared.refusal.DesignFault.TheVariants as design
 use Rattle.dsn_shapes.specs.Refusals.{refused}
 use Rattle.dsn_design.specs.Reading.{HasRefusal}
+use Rattle.dsn_shapes.specs.declared.table.TheConstants.{QUOTE_OPEN, BAD_QUOTE_BYTE, UNCLOSED, SURPLUS}
+use Rattle.dsn_shapes.specs.declared.table.TheConstants.{TOO_DEEP, NO_LIST, PAST_LIMIT}
 
 -- the numbers of the faults of a tree, each at its byte offset; want of memory is no fault of a text
 abbrev pub tree_refusal : TreeFault → Option Refusal
-tree_refusal (QuoteOpen at) = Some (refused 1 at)
-tree_refusal (BadQuoteByte at) = Some (refused 2 at)
-tree_refusal (Unclosed at) = Some (refused 3 at)
-tree_refusal (Surplus at) = Some (refused 4 at)
-tree_refusal (TooDeep at) = Some (refused 5 at)
-tree_refusal Empty = Some (refused 6 0)
+tree_refusal (QuoteOpen at) = Some (refused QUOTE_OPEN at)
+tree_refusal (BadQuoteByte at) = Some (refused BAD_QUOTE_BYTE at)
+tree_refusal (Unclosed at) = Some (refused UNCLOSED at)
+tree_refusal (Surplus at) = Some (refused SURPLUS at)
+tree_refusal (TooDeep at) = Some (refused TOO_DEEP at)
+tree_refusal Empty = Some (refused NO_LIST 0)
 tree_refusal (Memory e) = None
 
 abbrev pub refusal_of : DesignFault → Option Refusal
@@ -38,7 +40,7 @@ LacksDesign text r = IsMisspelt text r ⊎ HasRefusal text r
 
 -- the number of a limit that is passed
 abbrev pub limit_number : ℕ
-limit_number = 23
+limit_number = PAST_LIMIT
 
 -- the text is refused with this number at this place, a byte offset
 pub record IsRefused (text : List ℕ) (number place : ℕ) : Type 0 where

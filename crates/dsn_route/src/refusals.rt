@@ -9,24 +9,24 @@ use crate::Status;
 use crate::lines::{say_over, say_refused};
 use crate::status::ended;
 use desk_io::Sink;
+use dsn_shapes::table::{
+    BAD_QUOTE_BYTE, NO_LIST, PAST_LIMIT, QUOTE_OPEN, SURPLUS, TOO_DEEP, UNCLOSED,
+};
 use dsn_shapes::{DesignFault, Refusal, refused};
 use dsn_tree::TreeFault;
 use std::alloc::Global;
-
-/// The number of the refusal for a limit that is passed.
-const LIMIT_NUMBER: u8 = 23;
 
 // The faults of a tree have the numbers 1 to 6; want of memory has none.
 fn tree_refusal(fault: &TreeFault) -> Option<Refusal>
     ensures { result ≡ tree_refusal fault.now }
 {
     match fault {
-        TreeFault::QuoteOpen { at } => Some(refused(1, *at)),
-        TreeFault::BadQuoteByte { at } => Some(refused(2, *at)),
-        TreeFault::Unclosed { at } => Some(refused(3, *at)),
-        TreeFault::Surplus { at } => Some(refused(4, *at)),
-        TreeFault::TooDeep { at } => Some(refused(5, *at)),
-        TreeFault::Empty => Some(refused(6, 0)),
+        TreeFault::QuoteOpen { at } => Some(refused(QUOTE_OPEN, *at)),
+        TreeFault::BadQuoteByte { at } => Some(refused(BAD_QUOTE_BYTE, *at)),
+        TreeFault::Unclosed { at } => Some(refused(UNCLOSED, *at)),
+        TreeFault::Surplus { at } => Some(refused(SURPLUS, *at)),
+        TreeFault::TooDeep { at } => Some(refused(TOO_DEEP, *at)),
+        TreeFault::Empty => Some(refused(NO_LIST, 0)),
         TreeFault::Memory(_) => None,
     }
 }
@@ -46,7 +46,7 @@ pub fn refusal_of(fault: &DesignFault) -> Option<Refusal>
 pub fn end_refused<R: Sink>(alloc: Global, refusal: Refusal, report: &mut R) -> Status
     ensures { EndsBy (line_of refusal) (due_of refusal) (R.state report.old) (R.state report.new) result }
 {
-    if refusal.number == LIMIT_NUMBER {
+    if refusal.number == PAST_LIMIT {
         ended(
             say_over(alloc, refusal.what, refusal.limit, report),
             Status::Limit,

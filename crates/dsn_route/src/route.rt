@@ -25,6 +25,7 @@ use crate::write::write_out;
 use board_gen::design_text;
 use desk_io::{Desk, DeskFail, Gate, Sink};
 use dsn_design::{one_outcome, read_design};
+use dsn_shapes::limits::MOST_BYTES;
 use pcb_model::Design;
 use route_lattice::{Lattice, LatticeFault};
 use route_run::run_nets;
@@ -34,7 +35,7 @@ use std::sync::Wait;
 use std::thread::Threads;
 
 /// The most bytes of an input.
-pub const MAX_BYTES: u64 = 33_554_432;
+pub const MAX_BYTES: u64 = MOST_BYTES;
 
 /// How a generated board is routed.
 const DEFAULT_KNOBS: Knobs = Knobs {

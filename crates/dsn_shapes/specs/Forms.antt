@@ -1,7 +1,7 @@
 -- The forms of a shape, their numbers and their vertices.
-use Rattle.std.specs.Prelude.{◌==◌, ◌&&◌, ◌||◌, ◌+◌, ◌-◌, ◌%◌, nat_le, nat_lt, ℕ, ℤ, pos, Bool, false, List, [], ◌∷◌}
+use Rattle.std.specs.Prelude.{◌*◌, ◌==◌, ◌&&◌, ◌||◌, ◌+◌, ◌-◌, ◌%◌, nat_le, nat_lt, ℕ, ℤ, pos, Bool, false}
 use Rattle.std.specs.Prelude.{◌++◌, Option, Some, None, codes, length, take, drop, map, slice_get, unwrap_or}
-use Rattle.std.specs.Prelude.{if◌then◌else◌}
+use Rattle.std.specs.Prelude.{List, [], ◌∷◌, if◌then◌else◌}
 use Rattle.std.specs.Ordering.{int_eq}
 use Rattle.std.specs.List.{flat_map}
 use Rattle.dsn_tree.specs.declared.tree.Tree.{Tree}
@@ -17,6 +17,8 @@ use Rattle.dsn_shapes.specs.Refusals.{refused}
 use Rattle.dsn_shapes.specs.Lists.{at_of, words_of, name_of, place_of}
 use Rattle.dsn_shapes.specs.Numbers.{word_coord, word_coord_refusal, extent_at, extent_refusal}
 use Rattle.dsn_shapes.specs.Layers.{layers_of, layer_refusal}
+use Rattle.dsn_shapes.specs.declared.table.TheConstants.{BAD_FORM, PAST_LIMIT}
+use Rattle.dsn_shapes.specs.declared.limits.TheConstants.{MOST_VERTICES}
 
 -- ---- the numbers of a form
 abbrev pub form_of : Tree → Option Form
@@ -79,7 +81,7 @@ outline_of nm layers form t = if has_count form (length (words_of t))
 unfoldable pub outline_refusals : ℕ → List Layer → Form → Tree → List Refusal
 outline_refusals nm layers form t = if has_count form (length (words_of t))
     then layer_refusal layers t ++ (width_refusal nm form t ++ flat_map (word_coord_refusal nm) (coord_words form t))
-    else refused 22 (at_of t) ∷ []
+    else refused BAD_FORM (at_of t) ∷ []
 
 -- ---- vertices
 -- the numbers two by two; a number that is refused counts as 0
@@ -110,8 +112,14 @@ ring_of cs = if is_closed cs then take (length cs - 2) cs else cs
 
 -- more than 4,096 vertices are refused at the first that is too many
 abbrev pub vertex_limit : Form → Tree → ℕ → List Refusal
-vertex_limit form t count = if nat_lt 4096 count
-    then record { number = 23; at = place_of t (first_coord form + 8192); what = Vertices; limit = 4096 } ∷ [] else []
+vertex_limit form t count = if nat_lt MOST_VERTICES count
+    then record {
+      number = PAST_LIMIT;
+      at = place_of t (first_coord form + 2 * MOST_VERTICES);
+      what = Vertices;
+      limit = MOST_VERTICES;
+    } ∷ [] else []
 
 abbrev pub ring_refusals : Form → Tree → ℕ → List Refusal
-ring_refusals form t count = (if nat_lt count 3 then refused 22 (at_of t) ∷ [] else []) ++ vertex_limit form t count
+ring_refusals form t count =
+    (if nat_lt count 3 then refused BAD_FORM (at_of t) ∷ [] else []) ++ vertex_limit form t count

@@ -9,6 +9,8 @@ use Rattle.dsn_shapes.specs.declared.layers.Group.TheVariants.{Named, All, Signa
 use Rattle.dsn_shapes.specs.declared.refusal.Refusal.{Refusal}
 use Rattle.dsn_shapes.specs.Refusals.{refused}
 use Rattle.dsn_shapes.specs.Lists.{name_of, place_of}
+use Rattle.dsn_shapes.specs.declared.table.TheConstants.{NO_LAYER}
+use Rattle.dsn_shapes.specs.declared.limits.TheConstants.{MOST_LAYERS}
 
 -- bit i is set where layer i passes the test
 abbrev pub mask : (Layer → Bool) → List Layer → ℕ
@@ -32,13 +34,13 @@ group_of word =
 unfoldable pub named_by : List Layer → List ℕ → Group
 named_by layers word = if list_any (stands_for Named word) layers then Named else group_of word
 
--- its layers, of the first 32
+-- its layers, of the first ones that there may be
 unfoldable pub layers_of : List Layer → List ℕ → ℕ
-layers_of layers word = mask (stands_for (named_by layers word) word) (take 32 layers)
+layers_of layers word = mask (stands_for (named_by layers word) word) (take MOST_LAYERS layers)
 
 unfoldable pub names_some : List Layer → List ℕ → Bool
 names_some layers word = list_any (stands_for (named_by layers word) word) layers
 
 -- the layer word of a form
 abbrev pub layer_refusal : List Layer → Tree → List Refusal
-layer_refusal layers t = if names_some layers (name_of t 1) then [] else refused 12 (place_of t 1) ∷ []
+layer_refusal layers t = if names_some layers (name_of t 1) then [] else refused NO_LAYER (place_of t 1) ∷ []

@@ -13,6 +13,7 @@ use Rattle.dsn_shapes.specs.declared.known.ListKind.{ListKind}
 use Rattle.dsn_shapes.specs.declared.refusal.Refusal.{Refusal}
 use Rattle.dsn_shapes.specs.Known.{idle_in, read_in}
 use Rattle.dsn_shapes.specs.Refusals.{refused}
+use Rattle.dsn_shapes.specs.declared.table.TheConstants.{LEFT_OUT}
 
 abbrev pub at_in : Tree-F Tree → ℕ
 at_in (layer.Word at text) = at
@@ -62,7 +63,7 @@ abbrev pub has_quote : List ℕ → Bool
 has_quote text = list_any (λ b. b == 34) text
 
 abbrev pub quoted_name : Tree → ℕ → List Refusal
-quoted_name t i = if has_quote (name_of t i) then refused 21 (place_of t i) ∷ [] else []
+quoted_name t i = if has_quote (name_of t i) then refused LEFT_OUT (place_of t i) ∷ [] else []
 
 -- a list that the profile leaves out
 abbrev pub is_left_out : Tree → Bool
@@ -75,7 +76,7 @@ is_left_out t =
     (is_headed (codes "absolute") t && says t 1 (codes "on"))))))
 
 abbrev pub left_out : Tree → List Refusal
-left_out t = if is_left_out t then refused 21 (place_of t 0) ∷ [] else []
+left_out t = if is_left_out t then refused LEFT_OUT (place_of t 0) ∷ [] else []
 
 -- what references to trees, and to heads, point to
 abbrev pub trees_of : List (Bor Tree) → List Tree

@@ -8,6 +8,7 @@ use Rattle.dsn_shapes.specs.declared.parts.Stack.{Stack}
 use Rattle.dsn_shapes.specs.declared.refusal.Refusal.{Refusal}
 use Rattle.dsn_shapes.specs.Refusals.{refused}
 use Rattle.dsn_shapes.specs.Lists.{name_of, place_of}
+use Rattle.dsn_shapes.specs.declared.table.TheConstants.{NAMED_TWICE}
 
 -- the names that word i of these lists gives
 abbrev pub names_at : ℕ → List Tree → List (List ℕ)
@@ -32,7 +33,7 @@ is_at k (Some n) = k == n
 abbrev pub given_again : ℕ → List (List ℕ) → ℕ → List Tree → List Refusal
 given_again i names k [] = []
 given_again i names k (t ∷ ts) =
-    (if is_at k (first_place (name_of t i) names) then [] else refused 13 (place_of t i) ∷ [])
+    (if is_at k (first_place (name_of t i) names) then [] else refused NAMED_TWICE (place_of t i) ∷ [])
     ++ given_again i names (k + 1) ts
 
 -- names that word i of these lists gives twice

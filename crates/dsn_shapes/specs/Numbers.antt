@@ -8,6 +8,7 @@ use Rattle.dsn_units.specs.Length.{coord_of, extent_of}
 use Rattle.dsn_shapes.specs.declared.refusal.Refusal.{Refusal}
 use Rattle.dsn_shapes.specs.Refusals.{refused}
 use Rattle.dsn_shapes.specs.Lists.{at_of, text_of, nth_word}
+use Rattle.dsn_shapes.specs.declared.table.TheConstants.{NO_NUMBER, OUT_OF_RANGE}
 
 -- the number that a rule makes of a decimal, where there is one and it is within its limit
 abbrev pub number_by : {V : Type 0} → (Decimal → Option V) → Option Decimal → Option V
@@ -15,11 +16,11 @@ number_by rule None = None
 number_by rule (Some d) = rule d
 
 abbrev pub limit_refusal : {V : Type 0} → ℕ → Option V → List Refusal
-limit_refusal at None = refused 10 at ∷ []
+limit_refusal at None = refused OUT_OF_RANGE at ∷ []
 limit_refusal at (Some v) = []
 
 abbrev pub refusal_by : {V : Type 0} → (Decimal → Option V) → ℕ → Option Decimal → List Refusal
-refusal_by rule at None = refused 9 at ∷ []
+refusal_by rule at None = refused NO_NUMBER at ∷ []
 refusal_by rule at (Some d) = limit_refusal at (rule d)
 
 -- a word as a coordinate in nm, and as a width, diameter or clearance
@@ -41,10 +42,10 @@ abbrev pub coord_at : ℕ → Tree → ℕ → ℤ
 coord_at nm t i = unwrap_or (option_map_or (word_coord nm) (nth_word t i) None) (pos 0)
 
 abbrev pub coord_refusal : ℕ → Tree → ℕ → List Refusal
-coord_refusal nm t i = option_map_or (word_coord_refusal nm) (nth_word t i) (refused 9 (at_of t) ∷ [])
+coord_refusal nm t i = option_map_or (word_coord_refusal nm) (nth_word t i) (refused NO_NUMBER (at_of t) ∷ [])
 
 abbrev pub extent_at : ℕ → Tree → ℕ → ℕ
 extent_at nm t i = unwrap_or (option_map_or (word_extent nm) (nth_word t i) None) 0
 
 abbrev pub extent_refusal : ℕ → Tree → ℕ → List Refusal
-extent_refusal nm t i = option_map_or (word_extent_refusal nm) (nth_word t i) (refused 9 (at_of t) ∷ [])
+extent_refusal nm t i = option_map_or (word_extent_refusal nm) (nth_word t i) (refused NO_NUMBER (at_of t) ∷ [])

@@ -17,6 +17,7 @@ use Rattle.dsn_shapes.specs.declared.rules.Pairing.TheVariants.{Plain, Unknown, 
 use Rattle.dsn_shapes.specs.Refusals.{refused}
 use Rattle.dsn_shapes.specs.Lists.{lists, name_of, nth_word, place_of, notes_in, left_out_in}
 use Rattle.dsn_shapes.specs.Numbers.{word_extent, extent_at, extent_refusal}
+use Rattle.dsn_shapes.specs.declared.table.TheConstants.{NO_NUMBER}
 
 -- ---- which pairs a clearance is for
 abbrev pub kind_of : List ℕ → Option Kind
@@ -97,8 +98,8 @@ is_zero (Some n) = n == 0
 
 -- a width of 0 is no width
 abbrev pub zero_width : ℕ → Tree → List Refusal
-zero_width nm t = if is_zero (option_map_or (word_extent nm) (nth_word t 1) None) then refused 9 (place_of t 1) ∷ []
-    else []
+zero_width nm t = if is_zero (option_map_or (word_extent nm) (nth_word t 1) None)
+    then refused NO_NUMBER (place_of t 1) ∷ [] else []
 
 abbrev pub width_refusals : ℕ → Tree → List Refusal
 width_refusals nm t = extent_refusal nm t 1 ++ zero_width nm t

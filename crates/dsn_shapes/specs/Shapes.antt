@@ -20,12 +20,14 @@ use Rattle.dsn_shapes.specs.Refusals.{refused}
 use Rattle.dsn_shapes.specs.Lists.{at_of, is_word, place_of, has_head}
 use Rattle.dsn_shapes.specs.Forms.{form_of, outline_of, outline_refusals, points_of, ring_of, ring_refusals}
 use Rattle.dsn_shapes.specs.Forms.{vertex_limit}
+use Rattle.dsn_shapes.specs.declared.table.TheConstants.{BAD_FORM, LEFT_OUT}
 
 -- ---- one form
 -- a list that is no form: two are left out by name
 abbrev pub no_form : Tree → List Refusal
-no_form t = if is_headed (codes "qarc") t || is_headed (codes "polyline_path") t then refused 21 (place_of t 0) ∷ []
-    else refused 22 (at_of t) ∷ []
+no_form t = if is_headed (codes "qarc") t || is_headed (codes "polyline_path") t
+    then refused LEFT_OUT (place_of t 0) ∷ []
+    else refused BAD_FORM (at_of t) ∷ []
 
 -- the vertices of a form as it stands
 abbrev pub spine_of : Form → Outline → Spine
@@ -72,7 +74,7 @@ abbrev pub rim_of : ℕ → List Layer → Form → Tree → Rim
 rim_of nm layers form t = if is_circle form then empty_rim else rim (outline_of nm layers form t)
 
 abbrev pub rim_refusals : ℕ → List Layer → Form → Tree → List Refusal
-rim_refusals nm layers form t = if is_circle form then refused 22 (at_of t) ∷ []
+rim_refusals nm layers form t = if is_circle form then refused BAD_FORM (at_of t) ∷ []
     else outline_refusals nm layers form t
     ++ ring_refusals form t (length (points_of (ring_of (outline_of nm layers form t).coords)))
 
@@ -100,7 +102,7 @@ abbrev pub form_in : Tree → Option Tree
 form_in t = find (has_head form_heads) (items_of t)
 
 unfoldable pub refusals_in : (Tree → List Refusal) → Tree → List Refusal
-refusals_in refusals t = option_map_or refusals (form_in t) (refused 22 (at_of t) ∷ [])
+refusals_in refusals t = option_map_or refusals (form_in t) (refused BAD_FORM (at_of t) ∷ [])
 
 -- the shape of a list such as `(shape (circle F.Cu 1000))`
 unfoldable pub held_shape : ℕ → List Layer → Tree → LayerShape
@@ -150,5 +152,5 @@ unfoldable pub bound_of : ℕ → List Layer → Tree → LayerShape
 bound_of nm layers t = area_of (map (loop_of nm layers) (bound_forms t))
 
 unfoldable pub bound_refusals : ℕ → List Layer → Tree → List Refusal
-bound_refusals nm layers t = (if length (bound_forms t) == 0 then refused 22 (at_of t) ∷ [] else [])
+bound_refusals nm layers t = (if length (bound_forms t) == 0 then refused BAD_FORM (at_of t) ∷ [] else [])
     ++ flat_map (loop_refusals nm layers) (bound_forms t)

@@ -7,6 +7,7 @@ ghost use Rattle.dsn_shapes.specs.Refusals.{noted};
 
 use crate::lists::{at_of, text_of};
 use crate::refusal::{Refusal, note, refused};
+use crate::table::{NO_NUMBER, OUT_OF_RANGE};
 use dsn_tree::Tree;
 use dsn_units::{Angle, read_decimal};
 
@@ -17,13 +18,13 @@ pub fn angle_in(first: &mut Option<Refusal>, word: &Tree) -> Option<Angle>
     ensures reduced { IfSome result (λ a. a.microdegrees < 360000000) }
 {
     let Some(decimal) = read_decimal(text_of(word)) else {
-        note(first, refused(9, at_of(word)));
+        note(first, refused(NO_NUMBER, at_of(word)));
         return None;
     };
     match Angle::of(&decimal) {
         Ok(angle) => Some(angle),
         Err(_) => {
-            note(first, refused(10, at_of(word)));
+            note(first, refused(OUT_OF_RANGE, at_of(word)));
             None
         }
     }

@@ -17,6 +17,7 @@ use crate::part::{Part, read_each};
 use crate::parts::{BanShape, Layer, LayerShape};
 use crate::refusal::{Refusal, note, refused};
 use crate::shape::{Rim, note_held_loop, note_held_shape, note_loop};
+use crate::table::BAD_FORM;
 use crate::trees::Trees;
 use dsn_tree::{Tree, is_headed, items};
 use dsn_units::Scale;
@@ -214,7 +215,7 @@ fn note_bound(
 {
     let forms = bound_forms(alloc, tree)?;
     if forms.len() == 0 {
-        note(first, refused(22, at_of(tree)));
+        note(first, refused(BAD_FORM, at_of(tree)));
     }
     let rims = read_each(alloc, &Loops { scale, layers }, first, &forms)?;
     area_of(alloc, rims.as_slice())

@@ -11,10 +11,12 @@ ghost use Rattle.dsn_shapes.specs.Numbers.{word_coord, word_coord_refusal};
 ghost use Rattle.dsn_shapes.specs.Refusals.{noted};
 
 use crate::layers::read_layers;
+use crate::limits::MOST_VERTICES;
 use crate::lists::{at_of, place_of};
 use crate::numbers::{coord_in, extent_at};
 use crate::parts::Layer;
 use crate::refusal::{Refusal, What, note, refused};
+use crate::table::{BAD_FORM, PAST_LIMIT};
 use crate::trees::Trees;
 use dsn_tree::{Tree, is_headed};
 use dsn_units::Scale;
@@ -154,7 +156,7 @@ pub(crate) fn read_outline(
 {
     let words = Trees::words(alloc, tree)?;
     if !has_count(form, words.len()) {
-        note(first, refused(22, at_of(tree)));
+        note(first, refused(BAD_FORM, at_of(tree)));
         return Ok(Outline {
             layers: 0,
             width: 0,
@@ -217,8 +219,8 @@ pub(crate) fn ring_of(coords: &[Option<i64>]) -> &[Option<i64>]
     }
 }
 
-// The most vertices of one shape.
-const MOST_VERTICES: u64 = 4_096;
+// The words of as many vertices as a shape may have.
+const MOST_COORDS: usize = 2 * MOST_VERTICES as usize;
 
 /// Refuses the first vertex past the limit.
 pub(crate) fn refuse_many(first: &mut Option<Refusal>, form: Form, tree: &Tree, count: usize)
@@ -228,8 +230,8 @@ pub(crate) fn refuse_many(first: &mut Option<Refusal>, form: Form, tree: &Tree, 
         note(
             first,
             Refusal {
-                number: 23,
-                at: place_of(tree, first_coord(form) + 8_192),
+                number: PAST_LIMIT,
+                at: place_of(tree, first_coord(form) + MOST_COORDS),
                 what: What::Vertices,
                 limit: MOST_VERTICES,
             },
@@ -242,7 +244,7 @@ pub(crate) fn refuse_ring(first: &mut Option<Refusal>, form: Form, tree: &Tree, 
     ensures { first.new ≡ noted first.old (ring_refusals form tree.now count) }
 {
     if count < 3 {
-        note(first, refused(22, at_of(tree)));
+        note(first, refused(BAD_FORM, at_of(tree)));
     }
     refuse_many(first, form, tree, count);
 }

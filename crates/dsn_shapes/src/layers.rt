@@ -7,9 +7,11 @@ ghost use Rattle.dsn_shapes.specs.Layers.{group_of, layer_refusal, layers_of, ma
 ghost use Rattle.dsn_shapes.specs.Lists.{name_of};
 ghost use Rattle.dsn_shapes.specs.Refusals.{noted};
 
+use crate::limits::MOST_LAYERS;
 use crate::lists::{name_of, place_of};
 use crate::parts::Layer;
 use crate::refusal::{Refusal, note, refused};
+use crate::table::NO_LAYER;
 use dsn_tree::Tree;
 
 /// What a word stands for: the layers of a name, all, the signal or the power layers.
@@ -78,15 +80,15 @@ fn mask(group: Group, word: &[u8], layers: &[Layer]) -> u32
     }
 }
 
-// The first 32 layers.
+// As many of the first layers as there may be.
 fn first_layers(layers: &[Layer]) -> &[Layer]
-    ensures value { result.now ≡ take 32 layers.now }
-    ensures few { length result.now ≤ 32 }
+    ensures value { result.now ≡ take MOST_LAYERS layers.now }
+    ensures few { length result.now ≤ MOST_LAYERS }
 {
-    if layers.len() <= 32 {
+    if layers.len() <= MOST_LAYERS as usize {
         return layers;
     }
-    let (front, _) = layers.split_at(32);
+    let (front, _) = layers.split_at(MOST_LAYERS as usize);
     front
 }
 
@@ -111,7 +113,7 @@ pub(crate) fn read_layers(first: &mut Option<Refusal>, tree: &Tree, layers: &[La
 {
     let word = name_of(tree, 1);
     if !names_some(layers, word) {
-        note(first, refused(12, place_of(tree, 1)));
+        note(first, refused(NO_LAYER, place_of(tree, 1)));
     }
     layers_of(layers, word)
 }

@@ -8,6 +8,7 @@ mod form;
 mod known;
 mod laws;
 mod layers;
+pub mod limits;
 mod lists;
 mod named;
 mod names;
@@ -17,6 +18,7 @@ mod parts;
 mod refusal;
 mod rules;
 mod shape;
+pub mod table;
 mod trees;
 
 pub use angles::angle_in;

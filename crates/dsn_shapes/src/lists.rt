@@ -10,6 +10,7 @@ ghost use Rattle.dsn_shapes.specs.Lists.{place_of, quoted_name, says, text_of};
 ghost use Rattle.dsn_shapes.specs.Refusals.{noted};
 
 use crate::refusal::{Refusal, note, refused};
+use crate::table::LEFT_OUT;
 use dsn_tree::{Tree, is_headed, items};
 
 /// The byte offset of a tree.
@@ -99,7 +100,7 @@ pub fn refuse_quoted_name(first: &mut Option<Refusal>, tree: &Tree, i: usize)
     ensures { first.new ≡ noted first.old (quoted_name tree.now i) }
 {
     if has_quote(name_of(tree, i)) {
-        note(first, refused(21, place_of(tree, i)));
+        note(first, refused(LEFT_OUT, place_of(tree, i)));
     }
 }
 
@@ -120,6 +121,6 @@ pub fn refuse_left_out(first: &mut Option<Refusal>, tree: &Tree)
     ensures { first.new ≡ noted first.old (left_out tree.now) }
 {
     if is_left_out(tree) {
-        note(first, refused(21, place_of(tree, 0)));
+        note(first, refused(LEFT_OUT, place_of(tree, 0)));
     }
 }

@@ -10,6 +10,7 @@ ghost use Rattle.dsn_shapes.specs.Refusals.{noted};
 
 use crate::lists::{name_of, place_of};
 use crate::refusal::{Refusal, note, refused};
+use crate::table::NAMED_TWICE;
 use crate::trees::Trees;
 use dsn_tree::Tree;
 use std::alloc::{AllocError, Global};
@@ -120,7 +121,7 @@ fn refuse_again(index: &NameIndex, first: &mut Option<Refusal>, trees: &[&Tree],
     for (k, tree) in trees.iter().enumerate() {
         let place = index.first_place(name_of(tree, i));
         if place != Some(k) {
-            note(first, refused(13, place_of(tree, i)));
+            note(first, refused(NAMED_TWICE, place_of(tree, i)));
         }
     }
 }

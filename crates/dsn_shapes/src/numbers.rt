@@ -8,6 +8,7 @@ ghost use Rattle.dsn_shapes.specs.Refusals.{noted};
 
 use crate::lists::{at_of, nth_word, text_of};
 use crate::refusal::{Refusal, note, refused};
+use crate::table::{NO_NUMBER, OUT_OF_RANGE};
 use dsn_tree::Tree;
 use dsn_units::{Scale, coord, extent, read_decimal};
 
@@ -17,13 +18,13 @@ pub fn coord_in(first: &mut Option<Refusal>, word: &Tree, s: Scale) -> Option<i6
     ensures value { result ≡ word_coord s.nm word.now }
 {
     let Some(decimal) = read_decimal(text_of(word)) else {
-        note(first, refused(9, at_of(word)));
+        note(first, refused(NO_NUMBER, at_of(word)));
         return None;
     };
     match coord(&decimal, s) {
         Ok(value) => Some(value),
         Err(_) => {
-            note(first, refused(10, at_of(word)));
+            note(first, refused(OUT_OF_RANGE, at_of(word)));
             None
         }
     }
@@ -35,13 +36,13 @@ pub fn extent_in(first: &mut Option<Refusal>, word: &Tree, s: Scale) -> Option<u
     ensures value { result ≡ word_extent s.nm word.now }
 {
     let Some(decimal) = read_decimal(text_of(word)) else {
-        note(first, refused(9, at_of(word)));
+        note(first, refused(NO_NUMBER, at_of(word)));
         return None;
     };
     match extent(&decimal, s) {
         Ok(value) => Some(value),
         Err(_) => {
-            note(first, refused(10, at_of(word)));
+            note(first, refused(OUT_OF_RANGE, at_of(word)));
             None
         }
     }
@@ -71,7 +72,7 @@ pub fn coord_at(first: &mut Option<Refusal>, tree: &Tree, i: usize, s: Scale) ->
             None => 0,
         },
         None => {
-            note(first, refused(9, at_of(tree)));
+            note(first, refused(NO_NUMBER, at_of(tree)));
             0
         }
     }
@@ -88,7 +89,7 @@ pub fn extent_at(first: &mut Option<Refusal>, tree: &Tree, i: usize, s: Scale) -
             None => 0,
         },
         None => {
-            note(first, refused(9, at_of(tree)));
+            note(first, refused(NO_NUMBER, at_of(tree)));
             0
         }
     }

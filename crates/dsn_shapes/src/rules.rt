@@ -18,6 +18,7 @@ use crate::known::ListKind;
 use crate::lists::{name_of, nth_word, place_of};
 use crate::numbers::{extent_at, peek_extent};
 use crate::refusal::{Refusal, note, refused};
+use crate::table::NO_NUMBER;
 use crate::trees::{Trees, pass_over};
 use dsn_tree::{Tree, child};
 use dsn_units::Scale;
@@ -131,7 +132,7 @@ fn refuse_zero_width(first: &mut Option<Refusal>, tree: &Tree, s: Scale)
     ensures { first.new ≡ noted first.old (zero_width s.nm tree.now) }
 {
     if is_zero_width(tree, s) {
-        note(first, refused(9, place_of(tree, 1)));
+        note(first, refused(NO_NUMBER, place_of(tree, 1)));
     }
 }
 

@@ -19,6 +19,7 @@ use crate::known::form_heads;
 use crate::lists::{at_of, place_of};
 use crate::parts::{Layer, LayerShape};
 use crate::refusal::{ReadFault, Refusal, note, refused};
+use crate::table::{BAD_FORM, LEFT_OUT};
 use crate::trees::has_head;
 use dsn_tree::{Tree, is_headed, items};
 use dsn_units::Scale;
@@ -38,9 +39,9 @@ fn refuse_no_form(first: &mut Option<Refusal>, tree: &Tree)
     ensures { first.new ≡ noted first.old (no_form tree.now) }
 {
     if is_headed(tree, b"qarc") || is_headed(tree, b"polyline_path") {
-        note(first, refused(21, place_of(tree, 0)));
+        note(first, refused(LEFT_OUT, place_of(tree, 0)));
     } else {
-        note(first, refused(22, at_of(tree)));
+        note(first, refused(BAD_FORM, at_of(tree)));
     }
 }
 
@@ -162,7 +163,7 @@ fn note_rim(
     ensures value { IfOk result (λ v. v ≡ rim_of s.nm layers.now form tree.now) }
 {
     if is_circle(form) {
-        note(first, refused(22, at_of(tree)));
+        note(first, refused(BAD_FORM, at_of(tree)));
         return Ok(empty_rim(alloc));
     }
     let outline = read_outline(alloc, first, tree, form, s, layers)?;
@@ -224,7 +225,7 @@ pub(crate) fn note_held_shape(
     match form_in(tree) {
         Some(form) => note_shape(alloc, first, form, s, layers),
         None => {
-            note(first, refused(22, at_of(tree)));
+            note(first, refused(BAD_FORM, at_of(tree)));
             Ok(empty_shape(alloc))
         }
     }
@@ -245,7 +246,7 @@ pub(crate) fn note_held_loop(
     match form_in(tree) {
         Some(form) => note_loop(alloc, first, form, s, layers),
         None => {
-            note(first, refused(22, at_of(tree)));
+            note(first, refused(BAD_FORM, at_of(tree)));
             Ok(empty_rim(alloc))
         }
     }

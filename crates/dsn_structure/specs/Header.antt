@@ -18,6 +18,8 @@ use Rattle.dsn_shapes.specs.declared.parts.Head.{Head}
 use Rattle.dsn_shapes.specs.Refusals.{refused}
 use Rattle.dsn_shapes.specs.Lists.{at_of, text_of, lists, name_of, nth_word, place_of, quoted_name, capped, notes_in}
 use Rattle.dsn_shapes.specs.Lists.{left_out_in}
+use Rattle.dsn_shapes.specs.declared.table.TheConstants.{NO_BOARD, NO_NUMBER, NO_SECTION, NO_UNIT}
+use Rattle.dsn_shapes.specs.declared.limits.TheConstants.{MOST_PER}
 
 -- ---- lists
 abbrev pub resolutions : Tree → List Tree
@@ -40,7 +42,7 @@ hosts head pcb = lists (head ∷ []) (parsers pcb)
 -- ---- the design's name
 -- the group is a design and item 1 its name
 abbrev pub not_pcb : Tree → List Refusal
-not_pcb pcb = if is_headed (codes "pcb") pcb && is_some (word pcb 1) then [] else refused 7 (at_of pcb) ∷ []
+not_pcb pcb = if is_headed (codes "pcb") pcb && is_some (word pcb 1) then [] else refused NO_BOARD (at_of pcb) ∷ []
 
 -- ---- units
 abbrev pub unit_of : List ℕ → Option Unit
@@ -57,7 +59,7 @@ abbrev pub unit_in : Tree → Unit
 unit_in t = unwrap_or (unit_of (name_of t 1)) Um
 
 abbrev pub unit_refusal : Tree → List Refusal
-unit_refusal t = if is_some (unit_of (name_of t 1)) then [] else refused 11 (place_of t 1) ∷ []
+unit_refusal t = if is_some (unit_of (name_of t 1)) then [] else refused NO_UNIT (place_of t 1) ∷ []
 
 -- ---- the resolution
 -- a whole number from 1 to 1,000,000
@@ -67,16 +69,16 @@ some_count (Some n) = if n == 0 then None else Some n
 
 abbrev pub count_by : Option Decimal → Option ℕ
 count_by None = None
-count_by (Some d) = some_count (whole_of d 1000000)
+count_by (Some d) = some_count (whole_of d MOST_PER)
 
 abbrev pub count_of : Tree → Option ℕ
 count_of t = count_by (decimal_of (name_of t 2))
 
 abbrev pub count_refusal : Tree → List Refusal
-count_refusal t = if is_some (count_of t) then [] else refused 9 (place_of t 2) ∷ []
+count_refusal t = if is_some (count_of t) then [] else refused NO_NUMBER (place_of t 2) ∷ []
 
 abbrev pub resolution_refusals : Tree → Option Tree → List Refusal
-resolution_refusals pcb None = refused 8 (at_of pcb) ∷ []
+resolution_refusals pcb None = refused NO_SECTION (at_of pcb) ∷ []
 resolution_refusals pcb (Some t) = unit_refusal t ++ count_refusal t
 
 unfoldable pub resolution_unit : List Tree → Unit

@@ -18,6 +18,8 @@ use Rattle.dsn_shapes.specs.Lists.{left_out_in}
 use Rattle.dsn_shapes.specs.Names.{names_at, first_place, same_names}
 use Rattle.dsn_shapes.specs.Shapes.{ban_of, ban_refusals, ban_notes, bound_of, bound_refusals}
 use Rattle.dsn_shapes.specs.Rules.{rule_set, rule_refusals, rule_notes}
+use Rattle.dsn_shapes.specs.declared.table.TheConstants.{NO_BOUNDARY, NO_PADSTACK, NO_SECTION, PAST_LIMIT}
+use Rattle.dsn_shapes.specs.declared.limits.TheConstants.{MOST_LAYERS, MOST_ITEMS}
 
 -- ---- lists
 abbrev pub structures : Tree → List Tree
@@ -49,7 +51,8 @@ padstacks pcb = lists (codes "padstack" ∷ []) (lists (codes "library" ∷ []) 
 -- the first list past a limit
 abbrev pub past_limit : What → ℕ → List Tree → List Refusal
 past_limit what limit ts =
-    option_map_or (λ t. record { number = 23; at = at_of t; what = what; limit = limit } ∷ []) (slice_get ts limit) []
+    option_map_or (λ t. record { number = PAST_LIMIT; at = at_of t; what = what; limit = limit } ∷ [])
+    (slice_get ts limit) []
 
 -- ---- layers
 -- a layer of type `power` is a power layer
@@ -63,22 +66,23 @@ unfoldable pub layers_in : List Tree → List Layer
 layers_in ts = map layer_of ts
 
 unfoldable pub layer_refusals : List Tree → List Refusal
-layer_refusals ts = flat_map (λ t. quoted_name t 1) ts ++ (same_names 1 ts ++ past_limit Layers 32 ts)
+layer_refusals ts = flat_map (λ t. quoted_name t 1) ts ++ (same_names 1 ts ++ past_limit Layers MOST_LAYERS ts)
 
 -- ---- parts that are missing
 -- no structure or no layer; no boundary, at the first structure
 abbrev pub no_boundary : List Tree → Option Tree → List Refusal
 no_boundary bounds None = []
-no_boundary bounds (Some t) = if length bounds == 0 then refused 24 (at_of t) ∷ [] else []
+no_boundary bounds (Some t) = if length bounds == 0 then refused NO_BOUNDARY (at_of t) ∷ [] else []
 
 abbrev pub missing : Tree → List Tree → List Tree → List Tree → List Refusal
-missing pcb structs ls bounds = (if length structs == 0 || length ls == 0 then refused 8 (at_of pcb) ∷ [] else [])
+missing pcb structs ls bounds =
+    (if length structs == 0 || length ls == 0 then refused NO_SECTION (at_of pcb) ∷ [] else [])
     ++ no_boundary bounds (slice_get structs 0)
 
 -- ---- boundaries and keepouts
 unfoldable pub area_refusals : ℕ → List Layer → List Tree → List Tree → List Refusal
 area_refusals nm layers bounds bans = flat_map (bound_refusals nm layers) bounds
-    ++ (flat_map (ban_refusals nm layers) bans ++ past_limit Items 1048576 (bounds ++ bans))
+    ++ (flat_map (ban_refusals nm layers) bans ++ past_limit Items MOST_ITEMS (bounds ++ bans))
 
 -- ---- via padstacks, each of which the library has
 -- the words behind the head of a list
@@ -93,7 +97,7 @@ is_unknown None = true
 is_unknown (Some n) = false
 
 abbrev pub via_refusal : List (List ℕ) → Tree → List Refusal
-via_refusal known w = if is_unknown (first_place (text_of w) known) then refused 14 (at_of w) ∷ [] else []
+via_refusal known w = if is_unknown (first_place (text_of w) known) then refused NO_PADSTACK (at_of w) ∷ [] else []
 
 unfoldable pub via_refusals : List (List ℕ) → List Tree → List Refusal
 via_refusals known ts = flat_map (via_refusal known) (via_words ts)

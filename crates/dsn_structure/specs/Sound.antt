@@ -6,19 +6,20 @@ use Rattle.dsn_shapes.specs.declared.parts.Layer.{Layer}
 use Rattle.dsn_shapes.specs.declared.parts.BanShape.{BanShape}
 use Rattle.dsn_shapes.specs.declared.parts.Structure.{Structure}
 use Rattle.dsn_shapes.specs.Fits.{IsBoundShape, IsRuleSetFit, IsShapeFit}
+use Rattle.dsn_shapes.specs.declared.limits.TheConstants.{MOST_LAYERS, MOST_ITEMS, MOST_PER}
 
 -- a resolution from 1 to 1,000,000, and names that a session can print
 pub record IsHeadSound (h : Head) : Type 0 where
   pub some_per : 1 ≤ h.per
-  pub few_per : h.per ≤ 1000000
+  pub few_per : h.per ≤ MOST_PER
   pub name_printable : IsPrintable h.name
   pub host_cad_printable : IfSome h.host_cad IsPrintable
   pub host_version_printable : IfSome h.host_version IsPrintable
 
--- 1 to 32 layers, whose names differ and can be printed
+-- at least one layer and not too many, whose names differ and can be printed
 pub record AreLayersSound (layers : List Layer) : Type 0 where
   pub some : 1 ≤ length layers
-  pub few : length layers ≤ 32
+  pub few : length layers ≤ MOST_LAYERS
   pub names_differ : AllPairs (λ (a b : Layer). a.name ≢ b.name) layers
   pub names_printable : All (λ (l : Layer). IsPrintable l.name) layers
 
@@ -26,7 +27,7 @@ pub record AreLayersSound (layers : List Layer) : Type 0 where
 pub record IsStructureSound (st : Structure) : Type 0 where
   pub layers : AreLayersSound st.layers
   pub some_bounds : 1 ≤ length st.bounds
-  pub few_items : length st.bounds + length st.bans ≤ 1048576
+  pub few_items : length st.bounds + length st.bans ≤ MOST_ITEMS
   pub bounds_fit : All IsBoundShape st.bounds
   pub bans_fit : All (λ (ban : BanShape). IsShapeFit ban.shape) st.bans
   pub rules_fit : IsRuleSetFit st.rules

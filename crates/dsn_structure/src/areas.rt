@@ -8,6 +8,7 @@ ghost use Rattle.dsn_shapes.specs.Shapes.{ban_notes, ban_of, bound_of};
 ghost use Rattle.dsn_structure.specs.Layout.{area_refusals, keepouts};
 
 use crate::layers::refuse_past;
+use dsn_shapes::limits::MOST_ITEMS;
 use dsn_shapes::{
     BanShape, Bounds, Keepouts, Layer, LayerShape, Refusal, Trees, What, ban_notes, keepout_heads,
     read_each,
@@ -74,7 +75,7 @@ pub(crate) fn read_areas(
     let all = all_areas(alloc, bounds, bans)?;
     let bound_shapes = read_each(alloc, &Bounds { scale, layers }, first, bounds)?;
     let ban_shapes = read_each(alloc, &Keepouts { scale, layers }, first, bans)?;
-    refuse_past(first, &all, What::Items, 1_048_576);
+    refuse_past(first, &all, What::Items, MOST_ITEMS);
     Ok(Areas {
         bounds: bound_shapes,
         bans: ban_shapes,

@@ -13,6 +13,8 @@ ghost use Rattle.dsn_structure.specs.Sound.{IsHeadSound};
 ghost use Rattle.std.specs.Option.{option_map_or};
 ghost use Rattle.std.specs.Prelude.{codes, unwrap_or};
 
+use dsn_shapes::limits::MOST_PER;
+use dsn_shapes::table::{NO_BOARD, NO_NUMBER, NO_SECTION, NO_UNIT};
 use dsn_shapes::{
     Head, ListKind, ReadFault, Refusal, Trees, at_of, name_of, note, nth_word, pass_over, place_of,
     refuse_quoted_name, refused, text_of,
@@ -26,7 +28,7 @@ fn refuse_no_pcb(first: &mut Option<Refusal>, pcb: &Tree)
     ensures { first.new ≡ noted first.old (not_pcb pcb.now) }
 {
     if !(is_headed(pcb, b"pcb") && word(pcb, 1).is_some()) {
-        note(first, refused(7, at_of(pcb)));
+        note(first, refused(NO_BOARD, at_of(pcb)));
     }
 }
 
@@ -61,7 +63,7 @@ fn refuse_unit(first: &mut Option<Refusal>, tree: &Tree)
     ensures { first.new ≡ noted first.old (unit_refusal tree.now) }
 {
     if unit_of(name_of(tree, 1)).is_none() {
-        note(first, refused(11, place_of(tree, 1)));
+        note(first, refused(NO_UNIT, place_of(tree, 1)));
     }
 }
 
@@ -79,7 +81,7 @@ fn count_of(tree: &Tree) -> Option<u32>
     ensures { result ≡ count_of tree.now }
 {
     match read_decimal(name_of(tree, 2)) {
-        Some(decimal) => some_count(whole_number(&decimal, 1_000_000)),
+        Some(decimal) => some_count(whole_number(&decimal, MOST_PER)),
         None => None,
     }
 }
@@ -88,7 +90,7 @@ fn refuse_count(first: &mut Option<Refusal>, tree: &Tree)
     ensures { first.new ≡ noted first.old (count_refusal tree.now) }
 {
     if count_of(tree).is_none() {
-        note(first, refused(9, place_of(tree, 2)));
+        note(first, refused(NO_NUMBER, place_of(tree, 2)));
     }
 }
 
@@ -100,7 +102,7 @@ fn refuse_resolution(first: &mut Option<Refusal>, pcb: &Tree, resolutions: &Tree
             refuse_unit(first, tree);
             refuse_count(first, tree);
         }
-        None => note(first, refused(8, at_of(pcb))),
+        None => note(first, refused(NO_SECTION, at_of(pcb))),
     }
 }
 

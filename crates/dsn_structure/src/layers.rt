@@ -8,6 +8,8 @@ ghost use Rattle.dsn_structure.specs.Layout.{frame_layers, frame_notes, frame_re
 ghost use Rattle.dsn_structure.specs.Layout.{layers_in, lists_left_out, lists_passed, missing, no_boundary};
 ghost use Rattle.dsn_structure.specs.Layout.{past_limit};
 
+use dsn_shapes::limits::MOST_LAYERS;
+use dsn_shapes::table::{NO_BOUNDARY, NO_SECTION, PAST_LIMIT};
 use dsn_shapes::{
     Layer, ListKind, NameIndex, Part, Refusal, Trees, What, at_of, name_of, note, pass_over,
     read_each, refuse_quoted_name, refused, says,
@@ -24,7 +26,7 @@ pub(crate) fn refuse_past(first: &mut Option<Refusal>, lists: &Trees, what: What
         note(
             first,
             Refusal {
-                number: 23,
+                number: PAST_LIMIT,
                 at: at_of(tree),
                 what,
                 limit,
@@ -81,7 +83,7 @@ fn read_layers(
     let index = NameIndex::new(alloc, lists, 1)?;
     let layers = read_each(alloc, &LayerPart, first, lists)?;
     index.refuse_same(first, lists, 1);
-    refuse_past(first, lists, What::Layers, 32);
+    refuse_past(first, lists, What::Layers, MOST_LAYERS);
     Ok(layers)
 }
 
@@ -96,7 +98,7 @@ fn refuse_missing(
     ensures { first.new ≡ noted first.old (missing pcb.now structs.now layers.now bounds.now) }
 {
     if structs.len() == 0 || layers.len() == 0 {
-        note(first, refused(8, at_of(pcb)));
+        note(first, refused(NO_SECTION, at_of(pcb)));
     }
     refuse_no_boundary(first, structs, bounds);
 }
@@ -106,7 +108,7 @@ fn refuse_no_boundary(first: &mut Option<Refusal>, structs: &Trees, bounds: &Tre
 {
     if let Some(tree) = structs.get(0) {
         if bounds.len() == 0 {
-            note(first, refused(24, at_of(tree)));
+            note(first, refused(NO_BOUNDARY, at_of(tree)));
         }
     }
 }

@@ -9,6 +9,7 @@ ghost use Rattle.dsn_shapes.specs.Refusals.{noted};
 ghost use Rattle.dsn_structure.specs.Layout.{any_says, controls, flip_last, names_in, padstacks, via_at_smd};
 ghost use Rattle.dsn_structure.specs.Layout.{via_lists, via_names, via_refusal, via_refusals, via_words};
 
+use dsn_shapes::table::NO_PADSTACK;
 use dsn_shapes::{NameIndex, Refusal, Trees, at_of, is_word, note, refused, says, text_of};
 use dsn_tree::{Tree, items};
 use geo_kernel::{List, Name};
@@ -49,7 +50,7 @@ fn refuse_unknown_via(first: &mut Option<Refusal>, word: &Tree, known: &NameInde
     ensures { first.new ≡ noted first.old (via_refusal known.now word.now) }
 {
     if known.first_place(text_of(word)).is_none() {
-        note(first, refused(14, at_of(word)));
+        note(first, refused(NO_PADSTACK, at_of(word)));
     }
 }
 

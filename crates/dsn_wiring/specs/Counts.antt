@@ -10,6 +10,8 @@ use Rattle.dsn_shapes.specs.declared.parts.Place.{Place}
 use Rattle.dsn_shapes.specs.declared.parts.Placing.{Placing}
 use Rattle.dsn_shapes.specs.declared.parts.Structure.{Structure}
 use Rattle.dsn_shapes.specs.Lists.{at_of}
+use Rattle.dsn_shapes.specs.declared.table.TheConstants.{PAST_LIMIT}
+use Rattle.dsn_shapes.specs.declared.limits.TheConstants.{MOST_ITEMS}
 
 -- the pins and keepouts of an image
 abbrev pub image_items : Image → ℕ
@@ -24,5 +26,5 @@ items_before st lib placing = length st.bounds + (length st.bans + sum_by (place
 
 unfoldable pub too_many : ℕ → List Tree → List Refusal
 too_many before ts =
-    option_map_or (λ t. record { number = 23; at = at_of t; what = Items; limit = 1048576 } ∷ [])
-    (slice_get ts (1048576 - before)) []
+    option_map_or (λ t. record { number = PAST_LIMIT; at = at_of t; what = Items; limit = MOST_ITEMS } ∷ [])
+    (slice_get ts (MOST_ITEMS - before)) []

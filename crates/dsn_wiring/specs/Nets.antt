@@ -9,6 +9,7 @@ use Rattle.dsn_shapes.specs.declared.parts.ReadNet.{ReadNet}
 use Rattle.dsn_shapes.specs.Refusals.{refused}
 use Rattle.dsn_shapes.specs.Lists.{nth_word, place_of, says, text_of}
 use Rattle.dsn_shapes.specs.Names.{first_place, place_index}
+use Rattle.dsn_shapes.specs.declared.table.TheConstants.{NO_NET}
 
 abbrev pub net_names : List ReadNet → List (List ℕ)
 net_names nets = map (λ (n : ReadNet). n.name) nets
@@ -19,7 +20,7 @@ abbrev pub place_in : List (List ℕ) → Tree → Option ℕ
 place_in nets t = option_map_or (λ w. first_place (text_of w) nets) (nth_word t 1) None
 
 abbrev pub unknown_net : List (List ℕ) → Tree → List Refusal
-unknown_net nets t = if is_some (place_in nets t) then [] else refused 20 (place_of t 1) ∷ []
+unknown_net nets t = if is_some (place_in nets t) then [] else refused NO_NET (place_of t 1) ∷ []
 
 -- the net of a wire or via, by its first list `net`
 unfoldable pub net_of : List (List ℕ) → Tree → Option ℕ

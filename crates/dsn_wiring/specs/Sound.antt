@@ -14,6 +14,7 @@ use Rattle.dsn_shapes.specs.declared.parts.Library.{Library}
 use Rattle.dsn_shapes.specs.declared.parts.Network.{Network}
 use Rattle.dsn_shapes.specs.declared.parts.ReadWire.{ReadWire}
 use Rattle.dsn_shapes.specs.declared.parts.Wiring.{Wiring}
+use Rattle.dsn_shapes.specs.declared.limits.TheConstants.{MOST_ITEMS}
 
 -- at this place the padstack's vertices have coordinates of at most 2 ^ 29 in absolute value
 abbrev pub IsStackNear : Point → Stack → Type 0
@@ -35,7 +36,7 @@ pub record IsWireSound (st : Structure) (lib : Library) (network : Network) (w :
 
 -- at most 1,048,576 such wires and vias
 pub record IsWiringSound (st : Structure) (lib : Library) (network : Network) (wiring : Wiring) : Type 0 where
-  pub few : length wiring.wires ≤ 1048576
+  pub few : length wiring.wires ≤ MOST_ITEMS
   pub wires : All (IsWireSound st lib network) wiring.wires
 
 -- so many padstacks that an index of 32 bits is the place itself

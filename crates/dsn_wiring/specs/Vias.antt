@@ -17,13 +17,14 @@ use Rattle.dsn_shapes.specs.Refusals.{refused}
 use Rattle.dsn_shapes.specs.Lists.{at_of, name_of, nth_word, place_of}
 use Rattle.dsn_shapes.specs.Names.{first_place, place_index}
 use Rattle.dsn_shapes.specs.Numbers.{word_coord, coord_refusal}
+use Rattle.dsn_shapes.specs.declared.table.TheConstants.{NO_PADSTACK, OUT_OF_RANGE}
 
 -- ---- padstacks of these names
 abbrev pub stack_place : List (List ℕ) → Tree → Option ℕ
 stack_place names t = first_place (name_of t 1) names
 
 unfoldable pub unknown_stack : List (List ℕ) → Tree → List Refusal
-unknown_stack names t = if is_some (stack_place names t) then [] else refused 14 (place_of t 1) ∷ []
+unknown_stack names t = if is_some (stack_place names t) then [] else refused NO_PADSTACK (place_of t 1) ∷ []
 
 -- ---- the place of a via: its two numbers, where neither is refused
 abbrev pub coord_of : ℕ → Tree → ℕ → Option ℤ
@@ -63,7 +64,8 @@ abbrev pub is_via_past : Option Stack → Option Point → Bool
 is_via_past s at = option_map_or (λ p. option_map_or (stack_past p) s false) at false
 
 unfoldable pub past_refusal : List Stack → Option ℕ → Option Point → Tree → List Refusal
-past_refusal stacks place at t = if is_via_past (stack_at stacks place) at then refused 10 (at_of t) ∷ [] else []
+past_refusal stacks place at t =
+    if is_via_past (stack_at stacks place) at then refused OUT_OF_RANGE (at_of t) ∷ [] else []
 
 -- ---- the via
 unfoldable pub via_metal : ℕ → List (List ℕ) → Tree → Metal

@@ -17,6 +17,8 @@ use Rattle.dsn_shapes.specs.Known.{form_heads}
 use Rattle.dsn_shapes.specs.Lists.{at_of, lists, place_of}
 use Rattle.dsn_shapes.specs.Shapes.{shape_of, shape_refusals}
 use Rattle.dsn_wiring.specs.Layers.{layers_below}
+use Rattle.dsn_shapes.specs.declared.table.TheConstants.{BAD_FORM, LEFT_OUT}
+use Rattle.dsn_shapes.specs.declared.limits.TheConstants.{MOST_LAYERS}
 
 -- ---- lists of copper in a wire
 abbrev pub paths_in : Tree → List Tree
@@ -26,7 +28,7 @@ abbrev pub others_in : Tree → List Tree
 others_in t = lists (codes "rect" ∷ codes "circle" ∷ codes "polygon" ∷ []) (t ∷ [])
 
 abbrev pub refused_form : Tree → List Refusal
-refused_form t = refused 21 (place_of t 0) ∷ []
+refused_form t = refused LEFT_OUT (place_of t 0) ∷ []
 
 -- all but the first path are refused
 unfoldable pub further_forms : Tree → List Refusal
@@ -34,7 +36,7 @@ further_forms t = flat_map refused_form (drop 1 (paths_in t)) ++ flat_map refuse
 
 -- a wire without any form; the forms that are left out are refused as such
 unfoldable pub no_form : Tree → List Refusal
-no_form t = if length (lists form_heads (t ∷ [])) == 0 then refused 22 (at_of t) ∷ [] else []
+no_form t = if length (lists form_heads (t ∷ [])) == 0 then refused BAD_FORM (at_of t) ∷ [] else []
 
 -- ---- the path of a wire
 abbrev pub chain_of : Spine → List Point
@@ -43,14 +45,14 @@ chain_of (Area loops) = []
 
 -- more than one layer, or fewer than two vertices
 abbrev pub is_unfit : LayerShape → Bool
-is_unfit s = nat_lt 1 (length (layers_below 32 s.layers)) || nat_lt (length (chain_of s.spine)) 2
+is_unfit s = nat_lt 1 (length (layers_below MOST_LAYERS s.layers)) || nat_lt (length (chain_of s.spine)) 2
 
 unfoldable pub path_refusals : ℕ → List Layer → Tree → List Refusal
 path_refusals nm layers t =
-    shape_refusals nm layers t ++ (if is_unfit (shape_of nm layers t) then refused 22 (at_of t) ∷ [] else [])
+    shape_refusals nm layers t ++ (if is_unfit (shape_of nm layers t) then refused BAD_FORM (at_of t) ∷ [] else [])
 
 abbrev pub wire_by : LayerShape → Metal
-wire_by s = Wire (unwrap_or (slice_get (layers_below 32 s.layers) 0) 0) s.width (chain_of s.spine)
+wire_by s = Wire (unwrap_or (slice_get (layers_below MOST_LAYERS s.layers) 0) 0) s.width (chain_of s.spine)
 
 unfoldable pub path_metal : ℕ → List Layer → Tree → Metal
 path_metal nm layers t = wire_by (shape_of nm layers t)

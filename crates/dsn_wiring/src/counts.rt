@@ -6,6 +6,8 @@ ghost use Rattle.dsn_shapes.specs.Lists.{capped};
 ghost use Rattle.dsn_shapes.specs.Refusals.{noted};
 ghost use Rattle.dsn_wiring.specs.Counts.{image_items, items_before, place_items, too_many};
 
+use dsn_shapes::limits::MOST_ITEMS;
+use dsn_shapes::table::PAST_LIMIT;
 use dsn_shapes::{Image, Library, Place, Placing, Refusal, Structure, Trees, What, at_of, note};
 use geo_kernel::List;
 
@@ -47,9 +49,6 @@ fn items_before(st: &Structure, lib: &Library, placing: &Placing) -> u64
     areas.saturating_add(placed)
 }
 
-// The most items of a design.
-const MOST_ITEMS: u64 = 1_048_576;
-
 // Refuses the first wire or via past the limit, where `before` items stand before them.
 #[tactic(auto, unfolding(crate::specs::Counts::too_many))]
 fn refuse_behind(first: &mut Option<Refusal>, before: u64, wires: &Trees)
@@ -59,7 +58,7 @@ fn refuse_behind(first: &mut Option<Refusal>, before: u64, wires: &Trees)
         note(
             first,
             Refusal {
-                number: 23,
+                number: PAST_LIMIT,
                 at: at_of(tree),
                 what: What::Items,
                 limit: MOST_ITEMS,

@@ -10,4 +10,5 @@ mod wire;
 mod wiring;
 
 pub use layers::layers_below;
+pub use via::{point_by, spine_past};
 pub use wiring::read_wiring;

@@ -5,6 +5,7 @@ ghost use Rattle.std.specs.Prelude.{◌≡◌, IfOk};
 ghost use Rattle.dsn_shapes.specs.Refusals.{noted};
 ghost use Rattle.dsn_wiring.specs.Nets.{is_fix, is_fixed, net_names, net_of, net_refusals, place_in, unknown_net};
 
+use dsn_shapes::table::NO_NET;
 use dsn_shapes::{
     NameIndex, ReadNet, Refusal, names_of, note, nth_word, place_index, place_of, refused, says,
     text_of,
@@ -39,7 +40,7 @@ fn known_place(first: &mut Option<Refusal>, nets: &NameIndex, tree: &Tree) -> Op
 {
     let place = place_in(nets, tree);
     if place.is_none() {
-        note(first, refused(20, place_of(tree, 1)));
+        note(first, refused(NO_NET, place_of(tree, 1)));
     }
     place
 }

@@ -11,6 +11,7 @@ ghost use Rattle.dsn_wiring.specs.Vias.{coord_of, is_far, is_past, past_refusal,
 ghost use Rattle.dsn_wiring.specs.Vias.{stack_place, unknown_stack, via_metal, via_place, via_place_refusals};
 ghost use Rattle.dsn_wiring.specs.Vias.{via_refusals};
 
+use dsn_shapes::table::{NO_NUMBER, NO_PADSTACK, OUT_OF_RANGE};
 use dsn_shapes::{
     NameIndex, Refusal, Stack, at_of, coord_in, name_of, names_of, note, nth_word, place_index,
     place_of, refused,
@@ -39,7 +40,7 @@ fn stack_place(first: &mut Option<Refusal>, names: &NameIndex, via: &Tree) -> Op
 {
     let place = names.first_place(name_of(via, 1));
     if place.is_none() {
-        note(first, refused(14, place_of(via, 1)));
+        note(first, refused(NO_PADSTACK, place_of(via, 1)));
     }
     place
 }
@@ -51,13 +52,14 @@ fn coord_of(first: &mut Option<Refusal>, via: &Tree, i: usize, s: Scale) -> Opti
     match nth_word(via, i) {
         Some(word) => coord_in(first, word, s),
         None => {
-            note(first, refused(9, at_of(via)));
+            note(first, refused(NO_NUMBER, at_of(via)));
             None
         }
     }
 }
 
-fn point_by(x: Option<i64>, y: Option<i64>) -> Option<Point>
+/// The point of two coordinates, where both are there.
+pub fn point_by(x: Option<i64>, y: Option<i64>) -> Option<Point>
     ensures { result ≡ point_by x y }
 {
     match (x, y) {
@@ -112,8 +114,8 @@ fn loops_past(at: Point, loops: &[List<Point>]) -> bool
     false
 }
 
-// Whether a vertex of the spine, moved by the point, has a coordinate past 2^29.
-fn spine_past(at: Point, spine: &Spine) -> bool
+/// Whether a vertex of the spine, moved by the point, has a coordinate past 2^29 nm.
+pub fn spine_past(at: Point, spine: &Spine) -> bool
     ensures { result ≡ spine_past at spine.now }
 {
     match spine {
@@ -150,7 +152,7 @@ fn refuse_past(
         return;
     };
     if stack_past(at, stack) {
-        note(first, refused(10, at_of(via)));
+        note(first, refused(OUT_OF_RANGE, at_of(via)));
     }
 }
 

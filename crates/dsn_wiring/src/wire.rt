@@ -9,6 +9,8 @@ ghost use Rattle.dsn_wiring.specs.Wires.{chain_of, further_forms, no_form, no_wi
 ghost use Rattle.dsn_wiring.specs.Wires.{paths_in, refused_form, wire_metal, wire_refusals};
 
 use crate::layers::layers_below;
+use dsn_shapes::limits::MOST_LAYERS;
+use dsn_shapes::table::{BAD_FORM, LEFT_OUT};
 use dsn_shapes::{
     Layer, LayerShape, Refusal, Trees, at_of, form_heads, note, note_shape, place_of, refused,
 };
@@ -45,10 +47,10 @@ fn note_path(
         spine,
         width,
     } = note_shape(alloc, first, path, s, layers)?;
-    let layers = layers_below(alloc, 32, layers)?;
+    let layers = layers_below(alloc, MOST_LAYERS as u8, layers)?;
     let chain = chain_of(alloc, spine);
     if layers.len() > 1 || chain.len() < 2 {
-        note(first, refused(22, at_of(path)));
+        note(first, refused(BAD_FORM, at_of(path)));
     }
     let layer = layers.get(0).copied().unwrap_or(0);
     Ok(Metal::Wire {
@@ -62,7 +64,7 @@ fn refuse_forms(first: &mut Option<Refusal>, forms: &[&Tree])
     ensures { first.new ≡ noted first.old (flat_map refused_form (trees_of forms.now)) }
 {
     for form in forms {
-        note(first, refused(21, place_of(form, 0)));
+        note(first, refused(LEFT_OUT, place_of(form, 0)));
     }
 }
 
@@ -99,7 +101,7 @@ fn refuse_empty(alloc: Global, first: &mut Option<Refusal>, wire: &Tree) -> Resu
 {
     let forms = Trees::one(alloc, wire)?.lists(alloc, form_heads())?;
     if forms.len() == 0 {
-        note(first, refused(22, at_of(wire)));
+        note(first, refused(BAD_FORM, at_of(wire)));
     }
     Ok(())
 }

@@ -2,10 +2,12 @@
 //! What is said of a design is what `dsnroute` says of it.
 
 use desk_io::{Desk, HostDesk};
+use dsn_shapes::table::{BAD_QUOTE_BYTE, NO_LIST, QUOTE_OPEN, SURPLUS, TOO_DEEP, UNCLOSED};
 use dsn_shapes::{Refusal, What};
 use dsn_tree::TreeFault;
 use fault_notes::{Counted, Fault, Said, note_text, place_of};
 use picture_call::{MAX_BYTES, Outcome, PictureCall};
+use ses_reader::table::{NO_LAYER, NO_MEASURE, NO_NET, NO_PADSTACK, NO_SESSION};
 use std::alloc::{AllocError, Global};
 use std::rt::Files;
 
@@ -21,11 +23,12 @@ pub(crate) const WANTING_NOTE: &str = "dsndraw: memory was wanting\n";
 // What is wrong with a session, by the numbers of its refusals.
 fn session_words(number: u8) -> &'static str {
     match number {
-        1 => "the list isn't a `session`, or `routes`, `resolution` or `network_out` is missing",
-        2 => "a number, unit or count is none that can be, or is too large",
-        3 => "the design has no net of this name",
-        4 => "the design has no layer of this name",
-        5 => "the design has no padstack of this name",
+        NO_SESSION =>
+            "the list isn't a `session`, or `routes`, `resolution` or `network_out` is missing",
+        NO_MEASURE => "a number, unit or count is none that can be, or is too large",
+        NO_NET => "the design has no net of this name",
+        NO_LAYER => "the design has no layer of this name",
+        NO_PADSTACK => "the design has no padstack of this name",
         _ => "a wire is wanted with one path, of whole points and at least two",
     }
 }
@@ -33,15 +36,18 @@ fn session_words(number: u8) -> &'static str {
 // The fault of a text without a tree; an empty text is refused at its first byte.
 fn misspelt(fault: &TreeFault) -> Fault {
     let (number, place) = match fault {
-        TreeFault::QuoteOpen { at } => (1, *at),
-        TreeFault::BadQuoteByte { at } => (2, *at),
-        TreeFault::Unclosed { at } => (3, *at),
-        TreeFault::Surplus { at } => (4, *at),
-        TreeFault::TooDeep { at } => (5, *at),
-        TreeFault::Empty => (6, 0),
+        TreeFault::QuoteOpen { at } => (QUOTE_OPEN, *at),
+        TreeFault::BadQuoteByte { at } => (BAD_QUOTE_BYTE, *at),
+        TreeFault::Unclosed { at } => (UNCLOSED, *at),
+        TreeFault::Surplus { at } => (SURPLUS, *at),
+        TreeFault::TooDeep { at } => (TOO_DEEP, *at),
+        TreeFault::Empty => (NO_LIST, 0),
         TreeFault::Memory(_) => return Fault::Memory,
     };
-    Fault::Told(Said::Refused { number, place })
+    Fault::Told(Said::Refused {
+        number: u64::from(number),
+        place,
+    })
 }
 
 // What a limit of a design counts; None where the refusal is of none.

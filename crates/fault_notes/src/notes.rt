@@ -48,7 +48,7 @@ fn refused_note(
         (number_back number) (string_bytes note)) }
 {
     let front = place_front(alloc, file, text, at)?;
-    let words = refusal_words(number);
+    let words = refusal_words(number.min(255) as u8);
     format!(in alloc; "{front}{words} (refusal {number})\n")
 }
 

@@ -4,6 +4,11 @@
 ghost use Rattle.fault_notes.specs.Notes.{IsPlain};
 
 use crate::Counted;
+use dsn_shapes::table::{
+    BAD_FORM, BAD_QUOTE_BYTE, LEFT_OUT, NAMED_TWICE, NO_BOARD, NO_BOUNDARY, NO_IMAGE, NO_LAYER,
+    NO_LIST, NO_NET, NO_NUMBER, NO_PADSTACK, NO_PIN, NO_SECTION, NO_UNIT, OUT_OF_RANGE, PAST_LIMIT,
+    QUOTE_OPEN, SURPLUS, TAKEN_PIN, TOO_DEEP, TWO_PINS, UNCLOSED, UNPLACED_PIN,
+};
 
 /// What is wrong with refused words.
 pub(crate) fn usage_words(number: u64) -> &'static str
@@ -17,52 +22,54 @@ pub(crate) fn usage_words(number: u64) -> &'static str
 }
 
 // What a refusal of the text's brackets and quotes means.
-fn spelling_words(number: u64) -> &'static str
+fn spelling_words(number: u8) -> &'static str
     ensures { IsPlain result.now }
 {
     match number {
-        1 => "a quoted piece has no end",
-        2 => "the byte behind `(string_quote` is none of \", ' and $",
-        3 => "this bracket isn't closed",
-        4 => "something stands before or behind the list",
-        5 => "more than 64 brackets are open",
+        QUOTE_OPEN => "a quoted piece has no end",
+        BAD_QUOTE_BYTE => "the byte behind `(string_quote` is none of \", ' and $",
+        UNCLOSED => "this bracket isn't closed",
+        SURPLUS => "something stands before or behind the list",
+        TOO_DEEP => "more than 64 brackets are open",
         _ => "there is no list",
     }
 }
 
 // What a refusal of a list means that isn't as it should be.
-fn list_words(number: u64) -> &'static str
+fn list_words(number: u8) -> &'static str
     ensures { IsPlain result.now }
 {
     match number {
-        7 => "the list isn't a `pcb` with a name",
-        8 => "`resolution`, `structure` or a layer is missing",
-        9 => "a number is wanted, and isn't there or is none that can be",
-        10 => "a coordinate, width, clearance or angle is too large",
-        11 => "the unit isn't inch, mil, cm, mm or um",
-        21 => "this program leaves this form out, or a name has a quotation mark",
-        22 => "the numbers of a shape, its layer or the side of a place don't fit",
-        23 => "a limit is passed",
-        24 => "there is no boundary",
+        NO_BOARD => "the list isn't a `pcb` with a name",
+        NO_SECTION => "`resolution`, `structure` or a layer is missing",
+        NO_NUMBER => "a number is wanted, and isn't there or is none that can be",
+        OUT_OF_RANGE => "a coordinate, width, clearance or angle is too large",
+        NO_UNIT => "the unit isn't inch, mil, cm, mm or um",
+        LEFT_OUT => "this program leaves this form out, or a name has a quotation mark",
+        BAD_FORM => "the numbers of a shape, its layer or the side of a place don't fit",
+        PAST_LIMIT => "a limit is passed",
+        NO_BOUNDARY => "there is no boundary",
         _ => "the design isn't as it should be",
     }
 }
 
 /// What a refusal of a design means, by the numbers from 1 to 24 of the table of refusals.
-pub fn refusal_words(number: u64) -> &'static str
+pub fn refusal_words(number: u8) -> &'static str
     ensures { IsPlain result.now }
 {
     match number {
-        1..=6 => spelling_words(number),
-        12 => "no layer has this name",
-        13 => "a second layer, padstack, image, pin, component or net has this name",
-        14 => "the library has no padstack of this name",
-        15 => "the library has no image of this name",
-        16 => "no component and pin fit this reference",
-        17 => "this reference fits two pins",
-        18 => "a second net names this pin",
-        19 => "this reference names a component without coordinates",
-        20 => "no net has this name",
+        QUOTE_OPEN | BAD_QUOTE_BYTE | UNCLOSED | SURPLUS | TOO_DEEP | NO_LIST => {
+            spelling_words(number)
+        }
+        NO_LAYER => "no layer has this name",
+        NAMED_TWICE => "a second layer, padstack, image, pin, component or net has this name",
+        NO_PADSTACK => "the library has no padstack of this name",
+        NO_IMAGE => "the library has no image of this name",
+        NO_PIN => "no component and pin fit this reference",
+        TWO_PINS => "this reference fits two pins",
+        TAKEN_PIN => "a second net names this pin",
+        UNPLACED_PIN => "this reference names a component without coordinates",
+        NO_NET => "no net has this name",
         _ => list_words(number),
     }
 }

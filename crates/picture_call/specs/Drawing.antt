@@ -13,10 +13,11 @@ use Rattle.board_picture.specs.declared.open.OpenLine.{OpenLine}
 use Rattle.board_picture.specs.Open.{AreOpenLines}
 use Rattle.board_picture.specs.Picture.{picture_of}
 use Rattle.picture_call.specs.declared.outcome.PictureCall.{PictureCall}
+use Rattle.dsn_shapes.specs.declared.limits.TheConstants.{MOST_BYTES}
 
 -- the most bytes of a design's file and of a session's
 abbrev pub max_bytes : ℕ
-max_bytes = 33554432
+max_bytes = MOST_BYTES
 
 -- the text is that of the file of this name, where the files are told, and within the limit
 pub record IsInput (name : List ℕ) (files : Option Files) (text : List ℕ) : Type 0 where

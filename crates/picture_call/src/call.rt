@@ -11,13 +11,14 @@ use crate::{Outcome, PictureCall};
 use desk_io::{Desk, DeskFail};
 use dsn_design::read_design;
 use dsn_shapes::DesignFault;
+use dsn_shapes::limits::MOST_BYTES;
 use pcb_model::{Design, FreeWire};
 use route_words::Text;
 use ses_reader::{SesFault, read_session};
 use std::alloc::Global;
 
 /// The most bytes of a design's file and of a session's.
-pub const MAX_BYTES: u64 = 33_554_432;
+pub const MAX_BYTES: u64 = MOST_BYTES;
 
 fn write_page<D: Desk>(page: &[u8], call: &PictureCall, desk: &mut D) -> Outcome
     requires picture { IsPicture call.now (D.state desk.old).files page.now }

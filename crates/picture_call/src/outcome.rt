@@ -2,11 +2,9 @@
 //! Each outcome has an exit code.
 
 use dsn_shapes::Refusal;
+use dsn_shapes::table::PAST_LIMIT;
 use dsn_tree::TreeFault;
 use route_words::Text;
-
-/// The number of the refusal for a limit that is passed.
-const LIMIT_NUMBER: u8 = 23;
 
 /// The files of a picture: the design, the session whose wiring is drawn in place of the design's, and the picture.
 #[derive(Drop)]
@@ -54,9 +52,7 @@ impl Outcome {
         match self {
             Outcome::Drawn => 0,
             Outcome::DesignMisspelt(_) => 3,
-            Outcome::DesignRefused(refusal) => {
-                if refusal.number == LIMIT_NUMBER { 6 } else { 3 }
-            }
+            Outcome::DesignRefused(refusal) => { if refusal.number == PAST_LIMIT { 6 } else { 3 } }
             Outcome::DesignUnread | Outcome::SessionUnread => 4,
             Outcome::Unwritten => 5,
             Outcome::DesignTooLong | Outcome::SessionTooLong => 6,

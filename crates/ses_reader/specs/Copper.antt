@@ -23,6 +23,7 @@ use Rattle.ses_reader.specs.declared.measure.Measure.{Measure}
 use Rattle.ses_reader.specs.Names.{layer_names, padstack_names}
 use Rattle.ses_reader.specs.Measures.{coord_at, coord_refusal, extent_at, extent_refusal, refused_unless, word_coord}
 use Rattle.ses_reader.specs.Measures.{word_refusal}
+use Rattle.ses_reader.specs.declared.table.TheConstants.{NO_LAYER, NO_MEASURE, NO_PADSTACK, NO_PATH}
 
 -- ---- a path such as `(path L w x y x y)`
 -- the place of its layer, which is a name and never a group of layers
@@ -58,8 +59,8 @@ number_refusals m t = extent_refusal m t 2 ++ flat_map (word_refusal m) (numbers
 
 -- its layer, and its numbers or their count
 unfoldable pub path_refusals : Design → Measure → Tree → List Refusal
-path_refusals d m t = refused_unless (is_some (layer_place d t)) 4 (place_of t 1)
-    ++ (if has_points (length (words_of t)) then number_refusals m t else refused 6 (at_of t) ∷ [])
+path_refusals d m t = refused_unless (is_some (layer_place d t)) NO_LAYER (place_of t 1)
+    ++ (if has_points (length (words_of t)) then number_refusals m t else refused NO_PATH (at_of t) ∷ [])
 
 -- ---- a wire, which has one path
 -- the one tree of a list of one
@@ -72,7 +73,7 @@ wire_metal d m t = option_map_or (path_metal d m) (only (paths_in t)) no_wire
 
 -- those of its path, or that it hasn't just one
 unfoldable pub wire_refusals : Design → Measure → Tree → List Refusal
-wire_refusals d m t = option_map_or (path_refusals d m) (only (paths_in t)) (refused 6 (at_of t) ∷ [])
+wire_refusals d m t = option_map_or (path_refusals d m) (only (paths_in t)) (refused NO_PATH (at_of t) ∷ [])
 
 -- ---- a via such as `(via P x y)`
 -- the place of its padstack
@@ -102,9 +103,9 @@ via_metal d m t = Via (place_index (unwrap_or (padstack_place d t) 0)) (unwrap_o
 
 -- its padstack, its two numbers and its vertices
 unfoldable pub via_refusals : Design → Measure → Tree → List Refusal
-via_refusals d m t = refused_unless (is_some (padstack_place d t)) 5 (place_of t 1)
+via_refusals d m t = refused_unless (is_some (padstack_place d t)) NO_PADSTACK (place_of t 1)
     ++ (coord_refusal m t 2 ++ (coord_refusal m t 3
-    ++ refused_unless (not (is_via_past (padstack_at d (padstack_place d t)) (via_point m t))) 2 (at_of t)))
+    ++ refused_unless (not (is_via_past (padstack_at d (padstack_place d t)) (via_point m t))) NO_MEASURE (at_of t)))
 
 -- ---- a wire or a via
 -- its copper

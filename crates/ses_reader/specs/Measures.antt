@@ -16,6 +16,7 @@ use Rattle.dsn_shapes.specs.Lists.{at_of, name_of, nth_word, place_of, text_of}
 use Rattle.dsn_shapes.specs.Numbers.{number_by}
 use Rattle.dsn_structure.specs.Header.{unit_of, unit_in, count_of}
 use Rattle.ses_reader.specs.declared.measure.Measure.{Measure}
+use Rattle.ses_reader.specs.declared.table.TheConstants.{NO_MEASURE, NO_SESSION}
 
 -- ---- a decimal in nm
 -- it is top_in / bottom_in, with its sign
@@ -79,15 +80,15 @@ refused_unless holds number at = if holds then [] else refused number at ∷ []
 
 -- a word that is wanted as a coordinate
 abbrev pub word_refusal : Measure → Tree → List Refusal
-word_refusal m w = refused_unless (is_some (word_coord m w)) 2 (at_of w)
+word_refusal m w = refused_unless (is_some (word_coord m w)) NO_MEASURE (at_of w)
 
 -- the same of word i
 abbrev pub coord_refusal : Measure → Tree → ℕ → List Refusal
-coord_refusal m t i = refused_unless (is_some (coord_at m t i)) 2 (place_of t i)
+coord_refusal m t i = refused_unless (is_some (coord_at m t i)) NO_MEASURE (place_of t i)
 
 -- word i is wanted as a width
 abbrev pub extent_refusal : Measure → Tree → ℕ → List Refusal
-extent_refusal m t i = refused_unless (is_some (extent_at m t i)) 2 (place_of t i)
+extent_refusal m t i = refused_unless (is_some (extent_at m t i)) NO_MEASURE (place_of t i)
 
 -- ---- the first resolution of the routes, such as `(resolution um 10)`
 -- a part that is refused stands for `um` or 1
@@ -104,10 +105,10 @@ measure_in routes = option_map_or measure_by (child routes (codes "resolution"))
 
 -- its unit and its count, which are words 1 and 2
 abbrev pub resolution_refusal : Tree → List Refusal
-resolution_refusal t = refused_unless (is_some (unit_of (name_of t 1))) 2 (place_of t 1)
-    ++ refused_unless (is_some (count_of t)) 2 (place_of t 2)
+resolution_refusal t = refused_unless (is_some (unit_of (name_of t 1))) NO_MEASURE (place_of t 1)
+    ++ refused_unless (is_some (count_of t)) NO_MEASURE (place_of t 2)
 
 -- routes want a resolution
 unfoldable pub resolution_refusals : Tree → List Refusal
 resolution_refusals routes = option_map_or resolution_refusal (child routes (codes "resolution"))
-    (refused 1 (at_of routes) ∷ [])
+    (refused NO_SESSION (at_of routes) ∷ [])

@@ -15,6 +15,7 @@ use Rattle.ses_reader.specs.declared.item.SesItem.{SesItem}
 use Rattle.ses_reader.specs.Names.{net_names}
 use Rattle.ses_reader.specs.Measures.{measure_in, refused_unless, resolution_refusals}
 use Rattle.ses_reader.specs.Copper.{metal_of, metal_refusals}
+use Rattle.ses_reader.specs.declared.table.TheConstants.{NO_NET, NO_SESSION}
 
 -- ---- a net such as `(net A (wire ..) (via ..))`
 -- the place of the net in the design
@@ -35,7 +36,7 @@ net_items d m t = map (item_of d m (place_index (unwrap_or (net_place d t) 0))) 
 
 -- the net's name, and the copper
 unfoldable pub net_refusals : Design → Measure → Tree → List Refusal
-net_refusals d m t = refused_unless (is_some (net_place d t)) 3 (place_of t 1)
+net_refusals d m t = refused_unless (is_some (net_place d t)) NO_NET (place_of t 1)
     ++ flat_map (metal_refusals d m) (copper_in t)
 
 -- ---- the nets of a `network_out`, in the text's order
@@ -59,7 +60,8 @@ routes_items d t = option_map_or (network_items d (measure_in t)) (child t (code
 -- those of the resolution and the nets; both lists are wanted
 unfoldable pub routes_refusals : Design → Tree → List Refusal
 routes_refusals d t = resolution_refusals t
-    ++ option_map_or (network_refusals d (measure_in t)) (child t (codes "network_out")) (refused 1 (at_of t) ∷ [])
+    ++ option_map_or (network_refusals d (measure_in t)) (child t (codes "network_out"))
+    (refused NO_SESSION (at_of t) ∷ [])
 
 -- ---- the whole
 -- the items of a session
@@ -68,5 +70,5 @@ session_items d t = option_map_or (routes_items d) (child t (codes "routes")) []
 
 -- all its refusals
 unfoldable pub session_refusals : Design → Tree → List Refusal
-session_refusals d t = refused_unless (is_headed (codes "session") t) 1 (at_of t)
-    ++ option_map_or (routes_refusals d) (child t (codes "routes")) (refused 1 (at_of t) ∷ [])
+session_refusals d t = refused_unless (is_headed (codes "session") t) NO_SESSION (at_of t)
+    ++ option_map_or (routes_refusals d) (child t (codes "routes")) (refused NO_SESSION (at_of t) ∷ [])

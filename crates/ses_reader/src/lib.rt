@@ -10,6 +10,7 @@ mod network;
 mod numbers;
 mod resolution;
 mod session;
+pub mod table;
 mod vertices;
 mod via;
 mod wire;

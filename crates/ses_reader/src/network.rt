@@ -14,6 +14,7 @@ use crate::index::DesignIndex;
 use crate::item::SesItem;
 use crate::measure::Measure;
 use crate::numbers::note_unless;
+use crate::table::NO_NET;
 use crate::via::note_via;
 use crate::wire::note_wire;
 use dsn_shapes::{Refusal, Trees, at_of, name_of, place_index, place_of};
@@ -87,11 +88,11 @@ fn push_items(
 // Where a net of a session stands in the design.
 fn note_net(first: &mut Option<Refusal>, index: &DesignIndex, net: &Tree) -> Option<usize>
     ensures noted { first.new ≡ noted first.old
-        (refused_unless (is_some (net_place index.now net.now)) 3 (place_of net.now 1)) }
+        (refused_unless (is_some (net_place index.now net.now)) NO_NET (place_of net.now 1)) }
     ensures value { result ≡ net_place index.now net.now }
 {
     let place = index.net(name_of(net, 1));
-    note_unless(first, place.is_some(), 3, place_of(net, 1));
+    note_unless(first, place.is_some(), NO_NET, place_of(net, 1));
     place
 }
 

@@ -7,6 +7,7 @@ ghost use Rattle.ses_reader.specs.Measures.{coord_at, coord_refusal, extent_at, 
 ghost use Rattle.ses_reader.specs.Measures.{word_coord, word_extent, word_refusal};
 
 use crate::measure::{Measure, coord, extent};
+use crate::table::NO_MEASURE;
 use dsn_shapes::{Refusal, at_of, note, nth_word, place_of, refused, text_of};
 use dsn_tree::Tree;
 use dsn_units::read_decimal;
@@ -47,7 +48,7 @@ pub(crate) fn note_word(first: &mut Option<Refusal>, word: &Tree, m: Measure) ->
     ensures value { result ≡ word_coord m word.now }
 {
     let coord = word_coord(word, m);
-    note_unless(first, coord.is_some(), 2, at_of(word));
+    note_unless(first, coord.is_some(), NO_MEASURE, at_of(word));
     coord
 }
 
@@ -83,7 +84,7 @@ pub(crate) fn note_coord(
     ensures value { result ≡ coord_at m tree.now i }
 {
     let coord = coord_at(tree, i, m);
-    note_unless(first, coord.is_some(), 2, place_of(tree, i));
+    note_unless(first, coord.is_some(), NO_MEASURE, place_of(tree, i));
     coord
 }
 
@@ -99,6 +100,6 @@ pub(crate) fn note_extent(
     ensures value { result ≡ extent_at m tree.now i }
 {
     let extent = extent_at(tree, i, m);
-    note_unless(first, extent.is_some(), 2, place_of(tree, i));
+    note_unless(first, extent.is_some(), NO_MEASURE, place_of(tree, i));
     extent
 }

@@ -8,6 +8,8 @@ ghost use Rattle.ses_reader.specs.Measures.{measure_in, resolution_refusal, reso
 
 use crate::measure::Measure;
 use crate::numbers::note_unless;
+use crate::table::{NO_MEASURE, NO_SESSION};
+use dsn_shapes::limits::MOST_PER;
 use dsn_shapes::{Refusal, at_of, name_of, note, place_of, refused};
 use dsn_tree::{Tree, child};
 use dsn_units::{read_decimal, whole_number};
@@ -56,7 +58,7 @@ fn count_of(tree: &Tree) -> Option<u32>
     ensures some { IfSome result (λ n. 1 ≤ n) }
 {
     match read_decimal(name_of(tree, 2)) {
-        Some(decimal) => some_count(whole_number(&decimal, 1_000_000)),
+        Some(decimal) => some_count(whole_number(&decimal, MOST_PER)),
         None => None,
     }
 }
@@ -98,7 +100,12 @@ fn refuse_resolution(first: &mut Option<Refusal>, tree: &Tree)
         2,
         place_of(tree, 1),
     );
-    note_unless(first, count_of(tree).is_some(), 2, place_of(tree, 2));
+    note_unless(
+        first,
+        count_of(tree).is_some(),
+        NO_MEASURE,
+        place_of(tree, 2),
+    );
 }
 
 /// Refuses the resolution of these routes, or their lack of one.
@@ -108,6 +115,6 @@ pub(crate) fn refuse_resolutions(first: &mut Option<Refusal>, routes: &Tree)
 {
     match child(routes, b"resolution") {
         Some(tree) => refuse_resolution(first, tree),
-        None => note(first, refused(1, at_of(routes))),
+        None => note(first, refused(NO_SESSION, at_of(routes))),
     }
 }

@@ -12,6 +12,7 @@ use crate::item::{SesFault, SesItem};
 use crate::network::note_network;
 use crate::numbers::note_unless;
 use crate::resolution::{measure_in, refuse_resolutions};
+use crate::table::NO_SESSION;
 use dsn_shapes::{ReadFault, Refusal, at_of, note, refused};
 use dsn_tree::{Tree, TreeFault, child, is_headed, read_tree};
 use geo_kernel::List;
@@ -32,7 +33,7 @@ fn note_routes(
     match child(routes, b"network_out") {
         Some(network) => note_network(alloc, first, d, network, measure_in(routes)),
         None => {
-            note(first, refused(1, at_of(routes)));
+            note(first, refused(NO_SESSION, at_of(routes)));
             Ok(List::new(alloc))
         }
     }
@@ -48,11 +49,11 @@ fn note_session(
     ensures noted { OnOk result (first.new ≡ noted first.old (session_refusals d.now tree.now)) }
     ensures value { IfOk result (λ v. v ≡ session_items d.now tree.now) }
 {
-    note_unless(first, is_headed(tree, b"session"), 1, at_of(tree));
+    note_unless(first, is_headed(tree, b"session"), NO_SESSION, at_of(tree));
     match child(tree, b"routes") {
         Some(routes) => note_routes(alloc, first, d, routes),
         None => {
-            note(first, refused(1, at_of(tree)));
+            note(first, refused(NO_SESSION, at_of(tree)));
             Ok(List::new(alloc))
         }
     }

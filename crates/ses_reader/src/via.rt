@@ -4,7 +4,6 @@
 ghost use Rattle.std.specs.Prelude.{◌≡◌, ◌≤◌, not};
 ghost use Rattle.pcb_model.specs.Sound.{origin};
 ghost use Rattle.dsn_shapes.specs.Refusals.{noted};
-ghost use Rattle.dsn_wiring.specs.Vias.{point_by};
 ghost use Rattle.ses_reader.specs.Measures.{coord_refusal, refused_unless};
 ghost use Rattle.ses_reader.specs.Copper.{is_via_past, padstack_at, padstack_place, via_metal, via_point, via_refusals};
 ghost use Rattle.std.specs.Prelude.{◌++◌, is_some};
@@ -13,9 +12,11 @@ ghost use Rattle.dsn_shapes.specs.Lists.{at_of, place_of};
 use crate::index::DesignIndex;
 use crate::measure::Measure;
 use crate::numbers::{note_coord, note_unless};
+use crate::table::{NO_MEASURE, NO_PADSTACK};
 use crate::vertices::is_stack_past;
 use dsn_shapes::{Refusal, at_of, name_of, place_index, place_of};
 use dsn_tree::Tree;
+use dsn_wiring::point_by;
 use geo_kernel::Point;
 use pcb_model::{Design, Metal};
 
@@ -23,15 +24,6 @@ fn origin() -> Point
     ensures { result ≡ origin }
 {
     Point { x: 0, y: 0 }
-}
-
-fn point_by(x: Option<i64>, y: Option<i64>) -> Option<Point>
-    ensures { result ≡ point_by x y }
-{
-    match (x, y) {
-        (Some(x), Some(y)) => Some(Point { x, y }),
-        _ => None,
-    }
 }
 
 // The place of a via, where neither of its numbers is refused.
@@ -49,11 +41,11 @@ fn note_point(first: &mut Option<Refusal>, via: &Tree, m: Measure) -> Option<Poi
 // Where the padstack of a via stands in the design.
 fn note_padstack(first: &mut Option<Refusal>, index: &DesignIndex, via: &Tree) -> Option<usize>
     ensures noted { first.new ≡ noted first.old
-        (refused_unless (is_some (padstack_place index.now via.now)) 5 (place_of via.now 1)) }
+        (refused_unless (is_some (padstack_place index.now via.now)) NO_PADSTACK (place_of via.now 1)) }
     ensures value { result ≡ padstack_place index.now via.now }
 {
     let place = index.padstack(name_of(via, 1));
-    note_unless(first, place.is_some(), 5, place_of(via, 1));
+    note_unless(first, place.is_some(), NO_PADSTACK, place_of(via, 1));
     place
 }
 
@@ -85,7 +77,7 @@ pub(crate) fn note_via(
     let place = note_padstack(first, index, via);
     let at = note_point(first, via, m);
     let is_past = is_via_past(index.design(), place, at);
-    note_unless(first, !is_past, 2, at_of(via));
+    note_unless(first, !is_past, NO_MEASURE, at_of(via));
     Metal::Via {
         padstack: place_index(place.unwrap_or(0)),
         at: at.unwrap_or(origin()),

@@ -16,6 +16,7 @@ ghost use Rattle.ses_reader.specs.Copper.{only, path_metal, path_refusals, wire_
 use crate::index::DesignIndex;
 use crate::measure::Measure;
 use crate::numbers::{note_extent, note_unless, note_word};
+use crate::table::{NO_LAYER, NO_PATH};
 use dsn_shapes::{Refusal, Trees, at_of, name_of, note, place_of, refused};
 use dsn_tree::Tree;
 use geo_kernel::{List, Point};
@@ -35,11 +36,11 @@ fn no_wire(alloc: Global) -> Metal
 // Where the layer of a path stands in the design; groups of layers are no names.
 fn note_layer(first: &mut Option<Refusal>, index: &DesignIndex, path: &Tree) -> Option<usize>
     ensures noted { first.new ≡ noted first.old
-        (refused_unless (is_some (layer_place index.now path.now)) 4 (place_of path.now 1)) }
+        (refused_unless (is_some (layer_place index.now path.now)) NO_LAYER (place_of path.now 1)) }
     ensures value { result ≡ layer_place index.now path.now }
 {
     let place = index.layer(name_of(path, 1));
-    note_unless(first, place.is_some(), 4, place_of(path, 1));
+    note_unless(first, place.is_some(), NO_LAYER, place_of(path, 1));
     place
 }
 
@@ -153,7 +154,7 @@ fn note_path(
     let layer = note_layer(first, index, path);
     let words = Trees::words(alloc, path)?;
     if !has_points(words.len()) {
-        note(first, refused(6, at_of(path)));
+        note(first, refused(NO_PATH, at_of(path)));
         return Ok(no_wire(alloc));
     }
     note_numbers(alloc, first, path, m, layer_index(layer.unwrap_or(0)))
@@ -183,7 +184,7 @@ pub(crate) fn note_wire(
     match only(&paths) {
         Some(path) => note_path(alloc, first, index, path, m),
         None => {
-            note(first, refused(6, at_of(wire)));
+            note(first, refused(NO_PATH, at_of(wire)));
             Ok(no_wire(alloc))
         }
     }

@@ -4,6 +4,7 @@
 ghost use Rattle.std.specs.Prelude.{IfSome};
 ghost use Rattle.std.specs.Option.{option_copied};
 ghost use Rattle.pcb_model.specs.Bounds.{IsItemFit, IsProbeFit};
+ghost use Rattle.pcb_model.specs.Plain.{IsPlainCopper};
 ghost use Rattle.pcb_model.specs.Sound.{IsSound};
 
 use dsn_design::read_design;
@@ -39,8 +40,9 @@ pub(crate) fn held<S: Says>(alloc: Global, text: &str, rows: &[S]) -> u64 {
 }
 
 /// The design of a short text, or None where it is refused.
-pub(crate) fn board(alloc: Global, text: &str) -> Option<Design>
-    ensures { IfSome result IsSound }
+pub(crate) fn design_of(alloc: Global, text: &str) -> Option<Design>
+    ensures sound { IfSome result IsSound }
+    ensures plain { IfSome result IsPlainCopper }
 {
     let bytes = text.as_bytes();
     if bytes.len() > 1_000_000 {
@@ -50,6 +52,13 @@ pub(crate) fn board(alloc: Global, text: &str) -> Option<Design>
         Ok(design) => Some(design),
         Err(_) => None,
     }
+}
+
+/// The same, where what its copper is doesn't matter.
+pub(crate) fn board(alloc: Global, text: &str) -> Option<Design>
+    ensures { IfSome result IsSound }
+{
+    design_of(alloc, text)
 }
 
 /// A fixed item.

@@ -1,12 +1,11 @@
 -- Copper that serves a sound design: its fixed items, and routed ones that come and go.
-use Rattle.std.proofs.Common.{◌≡◌, ℕ, ◌<◌, refl, sym, ap, ◌∙◌, subst, Bool, true, false, List, [], ◌∷◌, ◌++◌, map}
+use Rattle.std.proofs.Common.{◌≡◌, ℕ, ◌<◌, refl, sym, ap, ◌∙◌, subst, Bool, false, List, [], ◌∷◌, ◌++◌, map}
 use Rattle.std.proofs.Common.{take, drop, Option, Some, None, All, IfSome, length, slice_get, get_or, cond, suc}
 use Rattle.std.proofs.Common.{arith, rules}
 use Prim.Native.Nat.{zero}
 use Rattle.std.specs.Prelude.{remove, MatchOption}
 use Rattle.std.specs.List.{filter}
 use Rattle.std.proofs.lemmas.List.{length-take, get_or-take}
-use Rattle.std.proofs.lemmas.Option.{slice_get-get_or}
 use Rattle.std.proofs.lemmas.List.Elements.{All-nil, All-cons, All-head, All-tail, All-map, All-append, All-take}
 use Rattle.std.proofs.lemmas.List.Elements.{All-drop}
 use Rattle.geo_kernel.specs.declared.point.Point.{Point}
@@ -20,9 +19,10 @@ use Rattle.pcb_model.specs.declared.design.FreeWire.{FreeWire}
 use Rattle.pcb_model.specs.Board.{is_fixed, IsRouted}
 use Rattle.pcb_model.specs.Bounds.{IsItemFit, HasClearancesWithin}
 use Rattle.pcb_model.specs.Pieces.{pieces_of, pieces_in, padstack_pieces, moved_piece, wire_piece, item_of}
-use Rattle.pcb_model.specs.Sound.{IsSound, IsFixedSound, IsFreeSound, IsItemOf, IsLayerOf, IsMetalInRange, IsCopper}
+use Rattle.pcb_model.specs.Sound.{IsSound, IsFreeSound, IsItemOf, IsLayerOf, IsMetalInRange, IsCopper}
 use Rattle.pcb_model.specs.Sound.{Serves}
 use Rattle.pcb_model.proofs.Laying.{serves_more}
+use Rattle.map_rips.proofs.Serving.{fixed_at}
 use Rattle.pcb_tiles.specs.Spread.{Spread, Gains, Loses, ServesSpread, holding}
 
 each : (P : Item → Type 0) (found : Option Item) → ((a : Item) → found ≡ Some a → P a) → IfSome found P
@@ -31,27 +31,6 @@ each P (Some a) holds = holds a refl
 
 pub some_fits : (d : Design) → IsSound d → (at : ℕ) → IfSome (slice_get d.fixed at) IsItemFit
 some_fits d sound at = each IsItemFit (slice_get d.fixed at) (λ a there. (sound.fixed at a there).item.fits)
-
-pub fixed_at : (d : Design) → IsSound d → (k : ℕ) (x : Item) → k < length d.fixed
-    → IsFixedSound d k (get_or d.fixed k x)
-fixed_at d sound k x within = sound.fixed k (get_or d.fixed k x) (slice_get-get_or d.fixed k x within)
-
-abbrev IsFixed : Item → Type 0
-IsFixed a = a.fixed ≡ true
-
-kept : (xs : List Item) → All IsFixed xs → filter is_fixed xs ≡ xs
-kept [] fixed = refl
-kept (x ∷ xs) fixed =
-    subst (λ (b : Bool). cond b (x ∷ filter is_fixed xs) (filter is_fixed xs) ≡ x ∷ xs)
-    (sym (fixed 0 x (omega arith)))
-    (ap (λ rest. x ∷ rest) (kept xs (λ k d within. fixed (suc k) d (omega arith))))
-
-pub fixed_serve : (d : Design) → IsSound d → Serves d.fixed d
-fixed_serve d sound = record {
-  design_fits = sound.fits;
-  fixed_there = kept d.fixed (λ k x within. (fixed_at d sound k x within).fixed);
-  items_fit = λ k x within. (fixed_at d sound k x within).item;
-}
 
 -- the fixed items before one have lesser ids
 pub fixed_above : (d : Design) → IsSound d → (i : ℕ) (x : Item) → i < length d.fixed → x ≡ get_or d.fixed i x

@@ -111,7 +111,8 @@ pub(crate) fn fixed(d: &Design, at: usize) -> Option<&Item>
     d.fixed.get(at)
 }
 
-fn made(alloc: Global, d: &Design, free: &FreeWire, id: u64) -> Result<Item, AllocError>
+/// The routed item of this id that this free wiring makes.
+pub(crate) fn made(alloc: Global, d: &Design, free: &FreeWire, id: u64) -> Result<Item, AllocError>
     requires sound { IsSound d.now }
     requires free { IsFreeSound d.now free.now }
     ensures of { IfOk result (IsItemOf d.now) }
@@ -123,7 +124,7 @@ fn made(alloc: Global, d: &Design, free: &FreeWire, id: u64) -> Result<Item, All
     Ok(item)
 }
 
-/// The routed item of this id that free wiring makes.
+/// The routed item of this id that the free wiring at a place makes.
 pub(crate) fn routed(alloc: Global, d: &Design, at: usize, id: u64) -> Option<Item>
     requires { IsSound d.now }
     ensures of { IfSome result (IsItemOf d.now) }

@@ -108,7 +108,8 @@ pub(crate) fn take_out(d: &Design, tiles: &mut Tiles, id: u64) -> Option<()>
     Some(())
 }
 
-fn add_plain(copper: &mut PlainCopper, item: Item) -> Result<(), AllocError>
+/// Adds an item to a plain list, behind all of it.
+pub(crate) fn add_plain(copper: &mut PlainCopper, item: Item) -> Result<(), AllocError>
     requires above { All (λ b. b.id < item.id) copper.old }
     requires fits { IsItemFit item }
     ensures { OnOk result (copper.new ≡ copper.old ++ item ∷ []) }
@@ -120,15 +121,24 @@ fn add_plain(copper: &mut PlainCopper, item: Item) -> Result<(), AllocError>
 }
 
 /// The copper of a design's fixed items, as a plain list.
-pub(crate) fn fixed_plain(alloc: Global, d: &Design) -> Result<PlainCopper, AllocError>
+pub(crate) fn fixed_list(alloc: Global, d: &Design) -> Result<PlainCopper, AllocError>
     requires { IsSound d.now }
-    ensures { IfOk result (λ copper. Serves copper d.now) }
+    ensures { IfOk result (λ copper. copper ≡ d.now.fixed) }
 {
     let mut copper = PlainCopper::new(alloc);
     for item in d.fixed.as_slice() {
         let copy = copy_item(alloc, item)?;
         add_plain(&mut copper, copy)?;
     }
+    Ok(copper)
+}
+
+/// The same, which serves the design.
+pub(crate) fn fixed_plain(alloc: Global, d: &Design) -> Result<PlainCopper, AllocError>
+    requires { IsSound d.now }
+    ensures { IfOk result (λ copper. Serves copper d.now) }
+{
+    let copper = fixed_list(alloc, d)?;
     Ok(copper)
 }
 

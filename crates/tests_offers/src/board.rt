@@ -53,6 +53,28 @@ pub(crate) const DROPPING: &str = "(pcb T
     (wire (path F.Cu 200 2000 5500 3000 5500) (net B))
     (wire (path F.Cu 200 2000 7000 3000 7000) (net B))))";
 
+/// Two walls with a gap between them, through which a free wire of net 0 leads, item 7. The pins of net 1, items 5
+/// and 6, lie below it.
+pub(crate) const WALLS: &str = "(pcb C
+  (resolution um 10)
+  (unit um)
+  (structure
+    (layer F.Cu (type signal))
+    (boundary (rect pcb 0 0 10000 10000))
+    (keepout (rect F.Cu 4000 0 6000 4700))
+    (keepout (rect F.Cu 4000 6300 6000 10000))
+    (rule (width 200) (clearance 200)))
+  (placement (component P
+    (place C1 1000 8000 front 0)
+    (place C2 9000 8000 front 0)
+    (place C3 3000 2000 front 0)
+    (place C4 7000 2000 front 0)))
+  (library
+    (image P (pin PAD 1 0 0))
+    (padstack PAD (shape (circle F.Cu 1000))))
+  (network (net A (pins C1-1 C2-1)) (net B (pins C3-1 C4-1)))
+  (wiring (wire (path F.Cu 200 1000 8000 1000 5000 9000 5000 9000 8000) (net A) (type route))))";
+
 /// The design of a short text, or None where it is refused.
 fn design_of(alloc: Global, text: &str) -> Option<Design>
     ensures sound { IfSome result IsSound }
@@ -74,6 +96,15 @@ pub(crate) fn start(alloc: Global, text: &str, cap: u64) -> Option<(Board, List<
 {
     let design = design_of(alloc, text)?;
     Board::start(alloc, design, cap).ok()
+}
+
+/// The board of a short text with room for as many ids as there can be, or None where it is refused or memory is
+/// wanting.
+pub(crate) fn opened(alloc: Global, text: &str) -> Option<Board> {
+    match start(alloc, text, 524_288) {
+        Some((board, _)) => Some(board),
+        None => None,
+    }
 }
 
 fn chain_of(alloc: Global, um: &[(u16, u16)]) -> Result<List<Point>, AllocError> {

@@ -3,18 +3,18 @@
 ghost use Rattle.std.specs.Prelude.{◌≡◌, IfSome};
 ghost use Rattle.board_turn.specs.Turns.{count_of};
 
-use crate::turn_board::{across, along, crossing};
+use crate::board::{CROSS, across, along, opened};
 use board_turn::{Pass, Turn};
 use pcb_board::{Answer, Board, Offer, Snap};
 use pcb_model::Copper;
 use std::alloc::{AllocError, Global};
 use std::sync::Wait;
 
-/// A turn over the crossing board, and its two passes, or None where memory is wanting.
+/// A turn over the board of two nets that cross, and its two passes, or None where memory is wanting.
 fn start(alloc: Global) -> Option<(Turn, Pass, Pass)>
     ensures { IfSome result (λ r. (r.1.turn ≡ r.0) × (r.2.turn ≡ r.0) × (count_of r.0 ≡ 2)) }
 {
-    let board = crossing(alloc)?;
+    let board = opened(alloc, CROSS)?;
     let (turn, mut passes) = Turn::new(alloc, board, 2).ok()?;
     let second = passes.pop()?;
     let first = passes.pop()?;
@@ -60,12 +60,12 @@ fn close(alloc: Global, turn: Turn, first: Pass, second: Pass) -> Option<Board>
 fn a_pass_sees_what_the_other_committed(rt: HostRuntime) {
     let alloc = rt.alloc();
     let (turn, mut first, mut second) = start(alloc).expect(&rt, "no turn");
-    let taken = answer(&rt, &turn, &mut first, along(alloc));
+    let taken = answer(&rt, &turn, &mut first, along(alloc, 0));
     assert!(rt; taken == Some(Answer::Committed { number: 1 }));
     let snap = look(&rt, &turn, &mut second).expect(&rt, "no snapshot");
     assert_eq!(rt; snap.number(), 1);
     assert!(rt; snap.item(5).is_some());
-    let late = answer(&rt, &turn, &mut second, across(alloc));
+    let late = answer(&rt, &turn, &mut second, across(alloc, 0));
     assert!(rt; late == Some(Answer::Stale { item: 5, commit: 1 }));
     let board = close(alloc, turn, first, second).expect(&rt, "no memory");
     assert_eq!(rt; board.history().len(), 1);

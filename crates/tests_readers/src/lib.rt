@@ -1,5 +1,5 @@
 //! Tests of the readers of a design's sections: what they hold, on boards that are worked out by hand.
-//! What is refused stands in the table of `tests_refusals`.
+//! What is refused stands in the tables of `tests_tables`.
 #![tactic(auto)]
 
 #[cfg(test)]

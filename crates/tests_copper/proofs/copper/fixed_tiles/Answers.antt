@@ -3,7 +3,8 @@ use Rattle.std.proofs.lemmas.List.{take_all}
 use Rattle.pcb_model.specs.declared.item.Item.{Item}
 use Rattle.pcb_model.specs.Bounds.{IsItemFit}
 use Rattle.pcb_model.specs.Sound.{Serves}
-use Rattle.tests_copper.proofs.Serving.{fixed_at, fixed_above, fixed_serve}
+use Rattle.map_rips.proofs.Serving.{fixed_at, fixed_serve}
+use Rattle.tests_copper.proofs.Serving.{fixed_above}
 use Rattle.tests_copper.proofs.copper.fixed_tiles.Goals as goal
 
 pub add_item-requires-clause-fits : goal.add_item-requires-clause-fits

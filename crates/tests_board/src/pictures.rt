@@ -1,0 +1,121 @@
+//! The picture of a small board, byte for byte: two layers, three pins of which one is open, a keepout, and names
+//! with marks that XML reads as its own. Lengths in the design are in um.
+
+use crate::board::design_of;
+use board_picture::{open_lines, picture_text};
+use pcb_board::{Board, boards_serve};
+use std::alloc::Global;
+
+/// The wires and the via are fixed, so that the board's items are the design's.
+const DESIGN: &str = r#"(pcb "P&Q"
+  (resolution um 10)
+  (unit um)
+  (structure
+    (layer F.Cu (type signal))
+    (layer B.Cu (type signal))
+    (boundary (rect pcb -1000 -2000 9000 6000))
+    (keepout "" (polygon F.Cu 0 6000 -1000 8000 -1000 8000 500))
+    (via V)
+    (rule (width 200) (clearance 200)))
+  (placement
+    (component P (place C<1> 1000 2000 front 0) (place C2 7000 2000 front 0))
+    (component S (place C3 4000 4500.5 front 0)))
+  (library
+    (image P (pin PAD 1 0 0))
+    (image S (pin SMALL 1 0 0))
+    (padstack PAD (shape (circle F.Cu 1000)) (shape (circle B.Cu 1000)))
+    (padstack SMALL (shape (rect F.Cu -500 -250 500 250)))
+    (padstack V (shape (circle F.Cu 600)) (shape (circle B.Cu 600))))
+  (network (net A (pins C<1>-1 C2-1 C3-1)))
+  (wiring
+    (wire (path F.Cu 250 1000 2000 4000 2000) (net A) (type fix))
+    (via V 4000 2000 (net A) (type fix))
+    (wire (path B.Cu 200.5 4000 2000 5000 3000 7000 2000) (net A) (type fix))))"#;
+
+/// The text, worked by hand. As a picture it shows the names C<1>, C2 and C3 upright, C3 above the others, and in
+/// black the pads of C<1> and C2 and the via.
+const PICTURE: &str =
+    r##"<svg xmlns="http://www.w3.org/2000/svg" viewBox="0 0 14.25 8.5" font-family="sans-serif">
+<title>P&amp;Q</title>
+<pattern id="hatch" width="0.8" height="0.8" patternUnits="userSpaceOnUse" patternTransform="rotate(45)"><path d="M0 0v1" stroke="#777" stroke-width="0.5"/></pattern>
+<rect width="100%" height="100%" fill="#fff"/>
+<g transform="translate(1.5 6.25) scale(1 -1)" fill-rule="evenodd" stroke-linecap="round" stroke-linejoin="round">
+<g class="keepouts" fill="url(#hatch)" stroke="url(#hatch)">
+<path stroke-width="0" d="M 6 -1 8 -1 8 0.5z"/>
+</g>
+<g id="B.Cu" fill="#56B4E9" stroke="#56B4E9" opacity="0.85">
+<path stroke-width="0.2005" fill="none" d="M 4 2 5 3 7 2h0"/>
+</g>
+<g id="F.Cu" fill="#BE4B00" stroke="#BE4B00" opacity="0.85">
+<path stroke-width="0.25" fill="none" d="M 1 2 4 2h0"/>
+<path stroke-width="0" d="M 3.5 4.2505 4.5 4.2505 4.5 4.7505 3.5 4.7505z"/>
+</g>
+<g class="through" fill="#000" stroke="#000" opacity="0.85">
+<path stroke-width="1" fill="none" d="M 1 2h0"/>
+<path stroke-width="1" fill="none" d="M 1 2h0"/>
+<path stroke-width="1" fill="none" d="M 7 2h0"/>
+<path stroke-width="1" fill="none" d="M 7 2h0"/>
+<path stroke-width="0.6" fill="none" d="M 4 2h0"/>
+<path stroke-width="0.6" fill="none" d="M 4 2h0"/>
+</g>
+<g class="holes" fill="#fff">
+<circle r="0.2" transform="translate( 1 2)"/>
+<circle r="0.2" transform="translate( 7 2)"/>
+<circle r="0.12" transform="translate( 4 2)"/>
+</g>
+<g class="edge" fill="none" stroke="#000" stroke-width="0.025">
+<path d="M -1 -2 9 -2 9 6 -1 6z"/>
+</g>
+<g class="names" transform="translate(-0.083333 0.083333)" font-size="0.125" text-anchor="end" stroke="#fff" stroke-width="0.025" paint-order="stroke">
+<text transform="matrix(1 0 0 -1 1 2)">C&lt;1&gt;</text>
+<text transform="matrix(1 0 0 -1 7 2)">C2</text>
+<text transform="matrix(1 0 0 -1 4 4.5005)">C3</text>
+</g>
+<g class="open" fill="none" stroke="#E0007A" stroke-width="0.015625" stroke-dasharray="0.125">
+<path d="M 1 2 4 4.5005"/>
+</g>
+</g>
+<g transform="translate(10.75 0.25) scale(0.25)" font-size="0.8">
+<path d="M0 0.5h2" stroke-width="0.6" fill="#BE4B00" stroke="#BE4B00" opacity="0.85"/><text x="2.5" y="0.8">F.Cu</text>
+<path d="M0 1.5h2" stroke-width="0.6" fill="#56B4E9" stroke="#56B4E9" opacity="0.85"/><text x="2.5" y="1.8">B.Cu</text>
+<path d="M0 2.5h2" stroke-width="0.6" fill="#000" stroke="#000" opacity="0.85"/><text x="2.5" y="2.8">through pads and vias</text>
+<path d="M0 3.5h2" stroke-width="0.6" stroke="url(#hatch)"/><text x="2.5" y="3.8">keepouts</text>
+<path d="M0 4.5h2" stroke-width="0.06" stroke="#E0007A" stroke-dasharray="0.5"/><text x="2.5" y="4.8">open 1</text>
+<text x="2.5" y="5.8">nets 1</text>
+<text x="2.5" y="6.8">wires 2</text>
+<text x="2.5" y="7.8">vias 1</text>
+<text x="2.5" y="8.8">10 x 8 mm</text>
+</g>
+</svg>
+"##;
+
+fn start(alloc: Global) -> Option<Board> {
+    let design = design_of(alloc, DESIGN)?;
+    match Board::start(alloc, design, 524_288) {
+        Ok((board, _)) => Some(board),
+        Err(_) => None,
+    }
+}
+
+fn draws(alloc: Global) -> Option<bool> {
+    let board = start(alloc)?;
+    board.keeps();
+    boards_serve();
+    let Ok(snap) = board.snap() else {
+        return None;
+    };
+    let d = snap.design();
+    let Ok(lines) = open_lines(alloc, d, &snap) else {
+        return None;
+    };
+    match picture_text(alloc, d, d.fixed.as_slice(), lines.as_slice()) {
+        Ok(text) => Some(text.as_slice() == PICTURE.as_bytes()),
+        Err(_) => None,
+    }
+}
+
+#[test]
+fn a_picture_shows_all(rt: HostRuntime) {
+    let is = draws(rt.alloc());
+    assert_eq!(rt; is, Some(true));
+}

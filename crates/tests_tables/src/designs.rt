@@ -1,0 +1,85 @@
+//! What the reader of designs answers, in words.
+
+use crate::table::Answers;
+use dsn_design::read_design;
+use dsn_shapes::{DesignFault, Refusal, What, refused};
+use dsn_tree::TreeFault;
+use pcb_model::Design;
+use std::alloc::{AllocError, Global};
+
+/// The number of the refusal for a limit that is passed.
+const LIMIT_NUMBER: u8 = 23;
+
+/// The most bytes that the reader takes.
+const MAX_BYTES: usize = 67_108_864;
+
+/// The refusal by number of a text that has no tree, or None where memory was wanting.
+fn tree_refusal(fault: &TreeFault) -> Option<Refusal> {
+    match fault {
+        TreeFault::QuoteOpen { at } => Some(refused(1, *at)),
+        TreeFault::BadQuoteByte { at } => Some(refused(2, *at)),
+        TreeFault::Unclosed { at } => Some(refused(3, *at)),
+        TreeFault::Surplus { at } => Some(refused(4, *at)),
+        TreeFault::TooDeep { at } => Some(refused(5, *at)),
+        TreeFault::Empty => Some(refused(6, 0)),
+        TreeFault::Memory(_) => None,
+    }
+}
+
+/// The refusal of a text without a design, or None where memory was wanting.
+fn refusal_of(fault: &DesignFault) -> Option<Refusal> {
+    match fault {
+        DesignFault::Spelling(fault) => tree_refusal(fault),
+        DesignFault::Refused(refusal) => Some(*refusal),
+        DesignFault::Memory(_) => None,
+    }
+}
+
+fn word_of(what: What) -> &'static str {
+    match what {
+        What::Nothing => "nothing",
+        What::Layers => "layers",
+        What::Nets => "nets",
+        What::Pins => "pins",
+        What::Items => "items",
+        What::Vertices => "vertices",
+    }
+}
+
+/// `refused NUMBER at PLACE`, or `limit WHAT NUMBER at PLACE` where a limit is passed.
+fn refusal_words(alloc: Global, refusal: Refusal) -> Result<String, AllocError> {
+    let Refusal {
+        number,
+        at,
+        what,
+        limit,
+    } = refusal;
+    if number != LIMIT_NUMBER {
+        return format!(in alloc; "refused {number} at {at}");
+    }
+    let what = word_of(what);
+    format!(in alloc; "limit {what} {limit} at {at}")
+}
+
+/// The design of a text, or why it has none.
+pub(crate) fn design_of(alloc: Global, text: &[u8]) -> Result<Design, DesignFault> {
+    if text.len() > MAX_BYTES {
+        return Err(DesignFault::Spelling(TreeFault::Empty));
+    }
+    read_design(alloc, text)
+}
+
+/// The reader of designs.
+pub(crate) struct Designs;
+
+impl Answers for Designs {
+    fn answer(&self, alloc: Global, text: &str) -> Result<String, AllocError> {
+        match design_of(alloc, text.as_bytes()) {
+            Ok(_) => String::from_str(alloc, "read"),
+            Err(fault) => match refusal_of(&fault) {
+                Some(refusal) => refusal_words(alloc, refusal),
+                None => String::from_str(alloc, "memory is wanting"),
+            },
+        }
+    }
+}

@@ -16,6 +16,7 @@ use Rattle.pcb_model.specs.Board.{AreInside, IsSignal, IsListed, IsRouted, Leads
 use Rattle.board_offers.specs.declared.offer.Shoved.{Shoved}
 use Rattle.board_offers.specs.declared.offer.Offer.{Offer}
 use Rattle.board_offers.specs.Items.{added, new_items, shoved_ids, with_chain}
+use Rattle.board_offers.specs.declared.offer.TheConstants.{CLOSER}
 
 -- by what an offer is judged: the design, the items ever given, and how many entries stand
 pub record Known : Type 0 where
@@ -26,7 +27,7 @@ pub record Known : Type 0 where
 -- 1: it rests on a board that there was, and a worker or the closing pass makes it
 pub record IsTimely (k : Known) (o : Offer) : Type 0 where
   pub base : o.base ≤ k.entries
-  pub worker : o.worker ≤ 16
+  pub worker : o.worker ≤ CLOSER
 
 -- an item of the net was given the id
 abbrev pub IsOfNet : List Item → ℕ → ℕ → Type 0

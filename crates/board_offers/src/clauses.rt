@@ -9,15 +9,15 @@ ghost use Rattle.pcb_model.specs.Board.{AreInside, LeadsTo};
 ghost use Rattle.board_offers.specs.Offers.{IsOfNet, LeadsAcross};
 ghost use Rattle.board_offers.specs.Inner.{IsInTheWayOf, LeadsBetween};
 
-use crate::offer::Offer;
+use crate::offer::{CLOSER, Offer};
 use crate::pairs::{has_net, some_disagrees, touching};
 use pcb_model::{Design, Item, inside_board};
 
 /// Whether the offer rests on a board that there was, and a worker or the closing pass makes it.
 pub(crate) fn is_timely(entries: u64, offer: &Offer) -> bool
-    ensures { IsTrue result ↔ ((offer.now.base ≤ entries) × (offer.now.worker ≤ 16)) }
+    ensures { IsTrue result ↔ ((offer.now.base ≤ entries) × (offer.now.worker ≤ CLOSER)) }
 {
-    offer.base <= entries && offer.worker <= 16
+    offer.base <= entries && offer.worker <= CLOSER
 }
 
 /// The item that was given the id.

@@ -9,6 +9,7 @@ ghost use Rattle.pcb_model.specs.declared.item.Piece.{Piece as OnePiece};
 ghost use Rattle.pcb_model.specs.Bounds.{IsDesignFit, IsFit};
 ghost use Rattle.pcb_model.specs.Pieces.{moved_piece, padstack_pieces as padstack_pieces_of, pieces_of};
 
+use geo_kernel::limits::FURTHEST;
 use geo_kernel::{List, Point, Spine};
 use pcb_model::{Design, Metal, Piece};
 
@@ -16,7 +17,7 @@ use pcb_model::{Design, Metal, Piece};
 pub(crate) fn is_near(p: Point) -> bool
     ensures { IsTrue result ↔ IsWithin (2 ^ 29) p }
 {
-    p.x.unsigned_abs() <= 536_870_912 && p.y.unsigned_abs() <= 536_870_912
+    p.x.unsigned_abs() <= FURTHEST && p.y.unsigned_abs() <= FURTHEST
 }
 
 /// Whether those of each point are.

@@ -4,7 +4,7 @@
 use geo_kernel::{List, Point};
 use pcb_model::Metal;
 
-/// The worker number of the pass that closes.
+/// The worker number of the pass that closes; those of the workers are below it.
 pub const CLOSER: u32 = 16;
 
 /// A wire's new chain, with points in nm.

@@ -176,3 +176,17 @@ join_more z y k old new all p o ps e made is turn at =
     ap (λ (xs : List PassView). new ++ map (pass_of z k) (xs ++ ps)) one
     ∙ ap (λ (u : PassOf). new ++ (u ∷ map (pass_of z k) ps)) q
     ∙ sym (append_assoc new (p ∷ []) (map (pass_of z k) ps)) ∙ ap (λ xs. xs ++ map (pass_of z k) ps) (sym e) ∙ made
+
+-- a seat of one pass without slots is that of a pass
+pub own_role : (k : Opening) (q : PassView) (m : Me Slot View) → m ≡ (view_of k (q ∷ []) Free, [])
+    → HasRole (key_of m.0.opening) Free m
+own_role k q m e = subst (λ (j : Opening). HasRole j Free m) (sym (ap (λ (u : Me Slot View). key_of u.0.opening) e))
+    (free_role k q Free m e)
+
+-- at first all passes are left
+pub none_given : (k : Opening) (n : ℕ) (m : Me Slot View) → m ≡ (view_of k (new_passes 0 n) Free, [])
+    → m ≡ (view_of k (new_passes 0 (n - 0)) Free, [])
+none_given k n m e =
+    let of : ℕ → Me Slot View = λ j. (view_of k (new_passes 0 j) Free, []) in
+    let same : n ≡ n - 0 = omega arith in
+    e ∙ ap of same

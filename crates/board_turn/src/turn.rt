@@ -9,6 +9,7 @@ ghost use Rattle.board_turn.specs.declared.lock.Role.TheVariants.{Free};
 ghost use Rattle.board_turn.specs.Lock.{view_of, new_passes};
 ghost use Rattle.board_turn.specs.Turns.{Calls, Ended, passes_of, turn_of, opening, count_of};
 ghost use Rattle.board_turn.specs.Seats.{pass_of};
+ghost use Rattle.board_offers.specs.declared.offer.TheConstants.{CLOSER};
 
 use crate::lock::{
     JoinsAll, Lock, LockSeat, Opening, Outcome, SplitsFirst, draw_ticket, end_call, take_board,
@@ -59,7 +60,7 @@ impl Model for Pass {
 impl Turn {
     /// A turn over a board, and that many passes, named from 0 on. The board comes back only for want of memory.
     pub fn new(alloc: Global, board: Board, count: u32) -> Result<(Turn, Vec<Pass>), PassBack>
-        requires { (0 < count) × (count ≤ 16) }
+        requires { (0 < count) × (count ≤ CLOSER) }
         ensures ok { IfOk result (λ r. (opening r.0 ≡ board) × (count_of r.0 ≡ count)
             × (r.1.items ≡ passes_of r.0 0 count) × (vec_len r.1 ≡ count) × (count ≤ vec_capacity r.1)) }
         ensures err { IfErr result (λ e. e.board ≡ board) }
@@ -164,7 +165,7 @@ fn hand_out(lock: &Lock, mut seat: LockSeat, passes: &mut Vec<Pass>, count: u32)
     requires lock { (seat.table_id ≡ lock.now.shared.table_id) × (lock.now.shared.table_id.words ≡ 2) }
     requires seat { seat.me ≡ (view_of lock.now.shared.key (new_passes 0 count) Free, []) }
     requires room { (passes.old.items ≡ []) × (vec_len passes.old ≡ 0) × (count ≤ vec_capacity passes.old)
-        × (0 < count) × (count ≤ 16) }
+        × (0 < count) × (count ≤ CLOSER) }
     ensures passes { passes.new.items
         ≡ passes_of (turn_of lock.now.shared.table_id lock.now.shared.key) 0 count }
     ensures len { (vec_len passes.new ≡ count) × (count ≤ vec_capacity passes.new) }

@@ -1,6 +1,6 @@
 -- Items moved one by one, and lists of shoves beside them.
-use Rattle.std.proofs.Common.{◌≡◌, ℕ, zero, suc, ◌+◌, ◌<◌, min, Bool, inl, List, [], ◌∷◌, ◌++◌, map, length, take}
-use Rattle.std.proofs.Common.{get_or, sym, ap, ◌∙◌, subst, arith, All}
+use Rattle.std.proofs.Common.{◌≡◌, ℕ, zero, suc, ◌+◌, ◌<◌, min, Bool, inl, inr, List, [], ◌∷◌, ◌++◌, map, length}
+use Rattle.std.proofs.Common.{take, None, refl, get_or, sym, ap, ◌∙◌, subst, arith, All}
 use Rattle.std.specs.Prelude.{AllPairs, Contains}
 use Rattle.std.specs.List.{AllZip}
 use Rattle.std.proofs.lemmas.List.{take_more, get_or-take, length-take, map_push}
@@ -17,7 +17,7 @@ use Rattle.board_offers.specs.declared.offer.Shoved.{Shoved}
 use Rattle.board_offers.proofs.Lists.{all_front, pairs_rest}
 use Rattle.least_offer.specs.Least.{Fits, IsShoveOf, AreShovesOf}
 use Rattle.least_offer.specs.Together.{StandsWith, StandTogether}
-use Rattle.clear_way.specs.Ways.{MakesWayOn, shove_of, IsReshaped, IsFirstFitting, IsMoved, AreMoved}
+use Rattle.clear_way.specs.Ways.{MakesWayOn, shove_of, IsReshaped, IsFirstFitting, IsMoved, AreMoved, MovesAll}
 use Rattle.clear_way.specs.declared.way.Way.{Way}
 
 -- ---- lists side by side
@@ -179,4 +179,19 @@ shoved_way d m items added new front ids listed moved way in_way new_is front_is
         together = subst (StandTogether d items) (sym shoves_is) are_on.together;
         no_rip = no_rip;
       });
+    }
+
+-- and where no moved items can, all are ripped
+pub ripped_way : (d : Design) (m : Mesh) (items added new front : List Item) (ids listed : List ℕ)
+    (shoves : List Shoved) → AreIdsInWay d items new ids → new ≡ added → front ≡ new → listed ≡ ids
+    → MovesAll d m items front listed None → shoves ≡ []
+    → MakesWayOn d m items added (record { rip = ids; shoves = shoves })
+ripped_way d m items added new front ids listed shoves in_way new_is front_is listed_is never no_shove =
+    let never_on : MovesAll d m items added ids None =
+    subst (λ (p : List Item × List ℕ). MovesAll d m items p.0 p.1 None)
+    (λ i. ((front_is ∙ new_is) i, listed_is i)) never in
+    record {
+      ids = ids;
+      in_way = subst (λ (xs : List Item). AreIdsInWay d items xs ids) new_is in_way;
+      chosen = inr (record { rips_are = refl; no_shove = no_shove; not_together = never_on });
     }

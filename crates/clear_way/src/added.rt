@@ -1,7 +1,8 @@
 //! The items that new metals make.
 //! Their ids are numbers from 0 on, which nothing here depends on.
 
-ghost use Rattle.std.specs.Prelude.{◌≡◌, All, IfOk};
+ghost use Rattle.std.specs.Prelude.{◌≡◌, ◌++◌, ◌∷◌, [], false, Some, All, IfOk, OnOk};
+ghost use Rattle.pcb_model.specs.Pieces.{item_of};
 ghost use Rattle.pcb_model.specs.Sound.{IsSound};
 ghost use Rattle.pcb_model.specs.Bounds.{IsItemFit};
 ghost use Rattle.path_wire.specs.Lays.{IsWellLaid};
@@ -10,6 +11,24 @@ ghost use Rattle.board_offers.specs.Items.{added_from};
 use geo_kernel::List;
 use pcb_model::{Design, Item, Metal, copy_metal, make_item};
 use std::alloc::{AllocError, Global};
+
+// One more routed item of a net, which a metal makes.
+fn add_item(
+    items: &mut List<Item>,
+    alloc: Global,
+    d: &Design,
+    net: u32,
+    id: u64,
+    metal: &Metal,
+) -> Result<(), AllocError>
+    requires sound { IsSound d.now }
+    requires well { IsWellLaid d.now net 0 metal.now }
+    ensures { OnOk result (items.new ≡ items.old ++ item_of d.now id (Some net) false metal.now ∷ []) }
+{
+    let metal = copy_metal(alloc, metal)?;
+    items.push(make_item(alloc, d, id, Some(net), false, metal)?)?;
+    Ok(())
+}
 
 /// The routed items of a net that metals make, with ids from 0 on.
 pub(crate) fn added_items(
@@ -25,8 +44,7 @@ pub(crate) fn added_items(
 {
     let mut items = List::new(alloc);
     for i in 0..metals.len() {
-        let metal = copy_metal(alloc, &metals[i])?;
-        items.push(make_item(alloc, d, i as u64, Some(net), false, metal)?)?;
+        add_item(&mut items, alloc, d, net, i as u64, &metals[i])?;
     }
     Ok(items)
 }

@@ -13,6 +13,7 @@ use Rattle.pcb_board.specs.declared.answer.Entry.TheVariants.{Join, Back}
 use Rattle.pcb_board.specs.Boards.{BoardOf, board_at}
 use Rattle.least_offer.specs.Least.{IsLeastOffer, TakesNothing}
 use Rattle.closing_pass.specs.declared.closed.Closed.{Closed}
+use Rattle.board_offers.specs.declared.offer.TheConstants.{CLOSER}
 
 -- ---- joins
 -- a join of the worker that rips and shoves nothing, and bears no penalty
@@ -35,9 +36,9 @@ pub record JoinsBy (worker : ℕ) (m : Mesh) (via_cost : ℕ) (old new : BoardOf
   pub joins : All (IsBareJoin worker) entries
   pub least : (n : ℕ) → length old.history ≤ n → IsLeastAt m via_cost new n
 
--- the closing pass joins as the worker 16
+-- the closing pass joins as the worker CLOSER
 abbrev pub Closes : Mesh → ℕ → BoardOf → BoardOf → Type 0
-Closes m via_cost old new = JoinsBy 16 m via_cost old new
+Closes m via_cost old new = JoinsBy CLOSER m via_cost old new
 
 -- ---- how nets end
 -- each island has its cut, of all nodes that legal moves reach from it

@@ -49,7 +49,7 @@ pub(crate) fn put_back(
 // Makes an offer that may be made, so what comes back is that it is committed.
 fn take(board: &mut Board, offer: Offer) -> Result<(), AllocError>
     requires may { MayBeMade board.old offer }
-    requires closer { offer.worker ≡ 16 }
+    requires closer { offer.worker ≡ CLOSER }
     ensures ok { OnOk result (board.new ≡ joined board.old offer) }
     ensures err { OnErr result (board.new ≡ board.old) }
 {
@@ -75,7 +75,7 @@ impl Task<'_> {
         requires net { island.now.net < length board.now.design.nets }
         ensures leads { IfOk result (λ led. (place : ℕ)
             → StandsAt board.now.design board.now.items island.now.net place island.now others.now
-            → LeadsFrom self.now.lat.now self.now.via_cost board.now 16 island.now others.now led) }
+            → LeadsFrom self.now.lat.now self.now.via_cost board.now CLOSER island.now others.now led) }
         ensures ready { AreReady self.now.lat.now board.now means.new }
     {
         board.keeps();

@@ -1,8 +1,11 @@
 -- A move that is shut isn't open, and one thing shuts it.
 use Rattle.std.proofs.Common.{◌≡◌, ℕ, ◌<◌, List, Option, Some, None, refl, ap, subst, inl, inr, arith}
-use Rattle.std.specs.Prelude.{◌↔◌}
+use Rattle.std.specs.Prelude.{◌↔◌, Contains, IfNone}
 use Rattle.std.specs.Option.{IsSomeAnd}
 use Rattle.std.proofs.lemmas.Bool.{cases_lt}
+use Rattle.std.proofs.lemmas.Option.{none-some}
+use Rattle.pcb_model.specs.Copper.{Finds}
+use Rattle.pcb_model.specs.Pairs.{ProbeAgrees}
 use Rattle.pcb_model.specs.declared.item.Item.{Item}
 use Rattle.pcb_model.specs.declared.item.Probe.{Probe}
 use Rattle.pcb_model.specs.declared.design.Design.{Design}
@@ -51,3 +54,19 @@ module _ (d : Design) (items : List Item) (net : ℕ) where
   pub legal_exactly : (p : Probe) → IsLegalProbe d items net p → (o : Option Blocker) → o ≡ None → (or : Blocker)
       → ShutsProbe d items net p or ↔ (o ≡ Some or)
   legal_exactly p legal o none or = (λ h. absurd (shut_isnt_legal p or h legal), λ e. cc)
+
+  -- where none is found that disagrees, all agree
+  pub all_agree : (p : Probe) → Finds (λ b. ProbeAgrees d net p b → ⊥) (ProbeAgrees d net p) 0 None items None
+      → (b : Item) → Contains items b → ProbeAgrees d net p b
+  all_agree p none b there = none b there (omega arith, λ e. none-some b.id e)
+
+  -- what is said of a move's probe is said of the move
+  pub open_of : (p : Probe) (o : Option Probe) (r : Option Blocker) → Some p ≡ o
+      → IfNone r (IsLegalProbe d items net p) → IfNone r (IsOpen d items net o)
+  open_of p o r is h = subst (λ (q : Option Probe). IfNone r (IsOpen d items net q)) is h
+
+  pub shut_of : (p : Probe) (o : Option Probe) (r : Option Blocker) → Some p ≡ o
+      → ((by : Blocker) → ShutsProbe d items net p by ↔ (r ≡ Some by))
+      → (by : Blocker) → IsSomeAnd o (λ q. ShutsProbe d items net q by) ↔ (r ≡ Some by)
+  shut_of p o r is h by =
+      subst (λ (q : Option Probe). IsSomeAnd q (λ x. ShutsProbe d items net x by) ↔ (r ≡ Some by)) is (h by)

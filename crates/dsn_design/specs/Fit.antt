@@ -8,7 +8,7 @@ use Rattle.dsn_shapes.specs.declared.parts.ReadWire.{ReadWire}
 use Rattle.dsn_shapes.specs.Fits.{IsShapeFit}
 use Rattle.dsn_shapes.specs.Within.{IsLibraryWithin}
 use Rattle.dsn_design.specs.declared.parts.Parts.{Parts}
-use Rattle.dsn_shapes.specs.declared.limits.TheConstants.{MOST_LAYERS}
+use Rattle.pcb_model.specs.declared.limits.TheConstants.{MOST_LAYERS}
 
 -- shapes with coordinates up to 2^29 and widths up to 2^28
 pub record IsStackFit (s : Stack) : Type 0 where

@@ -23,7 +23,10 @@ use Rattle.dsn_shapes.specs.declared.parts.Split.{Split}
 use Rattle.dsn_shapes.specs.declared.parts.Split.TheVariants.{Unknown, One, Many}
 use Rattle.dsn_shapes.specs.declared.parts.Stack.{Stack}
 use Rattle.dsn_shapes.specs.Refusals.{least, refused}
+use Rattle.dsn_shapes.specs.declared.refusal.What.TheVariants.{Nets}
+use Rattle.dsn_shapes.specs.Limits.{too_many}
 use Rattle.dsn_shapes.specs.Lists.{at_of, name_of, quoted_name, text_of}
+use Rattle.dsn_shapes.proofs.Few.{few_kept}
 use Rattle.dsn_shapes.specs.Names.{first_place, is_at, place_index, same_names, stack_names}
 use Rattle.dsn_shapes.specs.Rules.{rule_refusals}
 use Rattle.dsn_shapes.proofs.Fits.{back_nil, each_fit, each_nil, first_below, front_nil, name_printable, named_differ}
@@ -33,7 +36,7 @@ use Rattle.dsn_network.specs.Splits.{fits_from, pin_among, pin_at, pin_names, pi
 use Rattle.dsn_network.specs.Splits.{pin_ref, place_names, split_by, split_of, split_with}
 use Rattle.dsn_network.specs.Classes.{class_of, class_refusals, last_naming, names_net, read_class_of, stack_at}
 use Rattle.dsn_network.specs.Classes.{unknown_via, via_lists, via_refusals, via_stack, vias_of}
-use Rattle.dsn_network.specs.Nets.{each_once, first_net, has_pin, is_pin, is_placed, net_of, net_past_limit, net_pins}
+use Rattle.dsn_network.specs.Nets.{each_once, first_net, has_pin, is_pin, is_placed, net_of, net_pins}
 use Rattle.dsn_network.specs.Nets.{net_refusals, nets_refusals, pins_taken, ref_pins, ref_refusals, ref_taken, refs_of}
 use Rattle.dsn_network.specs.Nets.{split_pins, split_refusals, split_taken, taken_from, with_pin}
 use Rattle.dsn_network.specs.Whole.{class_lists, net_lists, network_left_out, network_of, network_refusals, networks}
@@ -322,15 +325,6 @@ nets_apart nm lib placing classes ts e =
     pairs_to_map (λ (a b : ReadNet). (r : PinRef) → Contains a.pins r → Contains b.pins r → ⊥)
     (net_of nm lib placing classes) ts (apart_at lib placing ts e)
 
-past_nil : (o : Option Tree) → net_past_limit o ≡ [] → o ≡ None
-past_nil None e = refl
-past_nil (Some t) e = absurd (cc)
-
-none_past : (ts : List Tree) (i : ℕ) → slice_get ts i ≡ None → length ts ≤ i
-none_past [] i e = omega arith
-none_past (t ∷ ts) zero e = absurd (cc)
-none_past (t ∷ ts) (suc i) e = omega (arith, none_past ts i e)
-
 -- ---- the whole
 pub network_sound : (nm : ℕ) (lib : Library) (placing : Placing) (pcb : Tree) → HasFewPlaces placing
     → least (network_refusals nm lib placing pcb) ≡ None → IsNetworkSound lib placing (network_of nm lib placing pcb)
@@ -343,14 +337,14 @@ network_sound nm lib placing pcb few h =
     let parts : nets_refusals nm lib placing ts ++ flat_map (class_refusals nm names) cs ≡ [] =
     back_nil (network_left_out (networks pcb) ts cs) _ all in
     let in_nets : same_names 1 ts
-    ++ (net_past_limit (slice_get ts 65536)
+    ++ (too_many Nets 0 ts
     ++ (flat_map (net_refusals nm lib placing) ts ++ pins_taken lib placing ts)) ≡ [] =
     front_nil (nets_refusals nm lib placing ts) _ parts in
-    let more : net_past_limit (slice_get ts 65536)
+    let more : too_many Nets 0 ts
     ++ (flat_map (net_refusals nm lib placing) ts ++ pins_taken lib placing ts) ≡ [] =
     back_nil (same_names 1 ts) _ in_nets in
     let each : flat_map (net_refusals nm lib placing) ts ++ pins_taken lib placing ts ≡ [] =
-    back_nil (net_past_limit (slice_get ts 65536)) _ more in
+    back_nil (too_many Nets 0 ts) _ more in
     let class_count : length cs ≡ length (map (read_class_of nm names) cs) =
     sym (length-map cs (read_class_of nm names)) in
     let stack_count : length names ≡ length lib.stacks = length-map lib.stacks (λ (s : Stack). s.name) in
@@ -363,8 +357,7 @@ network_sound nm lib placing pcb few h =
       few = omega (
         arith,
         length-map ts (net_of nm lib placing cs),
-        none_past ts 65536
-            (past_nil (slice_get ts 65536) (front_nil (net_past_limit (slice_get ts 65536)) _ more)),
+        few_kept Nets 0 ts (front_nil (too_many Nets 0 ts) _ more),
       );
       apart = nets_apart nm lib placing cs ts (back_nil (flat_map (net_refusals nm lib placing) ts) _ each);
       classes = subst (λ n. All (IsReadClassSound n) (map (read_class_of nm names) cs)) stack_count

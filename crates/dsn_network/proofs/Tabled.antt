@@ -1,6 +1,6 @@
 -- Each refusal of a network is one of the table.
 use Rattle.std.proofs.Common.{◌+◌, ℕ, List, [], ◌∷◌, Option, Some, None, map, refl}
-use Rattle.std.specs.Prelude.{is_some, slice_get}
+use Rattle.std.specs.Prelude.{is_some}
 use Rattle.dsn_tree.specs.declared.tree.Tree.{Tree}
 use Rattle.dsn_shapes.specs.declared.refusal.What.TheVariants.{Nets}
 use Rattle.dsn_shapes.specs.declared.parts.Library.{Library}
@@ -10,12 +10,12 @@ use Rattle.dsn_shapes.specs.declared.parts.Split.{Split}
 use Rattle.dsn_shapes.specs.declared.parts.Split.TheVariants.{Unknown, One, Many}
 use Rattle.dsn_shapes.specs.Lists.{at_of, text_of}
 use Rattle.dsn_shapes.specs.Names.{first_place, is_at, stack_names}
-use Rattle.dsn_shapes.proofs.Tabled.{AreTabled, all_left_out_tabled, both, each, names_tabled, none, one, passed}
+use Rattle.dsn_shapes.proofs.Tabled.{AreTabled, all_left_out_tabled, both, each, many_tabled, names_tabled, none, one}
 use Rattle.dsn_shapes.proofs.Tabled.{quoted_tabled, rules_tabled, where_fails}
 use Rattle.dsn_network.specs.Words.{rules_in, words_in}
 use Rattle.dsn_network.specs.Splits.{split_of}
 use Rattle.dsn_network.specs.Classes.{circuits_in, class_refusals, unknown_via, via_lists, via_refusals}
-use Rattle.dsn_network.specs.Nets.{first_net, is_placed, net_past_limit, net_pins, net_refusals, nets_refusals}
+use Rattle.dsn_network.specs.Nets.{first_net, is_placed, net_pins, net_refusals, nets_refusals}
 use Rattle.dsn_network.specs.Nets.{pins_taken, ref_refusals, ref_taken, refs_of, split_refusals, split_taken}
 use Rattle.dsn_network.specs.Nets.{taken_from}
 use Rattle.dsn_network.specs.Whole.{class_lists, classes_left_out, net_lists, nets_left_out, network_left_out}
@@ -61,16 +61,12 @@ net_tabled nm lib placing t =
     (both _ _ (each (ref_refusals lib placing) (ref_tabled lib placing) (refs_of t))
     (rules_tabled nm (rules_in (t ∷ []))))
 
-limit_tabled : (o : Option Tree) → AreTabled (net_past_limit o)
-limit_tabled None = none
-limit_tabled (Some t) = passed Nets (at_of t) (λ e. cc)
-
 nets_tabled : (nm : ℕ) (lib : Library) (placing : Placing) (ts : List Tree)
     → AreTabled (nets_refusals nm lib placing ts)
 unfolding nets_refusals
 nets_tabled nm lib placing ts =
     both _ _ (names_tabled 1 ts)
-    (both _ _ (limit_tabled (slice_get ts 65536))
+    (both _ _ (many_tabled Nets (λ e. cc) 0 ts)
     (both _ _ (each (net_refusals nm lib placing) (net_tabled nm lib placing) ts) (pins_tabled lib placing ts)))
 
 -- ---- classes

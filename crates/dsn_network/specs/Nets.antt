@@ -14,14 +14,14 @@ use Rattle.dsn_shapes.specs.declared.parts.ReadNet.{ReadNet}
 use Rattle.dsn_shapes.specs.declared.parts.Split.{Split}
 use Rattle.dsn_shapes.specs.declared.parts.Split.TheVariants.{Unknown, One, Many}
 use Rattle.dsn_shapes.specs.Refusals.{refused}
+use Rattle.dsn_shapes.specs.Limits.{too_many}
 use Rattle.dsn_shapes.specs.Lists.{at_of, text_of, lists, name_of, quoted_name}
 use Rattle.dsn_shapes.specs.Names.{is_at, same_names}
 use Rattle.dsn_shapes.specs.Rules.{rule_set, rule_refusals}
 use Rattle.dsn_network.specs.Words.{words_in, rules_in}
 use Rattle.dsn_network.specs.Splits.{split_of}
 use Rattle.dsn_network.specs.Classes.{class_of}
-use Rattle.dsn_shapes.specs.declared.table.TheConstants.{NO_PIN, PAST_LIMIT, TAKEN_PIN, TWO_PINS, UNPLACED_PIN}
-use Rattle.dsn_shapes.specs.declared.limits.TheConstants.{MOST_NETS}
+use Rattle.dsn_shapes.specs.declared.table.TheConstants.{NO_PIN, TAKEN_PIN, TWO_PINS, UNPLACED_PIN}
 
 -- ---- references of pins
 -- the references of a net such as `(net GND (pins R1-1 R2-2))`
@@ -105,14 +105,9 @@ unfoldable pub net_refusals : ℕ → Library → Placing → Tree → List Refu
 net_refusals nm lib placing t =
     quoted_name t 1 ++ (flat_map (ref_refusals lib placing) (refs_of t) ++ rule_refusals nm (rules_in (t ∷ [])))
 
--- the first net past the limit
-abbrev pub net_past_limit : Option Tree → List Refusal
-net_past_limit None = []
-net_past_limit (Some t) = record { number = PAST_LIMIT; at = at_of t; what = Nets; limit = MOST_NETS } ∷ []
-
 -- nets that are together the design's
 unfoldable pub nets_refusals : ℕ → Library → Placing → List Tree → List Refusal
 nets_refusals nm lib placing ts =
     same_names 1 ts
-    ++ (net_past_limit (slice_get ts MOST_NETS)
+    ++ (too_many Nets 0 ts
     ++ (flat_map (net_refusals nm lib placing) ts ++ pins_taken lib placing ts))

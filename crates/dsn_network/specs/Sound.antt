@@ -12,7 +12,7 @@ use Rattle.dsn_shapes.specs.declared.parts.Placing.{Placing}
 use Rattle.dsn_shapes.specs.declared.parts.ReadClass.{ReadClass}
 use Rattle.dsn_shapes.specs.declared.parts.ReadNet.{ReadNet}
 use Rattle.dsn_shapes.specs.Fits.{IsRuleSetFit}
-use Rattle.dsn_shapes.specs.declared.limits.TheConstants.{MOST_NETS}
+use Rattle.pcb_model.specs.declared.limits.TheConstants.{MOST_NETS}
 
 -- each component's place among all is an index of 32 bits
 pub record HasFewPlaces (placing : Placing) : Type 0 where

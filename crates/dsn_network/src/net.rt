@@ -7,7 +7,7 @@ ghost use Rattle.dsn_shapes.specs.Lists.{capped, trees_of};
 ghost use Rattle.dsn_shapes.specs.Names.{names_at};
 ghost use Rattle.dsn_shapes.specs.Refusals.{noted};
 ghost use Rattle.dsn_shapes.specs.Rules.{rule_notes};
-ghost use Rattle.dsn_network.specs.Nets.{net_of, net_past_limit, net_pins, net_refusals, nets_refusals, pins_taken};
+ghost use Rattle.dsn_network.specs.Nets.{net_of, net_pins, net_refusals, nets_refusals, pins_taken};
 ghost use Rattle.dsn_network.specs.Nets.{ref_refusals, refs_of};
 ghost use Rattle.dsn_network.specs.Owners.{pins_of};
 ghost use Rattle.dsn_network.specs.Whole.{rules_passed};
@@ -17,10 +17,8 @@ use crate::classes::ClassIndex;
 use crate::owners::{Owners, each_once, refuse_taken};
 use crate::pins::PinIndex;
 use crate::refs::{read_refs, refs_of};
-use dsn_shapes::limits::MOST_NETS;
-use dsn_shapes::table::PAST_LIMIT;
 use dsn_shapes::{
-    NameIndex, PinRef, ReadNet, Refusal, Trees, What, at_of, name_of, note, read_rules,
+    NameIndex, PinRef, ReadNet, Refusal, Trees, What, name_of, read_rules, refuse_past,
     refuse_quoted_name,
 };
 use dsn_tree::Tree;
@@ -117,23 +115,6 @@ fn read_each_net(
     Ok(Nets { nets, notes })
 }
 
-// Refuses the first net past the limit.
-fn refuse_past(first: &mut Option<Refusal>, lists: &Trees)
-    ensures { first.new ≡ noted first.old (net_past_limit (slice_get lists.now MOST_NETS)) }
-{
-    if let Some(tree) = lists.get(MOST_NETS as usize) {
-        note(
-            first,
-            Refusal {
-                number: PAST_LIMIT,
-                at: at_of(tree),
-                what: What::Nets,
-                limit: MOST_NETS,
-            },
-        );
-    }
-}
-
 // Refuses the references by which a second net names a pin.
 #[tactic(auto, unfolding(crate::specs::Nets::pins_taken))]
 fn refuse_pins_taken(
@@ -170,7 +151,7 @@ pub(crate) fn read_nets(
     ensures notes { IfOk result (λ v. v.notes ≡ capped (rules_passed lists.now)) }
 {
     names.refuse_same(first, lists, 1);
-    refuse_past(first, lists);
+    refuse_past(first, What::Nets, 0, lists);
     let read = read_each_net(alloc, first, lists.as_slice(), scale, pins, classes)?;
     refuse_pins_taken(alloc, first, lists, read.nets.as_slice(), pins)?;
     Ok(read)

@@ -29,6 +29,7 @@ use Rattle.dsn_shapes.specs.Angles.{word_angle, word_angle_refusal}
 use Rattle.dsn_shapes.proofs.Within.{IsNearIfRead, IsReduced, wanted_near, word_reduced}
 use Rattle.dsn_shapes.proofs.Fits.{back_nil, each_fit, each_nil, first_below, front_nil, name_printable, names_differ}
 use Rattle.dsn_shapes.proofs.Fits.{none_left, pairs_of_map, pairs_to_map, test_holds}
+use Rattle.dsn_shapes.specs.Limits.{most_of, past_limit}
 use Rattle.dsn_placement.specs.declared.place.Laid.{Laid}
 use Rattle.dsn_placement.specs.declared.seat.Stand.{Stand}
 use Rattle.dsn_placement.specs.Copper.{IsStandWithin, is_image_placed}
@@ -38,7 +39,7 @@ use Rattle.dsn_placement.specs.Places.{laid_of, pins_of, place_by, place_refusal
 use Rattle.dsn_placement.specs.Places.{side_in, side_refusal, stand_by, stand_in, stand_refusals, unknown_at}
 use Rattle.dsn_placement.specs.Places.{words_refusals, words_stand}
 use Rattle.dsn_placement.specs.Placing.{adds, all_laid, components, items_before, limit_refusals, lists_left_out}
-use Rattle.dsn_placement.specs.Placing.{past_limit, placement_refusals, placements, placing_of}
+use Rattle.dsn_placement.specs.Placing.{first_past, placement_refusals, placements, placing_of}
 use Rattle.dsn_placement.specs.Sound.{HasFewImages, IsPlaceSound, IsPlacingSound, placed_pins}
 
 -- ---- words that are read
@@ -273,12 +274,12 @@ limit_kept : (b : Bool) (r : Refusal) (rs : List Refusal) → cond b (r ∷ []) 
 limit_kept true r rs e = absurd (cc)
 limit_kept false r rs e = (refl, e)
 
-sum_within : (what : What) (limit n : ℕ) (ls : List Laid) → n ≤ limit → past_limit what limit n ls ≡ []
-    → fold (λ a (l : Laid). a + adds what l) n ls ≤ limit
-sum_within what limit n [] h e = h
-sum_within what limit n (l ∷ ls) h e =
-    let k = limit_kept (nat_lt limit (n + adds what l)) _ (past_limit what limit (n + adds what l) ls) e in
-    sum_within what limit (n + adds what l) ls (ltb-false limit (n + adds what l) k.0) k.1
+sum_within : (what : What) (n : ℕ) (ls : List Laid) → n ≤ most_of what → first_past what n ls ≡ []
+    → fold (λ a (l : Laid). a + adds what l) n ls ≤ most_of what
+sum_within what n [] h e = h
+sum_within what n (l ∷ ls) h e =
+    let k = limit_kept (nat_lt (most_of what) (n + adds what l)) _ (first_past what (n + adds what l) ls) e in
+    sum_within what (n + adds what l) ls (ltb-false (most_of what) (n + adds what l) k.0) k.1
 
 sums_agree : {X Y : Type 0} (f : Y → ℕ) (p : X → Y) (g : X → ℕ) (n : ℕ) (xs : List X) → All (λ x. f (p x) ≡ g x) xs
     → fold (λ a x. a + g x) n xs ≡ fold (λ a y. a + f y) n (map p xs)
@@ -291,7 +292,7 @@ pins_within : (lib : Library) (before : ℕ) (flip_last : Bool) (ls : List Laid)
 unfolding limit_refusals
 pins_within lib before flip_last ls h e =
     let s : sum_by (λ (l : Laid). l.pins) ls ≤ 262144 =
-    sum_within Pins 262144 0 ls (omega arith) (front_nil (past_limit Pins 262144 0 ls) _ e) in
+    sum_within Pins 0 ls (omega arith) (front_nil (first_past Pins 0 ls) _ e) in
     let same : sum_by (λ (l : Laid). l.pins) ls ≡ sum_by (placed_pins lib) (map place_in ls) =
     sums_agree (placed_pins lib) place_in (λ (l : Laid). l.pins) 0 ls
     (All-weaker (IsLaidSound flip_last lib) (λ (l : Laid). placed_pins lib l.place ≡ l.pins) (λ l k. k.pins) ls

@@ -10,7 +10,7 @@ use Rattle.dsn_shapes.specs.declared.parts.Stack.{Stack}
 use Rattle.dsn_shapes.specs.declared.parts.Structure.{Structure}
 use Rattle.dsn_shapes.specs.Angles.{word_angle_refusal}
 use Rattle.dsn_shapes.specs.Lists.{at_of, nth_word, place_of}
-use Rattle.dsn_shapes.specs.Tabled.{most_of}
+use Rattle.dsn_shapes.specs.Limits.{most_of}
 use Rattle.dsn_shapes.proofs.Tabled.{AreTabled, all_left_out_tabled, angle_tabled, both, coord_tabled, each, either}
 use Rattle.dsn_shapes.proofs.Tabled.{names_tabled, none, of_some, one, passed, quoted_tabled, where_fails}
 use Rattle.dsn_placement.specs.declared.seat.Stand.{Stand}
@@ -20,7 +20,7 @@ use Rattle.dsn_placement.specs.Places.{angle_refusal, component_refusals, far_re
 use Rattle.dsn_placement.specs.Places.{image_place, place_refusals, places_in, point_refusals, side_in, side_refusal}
 use Rattle.dsn_placement.specs.Places.{stand_in, stand_refusals, unknown_at, words_refusals}
 use Rattle.dsn_placement.specs.Placing.{adds, all_laid, components, items_before, limit_refusals, lists_left_out}
-use Rattle.dsn_placement.specs.Placing.{past_limit, placement_refusals, placements}
+use Rattle.dsn_placement.specs.Placing.{first_past, placement_refusals, placements}
 
 -- ---- components
 words_tabled : (nm : ℕ) (t : Tree) → AreTabled (words_refusals nm t)
@@ -61,7 +61,7 @@ component_tabled nm flip_last lib c =
 
 -- ---- limits
 past_tabled : (what : What) → what ≢ Nothing → (n : ℕ) (ls : List Laid)
-    → AreTabled (past_limit what (most_of what) n ls)
+    → AreTabled (first_past what n ls)
 past_tabled what some n [] = none
 past_tabled what some n (l ∷ ls) =
     either (nat_lt (most_of what) (n + adds what l)) _ _ (passed what l.at some)

@@ -9,12 +9,11 @@ use Rattle.dsn_shapes.specs.declared.refusal.What.TheVariants.{Nothing, Layers, 
 use Rattle.dsn_shapes.specs.declared.parts.Library.{Library}
 use Rattle.dsn_shapes.specs.declared.parts.Structure.{Structure}
 use Rattle.dsn_shapes.specs.declared.parts.Placing.{Placing}
+use Rattle.dsn_shapes.specs.Limits.{most_of, past_limit}
 use Rattle.dsn_shapes.specs.Lists.{capped, left_out_in, lists, notes_in}
 use Rattle.dsn_shapes.specs.Names.{same_names}
 use Rattle.dsn_placement.specs.declared.place.Laid.{Laid}
 use Rattle.dsn_placement.specs.Places.{component_laid, component_refusals, places_in}
-use Rattle.dsn_shapes.specs.declared.table.TheConstants.{PAST_LIMIT}
-use Rattle.dsn_shapes.specs.declared.limits.TheConstants.{MOST_ITEMS, MOST_PINS}
 
 -- ---- lists
 abbrev pub placements : Tree → List Tree
@@ -42,11 +41,10 @@ adds Items l = l.items
 adds Vertices l = 0
 
 -- the component with which the count first passes the limit, where n were counted before these
-abbrev pub past_limit : What → ℕ → ℕ → List Laid → List Refusal
-past_limit what limit n [] = []
-past_limit what limit n (l ∷ ls) = if nat_lt limit (n + adds what l)
-    then record { number = PAST_LIMIT; at = l.at; what = what; limit = limit } ∷ []
-    else past_limit what limit (n + adds what l) ls
+abbrev pub first_past : What → ℕ → List Laid → List Refusal
+first_past what n [] = []
+first_past what n (l ∷ ls) = if nat_lt (most_of what) (n + adds what l)
+    then past_limit what l.at ∷ [] else first_past what (n + adds what l) ls
 
 -- the items of the structure: its boundaries and its keepouts
 abbrev pub items_before : Structure → ℕ
@@ -54,7 +52,7 @@ items_before st = capped (length st.bounds + length st.bans)
 
 -- where a component passes both limits, the pins count
 unfoldable pub limit_refusals : ℕ → List Laid → List Refusal
-limit_refusals before ls = past_limit Pins MOST_PINS 0 ls ++ past_limit Items MOST_ITEMS before ls
+limit_refusals before ls = first_past Pins 0 ls ++ first_past Items before ls
 
 -- ---- the whole
 unfoldable pub all_laid : ℕ → Structure → Library → Tree → List Laid

@@ -12,7 +12,7 @@ use Rattle.dsn_shapes.specs.declared.parts.Placing.{Placing}
 use Rattle.dsn_shapes.specs.declared.parts.Structure.{Structure}
 use Rattle.dsn_placement.specs.Copper.{is_image_placed, stand_of}
 use Rattle.dsn_placement.specs.Places.{counted_by, pins_of}
-use Rattle.dsn_shapes.specs.declared.limits.TheConstants.{MOST_PINS}
+use Rattle.pcb_model.specs.declared.limits.TheConstants.{MOST_PINS}
 
 -- each image's place in the library is an index of 32 bits
 pub record HasFewImages (lib : Library) : Type 0 where

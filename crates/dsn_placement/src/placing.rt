@@ -1,24 +1,25 @@
 //! The placement of a design: the components of all its sections together.
 //! Source: SPECCTRA reference, placement descriptor. Names may be defined after their use.
 
-ghost use Rattle.std.specs.Prelude.{◌≡◌, ◌∷◌, ◌+◌, ◌<◌, [], IfOk, OnOk, length, map};
+ghost use Rattle.std.specs.Prelude.{◌≡◌, ◌∷◌, ◌++◌, ◌+◌, ◌<◌, [], IfOk, OnOk, length, map};
+ghost use Rattle.std.specs.Option.{option_map_or};
+ghost use Rattle.dsn_shapes.specs.Limits.{past_limit};
 ghost use Rattle.dsn_shapes.specs.Lists.{capped};
+ghost use Rattle.dsn_shapes.specs.Names.{same_names};
 ghost use Rattle.dsn_shapes.specs.Refusals.{Reads, noted};
 ghost use Rattle.dsn_shapes.specs.Within.{IsLibraryWithin};
 ghost use Rattle.dsn_placement.specs.declared.place.Laid.{Laid as TheLaid};
 ghost use Rattle.std.specs.List.{flat_map};
 ghost use Rattle.dsn_placement.specs.Places.{component_laid, component_refusals, image_names, places_in};
 ghost use Rattle.dsn_placement.specs.Placing.{adds, all_laid, components, items_before, limit_refusals};
-ghost use Rattle.dsn_placement.specs.Placing.{lists_left_out, lists_passed, past_limit, placement_refusals};
+ghost use Rattle.dsn_placement.specs.Placing.{lists_left_out, lists_passed, first_past, placement_refusals};
 ghost use Rattle.dsn_placement.specs.Placing.{placements, placing_of};
 ghost use Rattle.dsn_placement.specs.Sound.{HasFewImages, IsPlacingSound};
 
 use crate::place::{Around, Laid, read_components};
-use dsn_shapes::limits::{MOST_ITEMS, MOST_PINS};
-use dsn_shapes::table::PAST_LIMIT;
 use dsn_shapes::{
     Library, ListKind, NameIndex, Place, Placing, ReadFault, Refusal, Structure, Trees, What,
-    names_of, note, pass_over,
+    most_of, names_of, note, pass_over, past_limit,
 };
 use dsn_tree::Tree;
 use dsn_units::Scale;
@@ -71,26 +72,26 @@ fn adds(what: What, laid: &Laid) -> u64
     }
 }
 
-// Refuses the component with which a count first passes its limit.
-fn refuse_past(first: &mut Option<Refusal>, what: What, limit: u64, before: u64, laid: &[Laid])
-    requires { limit < 4000000000 }
-    ensures { first.new ≡ noted first.old (past_limit what limit before laid.now) }
+// Where the component begins with which a count first passes its limit.
+fn place_past(what: What, before: u64, laid: &[Laid]) -> Option<u64>
+    ensures { option_map_or (λ at. past_limit what at ∷ []) result [] ≡ first_past what before laid.now }
 {
+    let limit = most_of(what);
     let mut count = before;
     for component in laid {
         count = count.saturating_add(adds(what, component));
         if count > limit {
-            note(
-                first,
-                Refusal {
-                    number: PAST_LIMIT,
-                    at: component.at,
-                    what,
-                    limit,
-                },
-            );
-            return;
+            return Some(component.at);
         }
+    }
+    None
+}
+
+fn refuse_past(first: &mut Option<Refusal>, what: What, before: u64, laid: &[Laid])
+    ensures { first.new ≡ noted first.old (first_past what before laid.now) }
+{
+    if let Some(at) = place_past(what, before, laid) {
+        note(first, past_limit(what, at));
     }
 }
 
@@ -98,8 +99,8 @@ fn refuse_past(first: &mut Option<Refusal>, what: What, limit: u64, before: u64,
 fn refuse_many(first: &mut Option<Refusal>, before: u64, laid: &[Laid])
     ensures { first.new ≡ noted first.old (limit_refusals before laid.now) }
 {
-    refuse_past(first, What::Pins, MOST_PINS, 0, laid);
-    refuse_past(first, What::Items, MOST_ITEMS, before, laid);
+    refuse_past(first, What::Pins, 0, laid);
+    refuse_past(first, What::Items, before, laid);
 }
 
 fn items_before(st: &Structure) -> u64
@@ -145,7 +146,79 @@ fn places_of(alloc: Global, laid: List<Laid>) -> Result<List<Place>, AllocError>
     Ok(places)
 }
 
-#[tactic(auto, unfolding(crate::specs::Placing::all_laid, dsn_shapes::specs::Names::same_names))]
+// Refuses each list whose name an earlier one gives.
+#[tactic(auto, unfolding(dsn_shapes::specs::Names::same_names))]
+fn refuse_same_names(
+    alloc: Global,
+    first: &mut Option<Refusal>,
+    lists: &Trees,
+) -> Result<(), AllocError>
+    ensures { OnOk result (first.new ≡ noted first.old (same_names 1 lists.now)) }
+{
+    let names = NameIndex::new(alloc, lists, 1)?;
+    names.refuse_same(first, lists, 1);
+    Ok(())
+}
+
+// The components of the image lists, counted behind the items that there are before.
+fn read_places(
+    alloc: Global,
+    first: &mut Option<Refusal>,
+    components: &Trees,
+    around: Around,
+    before: u64,
+) -> Result<List<Place>, AllocError>
+    requires { IsLibraryWithin around.library.now }
+    ensures noted { OnOk result
+        (first.new ≡ noted first.old
+        (flat_map (component_refusals around.entry.scale.nm around.entry.flip_last around.entry.library.now)
+        components.now
+        ++ limit_refusals before
+        (flat_map (component_laid around.entry.scale.nm around.entry.flip_last around.entry.library.now)
+        components.now))) }
+    ensures value { IfOk result
+        (λ ps. ps ≡ map (λ (l : TheLaid). l.place)
+        (flat_map (component_laid around.entry.scale.nm around.entry.flip_last around.entry.library.now)
+        components.now)) }
+{
+    let laid = read_laid(alloc, first, components, around)?;
+    refuse_many(first, before, laid.as_slice());
+    places_of(alloc, laid)
+}
+
+// What stands in these sections, counted behind the items that there are before.
+fn note_sections(
+    alloc: Global,
+    first: &mut Option<Refusal>,
+    parts: &Sections,
+    around: Around,
+    before: u64,
+) -> Result<Placing, AllocError>
+    requires { IsLibraryWithin around.library.now }
+    ensures noted { OnOk result
+        (first.new ≡ noted first.old
+        (lists_left_out parts.now.placements parts.now.components parts.now.places
+        ++ (same_names 1 parts.now.places
+        ++ (flat_map (component_refusals around.entry.scale.nm around.entry.flip_last around.entry.library.now)
+        parts.now.components
+        ++ limit_refusals before
+        (flat_map (component_laid around.entry.scale.nm around.entry.flip_last around.entry.library.now)
+        parts.now.components))))) }
+    ensures value { IfOk result
+        (λ v. v ≡ record {
+          places = map (λ (l : TheLaid). l.place)
+              (flat_map (component_laid around.entry.scale.nm around.entry.flip_last around.entry.library.now)
+              parts.now.components);
+          notes = capped (lists_passed parts.now.placements parts.now.components parts.now.places);
+        }) }
+{
+    let notes = pass_over_lists(first, parts);
+    refuse_same_names(alloc, first, &parts.places)?;
+    let places = read_places(alloc, first, &parts.components, around, before)?;
+    Ok(Placing { places, notes })
+}
+
+#[tactic(auto, unfolding(crate::specs::Placing::all_laid))]
 fn note_placement(
     alloc: Global,
     first: &mut Option<Refusal>,
@@ -159,18 +232,12 @@ fn note_placement(
     ensures value { IfOk result (λ v. v ≡ placing_of s.nm st.now lib.now pcb.now) }
 {
     let parts = sections_of(alloc, pcb)?;
-    let notes = pass_over_lists(first, &parts);
-    let names = NameIndex::new(alloc, &parts.places, 1)?;
-    names.refuse_same(first, &parts.places, 1);
     let around = Around {
         scale: s,
         flip_last: st.flip_last,
         library: lib,
     };
-    let laid = read_laid(alloc, first, &parts.components, around)?;
-    refuse_many(first, items_before(st), laid.as_slice());
-    let places = places_of(alloc, laid)?;
-    Ok(Placing { places, notes })
+    note_sections(alloc, first, &parts, around, items_before(st))
 }
 
 /// The components of all `placement` sections of a design together, of the images of `lib`.

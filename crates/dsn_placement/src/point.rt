@@ -9,6 +9,7 @@ ghost use Rattle.dsn_placement.specs.Placed.{mirrored, flipped, is_near, placed_
 
 use dsn_units::{Angle, rotate};
 use geo_kernel::Point;
+use geo_kernel::limits::FURTHEST;
 
 fn mirrored(p: Point) -> Point
     requires { IsWithin (2 ^ 36) p }
@@ -44,9 +45,6 @@ pub(crate) fn moved(p: Point, by: Point) -> Point
         y: p.y + by.y,
     }
 }
-
-// The greatest size of a coordinate, in nm.
-const FURTHEST: u64 = 0x2000_0000;
 
 fn is_near(p: Point) -> bool
     ensures value { result ≡ is_near p }

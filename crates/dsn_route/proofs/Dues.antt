@@ -15,6 +15,7 @@ use Rattle.dsn_route.specs.declared.status.Status.TheVariants.{Complete, SomeOpe
 use Rattle.dsn_route.specs.declared.status.Status.TheVariants.{WriteFault, Limit, Memory}
 use Rattle.route_words.specs.declared.command.Command.{Command}
 use Rattle.route_words.specs.declared.command.Command.TheVariants.{Route, Gen}
+use Rattle.route_words.specs.declared.command.Knobs.{Knobs}
 use Rattle.route_words.specs.declared.command.WordFault.{WordFault}
 use Rattle.route_run.specs.declared.run.Routed.{Routed}
 use Rattle.dsn_route.specs.Texts.{LacksDesign}
@@ -24,7 +25,7 @@ use Rattle.dsn_route.specs.Commands.{mesh_of, IsText, IsToldText}
 use Rattle.dsn_route.specs.Answers.{IsUnread, IsOverlong, IsRefusal, IsOverfull, IsCrowded, SessionFaulted}
 use Rattle.dsn_route.specs.Answers.{IsOutcome, Stopped, Leaves, Answers}
 use Rattle.dsn_route.specs.Due.{IsRead, IsFit, IsUnfit, IsOver, IsTooFine, IsRoutable, IsDueAfterRead, HasNoFault}
-use Rattle.dsn_route.specs.Due.{IsDone}
+use Rattle.dsn_route.specs.Due.{IsDone, IsDue, IsMissing}
 use Rattle.dsn_route.proofs.OneText.{one_design, one_lack, apart}
 
 abbrev accepted : Command → Result Command WordFault
@@ -74,6 +75,16 @@ not_overlong : (command : Command) (desk : DeskState) (text line : List ℕ) →
     → length text ≤ max_bytes → IsOverlong command desk line → ⊥
 not_overlong (Route input output knobs) desk text line held fits why = not_long desk.files input text held fits why.0
 not_overlong (Gen n) desk text line told fits why = absurd why
+
+-- an absent file has no text, and is not too long
+not_read : (files : Option Files) (name text : List ℕ) → IsAbsent files name → IsFile files name text → ⊥
+not_read None name text gone is = absurd gone
+not_read (Some m) name text gone is = none-some text (sym gone ∙ is)
+
+none_long : (files : Option Files) (name : List ℕ) → IsAbsent files name → IsTooLong files name max_bytes → ⊥
+none_long None name gone long = absurd gone
+none_long (Some m) name gone long =
+    absurd (subst (λ (o : Option (List ℕ)). IsSomeAnd o (λ bytes. max_bytes < length bytes)) gone long)
 
 -- a call that routed this status
 abbrev Ran : Command → DeskState → DeskState → SinkState → SinkState → Status → Type 0
@@ -202,6 +213,41 @@ module _ (single : OneOutcome) (desk later : DeskState) (sink after : SinkState)
   over_case SomeOpen over (inl s) = absurd s.said
   over_case SomeOpen over (inr w) =
       absurd (no_design w.1.0.text w.1.0.design over.over.refusal w.1.0.is_text w.1.0.reads over.over.lacks)
+
+-- ---- an input that the desk tells to be absent
+module _ (desk later : DeskState) (sink after : SinkState) (input output : List ℕ) (knobs : Knobs)
+    (gone : IsAbsent desk.files input) where
+  absent_case : (status : Status) → Ends (Route input output knobs) desk later sink after status
+      → IsDue ReadFault status
+  absent_case ReadFault answers = refl
+  absent_case WriteFault answers = tt
+  absent_case Memory answers = tt
+  absent_case Usage (inl s) = absurd s.said.stops
+  absent_case Usage (inr w) = absurd w.1.1
+  absent_case Refused (inl s) = absurd (not_read desk.files input _ gone s.said.stops.is_text.file)
+  absent_case Refused (inr w) = absurd w.1.1
+  absent_case Limit (inl s) = elim s.said.stops [
+    | inl long ↦ absurd (none_long desk.files input gone long.0)
+    | inr counted ↦ elim counted [
+      | inl over ↦ absurd (not_read desk.files input _ gone over.is_text.file)
+      | inr crowded ↦ absurd (not_read desk.files input _ gone crowded.is_text.file)
+    ]
+  ]
+  absent_case Limit (inr w) = absurd w.1.1
+  absent_case Complete (inl s) = absurd s.said
+  absent_case Complete (inr w) = absurd (not_read desk.files input _ gone w.1.0.is_text.file)
+  absent_case SomeOpen (inl s) = absurd s.said
+  absent_case SomeOpen (inr w) = absurd (not_read desk.files input _ gone w.1.0.is_text.file)
+
+pub absent_due : (found : Result Command WordFault) (desk later : DeskState) (sink after : SinkState)
+    (command : Command) → found ≡ Ok command → IsMissing found desk → (o : Outcome)
+    → Answers (Ok command) desk later sink after o → IsDue ReadFault o.status
+absent_due found desk later sink after command is missing o answers =
+    let route : Command = Route missing.input missing.output missing.knobs in
+    let same : command ≡ route = one_command command route (sym is ∙ missing.accepted) in
+    absent_case desk later sink after missing.input missing.output missing.knobs missing.holds o.status
+    (subst (λ (k : Command). Ends k desk later sink after o.status) same
+    (sides command desk later sink after o.routed o.status answers))
 
 -- ---- a call without faults is done
 no_desk_fault : {P : Type 0} (desk later : DeskState) (sink after : SinkState) → HasNoFault desk later sink after

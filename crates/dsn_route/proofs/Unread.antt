@@ -13,7 +13,7 @@ use Rattle.dsn_shapes.specs.declared.refusal.What.TheVariants.{Nothing}
 use Rattle.dsn_shapes.specs.declared.refusal.DesignFault.{DesignFault}
 use Rattle.dsn_shapes.specs.declared.refusal.DesignFault.TheVariants as design
 use Rattle.dsn_shapes.specs.Refusals.{refused}
-use Rattle.dsn_shapes.specs.Tabled.{most_of}
+use Rattle.dsn_shapes.specs.Limits.{most_of}
 use Rattle.dsn_design.specs.Reading.{HasRefusal, ReadsDesign}
 use Rattle.dsn_design.proofs.Tabled.{refusal_tabled}
 use Rattle.dsn_route.specs.declared.status.Status.{Status}

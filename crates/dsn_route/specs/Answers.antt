@@ -6,7 +6,7 @@ use Rattle.pcb_model.specs.declared.design.Design.{Design}
 use Rattle.dsn_design.specs.Reading.{HasDesign}
 use Rattle.dsn_shapes.specs.declared.refusal.What.{What}
 use Rattle.dsn_shapes.specs.declared.refusal.What.TheVariants.{Nothing}
-use Rattle.dsn_shapes.specs.Tabled.{most_of}
+use Rattle.dsn_shapes.specs.Limits.{most_of}
 use Rattle.route_lattice.specs.Mesh.{node_count}
 use Rattle.ses_writer.specs.Session.{session_of}
 use Rattle.route_words.specs.declared.command.Command.{Command}
@@ -26,6 +26,7 @@ use Rattle.dsn_route.specs.Lines.{over_line, nodes_line}
 use Rattle.dsn_route.specs.Texts.{IsRefused, IsOverLimit}
 use Rattle.dsn_route.specs.Commands.{mesh_of, run_of, IsText, is_short}
 use Rattle.dsn_shapes.specs.declared.table.TheConstants.{NO_BOUNDARY}
+use Rattle.route_lattice.specs.declared.limits.TheConstants.{MOST_NODES}
 
 -- ---- calls that stop before they route
 -- the number of the refused words, and the line that says so
@@ -62,7 +63,7 @@ pub record IsCrowded (command : Command) (desk : DeskState) (line : List ℕ) : 
   pub design : Design
   pub is_text : IsText command desk text
   pub reads : HasDesign text design
-  pub many : 2 ^ 24 < node_count (mesh_of command design)
+  pub many : MOST_NODES < node_count (mesh_of command design)
   pub line_is : line ≡ nodes_line (node_count (mesh_of command design))
 
 -- the input couldn't be read; a generated board has none
@@ -123,7 +124,7 @@ pub record IsOutcome (command : Command) (desk : DeskState) (routed : Routed) : 
   pub design : Design
   pub is_text : IsText command desk text
   pub reads : HasDesign text design
-  pub few : node_count (mesh_of command design) ≤ 2 ^ 24
+  pub few : node_count (mesh_of command design) ≤ MOST_NODES
   pub run : IsRun design (mesh_of command design) (run_of command) routed.board routed.facts
 
 -- the files are those where all went well: the output is the session, whole, or nothing is written of a generated board

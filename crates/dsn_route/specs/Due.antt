@@ -15,6 +15,7 @@ use Rattle.route_words.specs.declared.command.WordFault.{WordFault}
 use Rattle.dsn_route.specs.Texts.{IsRefused, IsOverLimit}
 use Rattle.dsn_route.specs.Lines.{max_bytes}
 use Rattle.dsn_route.specs.Commands.{mesh_of, IsToldText}
+use Rattle.route_lattice.specs.declared.limits.TheConstants.{MOST_NODES}
 
 -- accepted words name an input, of which P holds
 pub record Names (P : List ℕ → Type 0) (command : Result Command WordFault) : Type 0 where
@@ -68,11 +69,11 @@ pub record IsFit (P : ℕ → Type 0) (command : Result Command WordFault) (text
 
 -- the lattice has more than 2^24 nodes
 abbrev pub IsTooFine : Result Command WordFault → List ℕ → Type 0
-IsTooFine = IsFit (λ count. 2 ^ 24 < count)
+IsTooFine = IsFit (λ count. MOST_NODES < count)
 
 -- it has at most as many
 abbrev pub IsRoutable : Result Command WordFault → List ℕ → Type 0
-IsRoutable = IsFit (λ count. count ≤ 2 ^ 24)
+IsRoutable = IsFit (λ count. count ≤ MOST_NODES)
 
 -- the answer that is due, or the one for a failed write or put, or for want of memory
 abbrev pub IsDue : Status → Status → Type 0

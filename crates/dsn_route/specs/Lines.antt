@@ -5,7 +5,7 @@ use Rattle.dsn_shapes.specs.declared.refusal.What.{What}
 use Rattle.dsn_shapes.specs.declared.refusal.What.TheVariants.{Nothing, Layers, Nets, Pins, Items, Vertices}
 use Rattle.route_words.specs.declared.command.WordFault.{WordFault}
 use Rattle.route_words.specs.declared.command.WordFault.TheVariants.{NoCommand, UnknownCommand, Usage, Memory}
-use Rattle.dsn_shapes.specs.declared.limits.TheConstants.{MOST_BYTES}
+use Rattle.pcb_model.specs.declared.limits.TheConstants.{MOST_BYTES}
 
 -- the most bytes of an input
 abbrev pub max_bytes : ℕ

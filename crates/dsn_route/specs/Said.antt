@@ -19,6 +19,7 @@ use Rattle.dsn_route.specs.Status.{ended_of}
 use Rattle.dsn_route.specs.Texts.{limit_number}
 use Rattle.dsn_route.specs.Commands.{mesh_of, run_of}
 use Rattle.dsn_route.specs.Answers.{Leaves}
+use Rattle.route_lattice.specs.declared.limits.TheConstants.{MOST_NODES}
 
 -- the command reads the file of this name
 abbrev pub IsInputOf : Command → List ℕ → Type 0
@@ -54,7 +55,7 @@ pub record IsLeft (desk later : DeskState) (sink after : SinkState) (status : St
 -- there is a run of the design, and this is what it left
 pub record IsOut (command : Command) (d : Design) (desk later : DeskState) (sink after : SinkState) (status : Status)
     (routed : Routed) : Type 0 where
-  pub few : node_count (mesh_of command d) ≤ 2 ^ 24
+  pub few : node_count (mesh_of command d) ≤ MOST_NODES
   pub run : IsRun d (mesh_of command d) (run_of command) routed.board routed.facts
   pub leaves : Leaves command routed.board routed.facts desk later sink after status
 

@@ -1,6 +1,6 @@
 -- The layers of a shape are few, and so are the parts of a list that isn't past its limit.
-use Rattle.std.proofs.Common.{◌≡◌, ◌<◌, ◌≤◌, ◌^◌, ℕ, zero, suc, Bool, true, false, cond, List, [], ◌∷◌, ◌++◌, Option}
-use Rattle.std.proofs.Common.{Some, None, length, map, arith}
+use Rattle.std.proofs.Common.{◌≡◌, ◌<◌, ◌≤◌, ◌-◌, ◌^◌, ℕ, zero, suc, Bool, true, false, cond, List, [], ◌∷◌, ◌++◌}
+use Rattle.std.proofs.Common.{Option, Some, None, length, map, arith}
 use Rattle.std.specs.Prelude.{slice_get}
 use Rattle.std.specs.List.{list_any}
 use Rattle.std.specs.Option.{option_map_or}
@@ -9,7 +9,9 @@ use Rattle.dsn_tree.specs.declared.tree.Tree.{Tree}
 use Rattle.dsn_shapes.specs.declared.form.Form.{Form}
 use Rattle.dsn_shapes.specs.declared.form.Outline.{Outline}
 use Rattle.dsn_shapes.specs.declared.refusal.Refusal.{Refusal}
+use Rattle.dsn_shapes.specs.declared.refusal.What.{What}
 use Rattle.dsn_shapes.specs.declared.parts.Layer.{Layer}
+use Rattle.dsn_shapes.specs.Limits.{most_of, past_limit, too_many}
 use Rattle.dsn_shapes.specs.Refusals.{refused}
 use Rattle.dsn_shapes.specs.Lists.{at_of, name_of, place_of, words_of}
 use Rattle.dsn_shapes.specs.Numbers.{word_coord}
@@ -25,6 +27,12 @@ pub few_left : {X Y : Type 0} (f : X → List Y) → ((x : X) → f x ≡ [] →
 few_left f some [] limit e = omega arith
 few_left f some (x ∷ xs) zero e = absurd (some x e)
 few_left f some (x ∷ xs) (suc limit) e = let h = few_left f some xs limit e in omega arith
+
+-- where no list is one too many, so many are left
+pub few_kept : (what : What) (before : ℕ) (ts : List Tree) → too_many what before ts ≡ []
+    → length ts ≤ most_of what - before
+few_kept what before ts e =
+    few_left (λ t. past_limit what (at_of t) ∷ []) (λ t f. cc) ts (most_of what - before) e
 
 -- ---- layers of a shape
 layers_if : (b : Bool) (o p : Outline) (n : ℕ) → o.layers < n → p.layers < n → (cond b o p).layers < n

@@ -4,3 +4,4 @@ pub mod Fits
 pub mod Few
 pub mod First
 pub mod Tabled
+pub mod Looped

@@ -1,7 +1,7 @@
 -- Each refusal of the shared parts is one of the table.
-use Rattle.std.proofs.Common.{◌≡◌, ◌≢◌, ◌++◌, ◌+◌, ℕ, Bool, true, false, cond, ◌&&◌, ◌||◌, List, [], ◌∷◌, Option, Some}
-use Rattle.std.proofs.Common.{None, length, refl, subst, arith}
-use Rattle.std.specs.Prelude.{◌==◌, nat_le, nat_lt, not, All, codes}
+use Rattle.std.proofs.Common.{◌≡◌, ◌≢◌, ◌++◌, ◌+◌, ◌-◌, ℕ, Bool, true, false, cond, ◌&&◌, ◌||◌, List, [], ◌∷◌, Option}
+use Rattle.std.proofs.Common.{Some, None, length, refl, subst, arith}
+use Rattle.std.specs.Prelude.{◌==◌, nat_le, nat_lt, not, All, codes, slice_get}
 use Rattle.std.specs.List.{flat_map}
 use Rattle.std.specs.Option.{option_map_or}
 use Rattle.std.proofs.lemmas.Bool.Decides.{nat_tests}
@@ -19,7 +19,8 @@ use Rattle.dsn_shapes.specs.declared.form.Form.TheVariants.{Circle, Rect, Polygo
 use Rattle.dsn_shapes.specs.declared.form.Outline.{Outline}
 use Rattle.dsn_shapes.specs.declared.parts.Layer.{Layer}
 use Rattle.dsn_shapes.specs.Refusals.{least, refused}
-use Rattle.dsn_shapes.specs.Tabled.{IsTabled, most_of}
+use Rattle.dsn_shapes.specs.Limits.{most_of, past_limit, too_many}
+use Rattle.dsn_shapes.specs.Tabled.{IsTabled}
 use Rattle.dsn_shapes.specs.Lists.{at_of, has_quote, is_left_out, left_out, left_out_in, name_of, nth_word, place_of}
 use Rattle.dsn_shapes.specs.Lists.{quoted_name, text_of, words_of}
 use Rattle.dsn_shapes.specs.Names.{first_place, given_again, is_at, names_at, same_names}
@@ -53,7 +54,7 @@ plain n at e = record {
 }
 
 over : (what : What) (at : ℕ) → what ≢ Nothing
-    → IsTabled (record { number = 23; at = at; what = what; limit = most_of what })
+    → IsTabled (past_limit what at)
 over what at some = record { from = omega arith; to = omega arith; counts = ((λ _. some), (λ _. refl)); limit = refl }
 
 pub none : AreTabled []
@@ -63,9 +64,9 @@ pub one : (n at : ℕ) → is_plain n ≡ true → AreTabled (refused n at ∷ [
 one n at e = All-cons IsTabled (refused n at) [] (plain n at e) none
 
 pub passed : (what : What) (at : ℕ) → what ≢ Nothing
-    → AreTabled (record { number = 23; at = at; what = what; limit = most_of what } ∷ [])
+    → AreTabled (past_limit what at ∷ [])
 passed what at some =
-    All-cons IsTabled (record { number = 23; at = at; what = what; limit = most_of what }) [] (over what at some) none
+    All-cons IsTabled (past_limit what at) [] (over what at some) none
 
 -- ---- lists of them
 pub both : (rs ss : List Refusal) → AreTabled rs → AreTabled ss → AreTabled (rs ++ ss)
@@ -89,6 +90,12 @@ pub of_some : {X : Type 0} (f : X → List Refusal) (o : Option X) (rs : List Re
     → AreTabled rs → AreTabled (option_map_or f o rs)
 of_some f None rs h k = k
 of_some f (Some x) rs h k = h x
+
+-- the first list that is one too many
+pub many_tabled : (what : What) → what ≢ Nothing → (before : ℕ) (ts : List Tree) → AreTabled (too_many what before ts)
+many_tabled what some before ts =
+    of_some (λ t. past_limit what (at_of t) ∷ []) (slice_get ts (most_of what - before)) []
+    (λ t. passed what (at_of t) some) none
 
 -- the refusal that counts is one of the table
 pub least_tabled : (rs : List Refusal) (r : Refusal) → AreTabled rs → least rs ≡ Some r → IsTabled r

@@ -17,8 +17,9 @@ use Rattle.dsn_shapes.specs.Refusals.{refused}
 use Rattle.dsn_shapes.specs.Lists.{at_of, words_of, name_of, place_of}
 use Rattle.dsn_shapes.specs.Numbers.{word_coord, word_coord_refusal, extent_at, extent_refusal}
 use Rattle.dsn_shapes.specs.Layers.{layers_of, layer_refusal}
-use Rattle.dsn_shapes.specs.declared.table.TheConstants.{BAD_FORM, PAST_LIMIT}
-use Rattle.dsn_shapes.specs.declared.limits.TheConstants.{MOST_VERTICES}
+use Rattle.dsn_shapes.specs.Limits.{past_limit}
+use Rattle.dsn_shapes.specs.declared.table.TheConstants.{BAD_FORM}
+use Rattle.pcb_model.specs.declared.limits.TheConstants.{MOST_VERTICES}
 
 -- ---- the numbers of a form
 abbrev pub form_of : Tree → Option Form
@@ -110,15 +111,10 @@ is_closed cs =
 unfoldable pub ring_of : List (Option ℤ) → List (Option ℤ)
 ring_of cs = if is_closed cs then take (length cs - 2) cs else cs
 
--- more than 4,096 vertices are refused at the first that is too many
+-- more vertices than a shape may have are refused at the first that is too many
 abbrev pub vertex_limit : Form → Tree → ℕ → List Refusal
 vertex_limit form t count = if nat_lt MOST_VERTICES count
-    then record {
-      number = PAST_LIMIT;
-      at = place_of t (first_coord form + 2 * MOST_VERTICES);
-      what = Vertices;
-      limit = MOST_VERTICES;
-    } ∷ [] else []
+    then past_limit Vertices (place_of t (first_coord form + 2 * MOST_VERTICES)) ∷ [] else []
 
 abbrev pub ring_refusals : Form → Tree → ℕ → List Refusal
 ring_refusals form t count =

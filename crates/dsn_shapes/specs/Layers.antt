@@ -10,7 +10,7 @@ use Rattle.dsn_shapes.specs.declared.refusal.Refusal.{Refusal}
 use Rattle.dsn_shapes.specs.Refusals.{refused}
 use Rattle.dsn_shapes.specs.Lists.{name_of, place_of}
 use Rattle.dsn_shapes.specs.declared.table.TheConstants.{NO_LAYER}
-use Rattle.dsn_shapes.specs.declared.limits.TheConstants.{MOST_LAYERS}
+use Rattle.pcb_model.specs.declared.limits.TheConstants.{MOST_LAYERS}
 
 -- bit i is set where layer i passes the test
 abbrev pub mask : (Layer → Bool) → List Layer → ℕ

@@ -3,6 +3,7 @@ pub mod First
 pub mod Tabled
 pub mod Known
 pub mod Lists
+pub mod Limits
 pub mod Numbers
 pub mod Angles
 pub mod Layers

@@ -11,16 +11,17 @@ ghost use Rattle.dsn_shapes.specs.Numbers.{word_coord, word_coord_refusal};
 ghost use Rattle.dsn_shapes.specs.Refusals.{noted};
 
 use crate::layers::read_layers;
-use crate::limits::MOST_VERTICES;
+use crate::limits::past_limit;
 use crate::lists::{at_of, place_of};
 use crate::numbers::{coord_in, extent_at};
 use crate::parts::Layer;
 use crate::refusal::{Refusal, What, note, refused};
-use crate::table::{BAD_FORM, PAST_LIMIT};
+use crate::table::BAD_FORM;
 use crate::trees::Trees;
 use dsn_tree::{Tree, is_headed};
 use dsn_units::Scale;
 use geo_kernel::{List, Point};
+use pcb_model::limits::MOST_VERTICES;
 use std::alloc::{AllocError, Global};
 
 /// The forms that are read.
@@ -227,15 +228,8 @@ pub(crate) fn refuse_many(first: &mut Option<Refusal>, form: Form, tree: &Tree, 
     ensures { first.new ≡ noted first.old (vertex_limit form tree.now count) }
 {
     if count as u64 > MOST_VERTICES {
-        note(
-            first,
-            Refusal {
-                number: PAST_LIMIT,
-                at: place_of(tree, first_coord(form) + MOST_COORDS),
-                what: What::Vertices,
-                limit: MOST_VERTICES,
-            },
-        );
+        let at = place_of(tree, first_coord(form) + MOST_COORDS);
+        note(first, past_limit(What::Vertices, at));
     }
 }
 

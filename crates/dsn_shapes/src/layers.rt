@@ -7,12 +7,12 @@ ghost use Rattle.dsn_shapes.specs.Layers.{group_of, layer_refusal, layers_of, ma
 ghost use Rattle.dsn_shapes.specs.Lists.{name_of};
 ghost use Rattle.dsn_shapes.specs.Refusals.{noted};
 
-use crate::limits::MOST_LAYERS;
 use crate::lists::{name_of, place_of};
 use crate::parts::Layer;
 use crate::refusal::{Refusal, note, refused};
 use crate::table::NO_LAYER;
 use dsn_tree::Tree;
+use pcb_model::limits::MOST_LAYERS;
 
 /// What a word stands for: the layers of a name, all, the signal or the power layers.
 #[derive(Clone, Copy, PartialEq, Eq)]

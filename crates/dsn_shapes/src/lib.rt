@@ -8,7 +8,7 @@ mod form;
 mod known;
 mod laws;
 mod layers;
-pub mod limits;
+mod limits;
 mod lists;
 mod named;
 mod names;
@@ -25,6 +25,7 @@ pub use angles::angle_in;
 pub use area::{Bounds, Keepouts, Shapes, ban_notes, shape_notes};
 pub use known::{ListKind, form_heads, idle_in, keepout_heads, read_in};
 pub use laws::first_counts;
+pub use limits::{most_of, past_limit, refuse_past};
 pub use lists::{
     at_of, is_left_out, is_word, name_of, nth_word, place_of, refuse_left_out, refuse_quoted_name,
     says, text_of,

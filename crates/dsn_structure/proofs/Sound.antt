@@ -12,7 +12,6 @@ use Rattle.dsn_units.specs.declared.number.Decimal.{Decimal}
 use Rattle.dsn_units.specs.Length.{bottom, is_below_zero, top, whole_of}
 use Rattle.dsn_units.specs.Reading.{decimal_of}
 use Rattle.dsn_shapes.specs.declared.refusal.Refusal.{Refusal}
-use Rattle.dsn_shapes.specs.declared.refusal.What.{What}
 use Rattle.dsn_shapes.specs.declared.refusal.What.TheVariants.{Layers, Items}
 use Rattle.dsn_shapes.specs.declared.parts.Layer.{Layer}
 use Rattle.dsn_shapes.specs.declared.parts.BanShape.{BanShape}
@@ -22,7 +21,7 @@ use Rattle.dsn_shapes.specs.Names.{names_at, same_names}
 use Rattle.dsn_shapes.specs.Rules.{rule_refusals}
 use Rattle.dsn_shapes.specs.Shapes.{ban_of, ban_refusals, bound_of, bound_refusals}
 use Rattle.dsn_shapes.specs.Fits.{IsBoundShape, IsShapeFit}
-use Rattle.dsn_shapes.proofs.Few.{few_left}
+use Rattle.dsn_shapes.proofs.Few.{few_kept}
 use Rattle.dsn_shapes.proofs.Fits.{back_nil, ban_fit, bound_fit, each_fit, front_nil, name_printable, named_differ}
 use Rattle.dsn_shapes.proofs.Fits.{none_left, rules_fit, test_fails, test_holds}
 use Rattle.dsn_structure.specs.Header.{count_by, count_of, count_refusal, first_of, head_of, head_refusals, host_in}
@@ -30,7 +29,7 @@ use Rattle.dsn_structure.specs.Header.{host_of, host_refusal, hosts, not_pcb, re
 use Rattle.dsn_structure.specs.Header.{resolutions, scale_refusals, some_count, unit_refusal, units}
 use Rattle.dsn_structure.specs.Layout.{area_refusals, boundaries, controls, frame_layers, frame_refusals, keepouts}
 use Rattle.dsn_structure.specs.Layout.{layer_lists, layer_of, layer_refusals, layers_in, lists_left_out, missing}
-use Rattle.dsn_structure.specs.Layout.{no_boundary, padstacks, past_limit, refusals_of, rule_lists, structure_of}
+use Rattle.dsn_structure.specs.Layout.{no_boundary, padstacks, refusals_of, rule_lists, structure_of}
 use Rattle.dsn_structure.specs.Layout.{structure_refusals, structures, value_of, via_lists, via_refusals}
 use Rattle.dsn_structure.specs.Sound.{AreLayersSound, IsHeadSound, IsStructureSound}
 
@@ -118,20 +117,13 @@ head_sound pcb left =
           (front_nil (host_refusal (hosts (codes "host_version") pcb)) _ host_version);
     }
 
--- ---- limits
-abbrev past_at : What → ℕ → Tree → List Refusal
-past_at what limit t = record { number = 23; at = at_of t; what = what; limit = limit } ∷ []
-
-few_of : (what : What) (limit : ℕ) (ts : List Tree) → past_limit what limit ts ≡ [] → length ts ≤ limit
-few_of what limit ts e = few_left (past_at what limit) (λ t f. cc) ts limit e
-
 -- ---- layers
 layers_sound : (ts : List Tree) → 1 ≤ length ts → layer_refusals ts ≡ [] → AreLayersSound (layers_in ts)
 unfolding layers_in layer_refusals
 layers_sound ts some e =
     let l : length (map layer_of ts) ≡ length ts = length-map ts layer_of in
     let rest = back_nil (flat_map (λ t. quoted_name t 1) ts) _ e in
-    let few : length ts ≤ 32 = few_of Layers 32 ts (back_nil (same_names 1 ts) _ rest) in
+    let few : length ts ≤ 32 = few_kept Layers 0 ts (back_nil (same_names 1 ts) _ rest) in
     record {
       some = omega arith;
       few = omega arith;
@@ -185,7 +177,7 @@ unfolding area_refusals
 areas_fit nm layers bounds bans e =
     let rest = back_nil (flat_map (bound_refusals nm layers) bounds) _ e in
     let few : length (bounds ++ bans) ≤ 1048576 =
-    few_of Items 1048576 (bounds ++ bans) (back_nil (flat_map (ban_refusals nm layers) bans) _ rest) in
+    few_kept Items 0 (bounds ++ bans) (back_nil (flat_map (ban_refusals nm layers) bans) _ rest) in
     record {
       few = omega (arith, length-append bounds bans);
       bounds_fit =

@@ -1,23 +1,22 @@
 -- Each refusal of a head and of a structure is one of the table.
-use Rattle.std.proofs.Common.{◌≢◌, ◌++◌, ◌&&◌, ◌||◌, ℕ, List, [], ◌∷◌, Option, Some, None, length, refl}
+use Rattle.std.proofs.Common.{◌++◌, ◌&&◌, ◌||◌, ℕ, List, [], ◌∷◌, Option, Some, None, length, refl}
 use Rattle.std.specs.Prelude.{◌==◌, codes, is_some, slice_get}
 use Rattle.dsn_tree.specs.declared.tree.Tree.{Tree}
 use Rattle.dsn_tree.specs.Heads.{is_headed, word}
-use Rattle.dsn_shapes.specs.declared.refusal.What.{What}
-use Rattle.dsn_shapes.specs.declared.refusal.What.TheVariants.{Nothing, Layers, Items}
+use Rattle.dsn_shapes.specs.declared.refusal.What.TheVariants.{Layers, Items}
 use Rattle.dsn_shapes.specs.declared.parts.Layer.{Layer}
 use Rattle.dsn_shapes.specs.Lists.{at_of, name_of, place_of, quoted_name, text_of}
 use Rattle.dsn_shapes.specs.Names.{first_place, names_at}
 use Rattle.dsn_shapes.specs.Shapes.{ban_refusals, bound_refusals}
-use Rattle.dsn_shapes.specs.Tabled.{most_of}
-use Rattle.dsn_shapes.proofs.Tabled.{AreTabled, all_left_out_tabled, ban_tabled, both, bound_tabled, each, names_tabled}
-use Rattle.dsn_shapes.proofs.Tabled.{none, of_some, one, passed, quoted_tabled, rules_tabled, where_fails, where_holds}
+use Rattle.dsn_shapes.proofs.Tabled.{AreTabled, all_left_out_tabled, ban_tabled, both, bound_tabled, each, many_tabled}
+use Rattle.dsn_shapes.proofs.Tabled.{names_tabled, none, of_some, one, quoted_tabled, rules_tabled, where_fails}
+use Rattle.dsn_shapes.proofs.Tabled.{where_holds}
 use Rattle.dsn_structure.specs.Header.{count_of, count_refusal, first_of, head_refusals, header_left_out, host_refusal}
 use Rattle.dsn_structure.specs.Header.{hosts, not_pcb, parsers, resolution_refusals, resolutions, scale_refusals}
 use Rattle.dsn_structure.specs.Header.{unit_of, unit_refusal, units}
 use Rattle.dsn_structure.specs.Layout.{area_refusals, boundaries, controls, frame_layers, frame_refusals, is_unknown}
 use Rattle.dsn_structure.specs.Layout.{keepouts, layer_lists, layer_refusals, lists_left_out, missing, no_boundary}
-use Rattle.dsn_structure.specs.Layout.{padstacks, past_limit, refusals_of, rule_lists, structure_refusals, structures}
+use Rattle.dsn_structure.specs.Layout.{padstacks, refusals_of, rule_lists, structure_refusals, structures}
 use Rattle.dsn_structure.specs.Layout.{via_lists, via_refusal, via_refusals, via_words}
 
 -- ---- the head
@@ -49,16 +48,11 @@ head_tabled pcb =
     (both _ _ (all_left_out_tabled (pcb ∷ [])) (all_left_out_tabled (parsers pcb)))))))
 
 -- ---- the structure
-limit_tabled : (what : What) → what ≢ Nothing → (ts : List Tree) → AreTabled (past_limit what (most_of what) ts)
-limit_tabled what some ts =
-    of_some (λ t. record { number = 23; at = at_of t; what = what; limit = most_of what } ∷ [])
-    (slice_get ts (most_of what)) [] (λ t. passed what (at_of t) some) none
-
 layers_tabled : (ts : List Tree) → AreTabled (layer_refusals ts)
 unfolding layer_refusals
 layers_tabled ts =
     both _ _ (each (λ t. quoted_name t 1) (λ t. quoted_tabled t 1) ts)
-    (both _ _ (names_tabled 1 ts) (limit_tabled Layers (λ e. cc) ts))
+    (both _ _ (names_tabled 1 ts) (many_tabled Layers (λ e. cc) 0 ts))
 
 boundary_tabled : (bounds : List Tree) (o : Option Tree) → AreTabled (no_boundary bounds o)
 boundary_tabled bounds None = none
@@ -86,7 +80,7 @@ unfolding area_refusals
 areas_tabled nm layers bounds bans =
     both _ _ (each (bound_refusals nm layers) (bound_tabled nm layers) bounds)
     (both _ _ (each (ban_refusals nm layers) (ban_tabled nm layers) bans)
-    (limit_tabled Items (λ e. cc) (bounds ++ bans)))
+    (many_tabled Items (λ e. cc) 0 (bounds ++ bans)))
 
 vias_tabled : (known : List (List ℕ)) (ts : List Tree) → AreTabled (via_refusals known ts)
 unfolding via_refusals

@@ -19,7 +19,7 @@ use Rattle.dsn_shapes.specs.Refusals.{refused}
 use Rattle.dsn_shapes.specs.Lists.{at_of, text_of, lists, name_of, nth_word, place_of, quoted_name, capped, notes_in}
 use Rattle.dsn_shapes.specs.Lists.{left_out_in}
 use Rattle.dsn_shapes.specs.declared.table.TheConstants.{NO_BOARD, NO_NUMBER, NO_SECTION, NO_UNIT}
-use Rattle.dsn_shapes.specs.declared.limits.TheConstants.{MOST_PER}
+use Rattle.pcb_model.specs.declared.limits.TheConstants.{MOST_PER}
 
 -- ---- lists
 abbrev pub resolutions : Tree → List Tree

@@ -7,19 +7,18 @@ use Rattle.dsn_tree.specs.declared.tree.Tree.{Tree}
 use Rattle.dsn_tree.specs.Heads.{child, items_of}
 use Rattle.dsn_shapes.specs.declared.known.ListKind.TheVariants as list
 use Rattle.dsn_shapes.specs.declared.refusal.Refusal.{Refusal}
-use Rattle.dsn_shapes.specs.declared.refusal.What.{What}
 use Rattle.dsn_shapes.specs.declared.refusal.What.TheVariants.{Layers, Items}
 use Rattle.dsn_shapes.specs.declared.parts.Layer.{Layer}
 use Rattle.dsn_shapes.specs.declared.parts.Structure.{Structure}
 use Rattle.dsn_shapes.specs.Refusals.{refused}
+use Rattle.dsn_shapes.specs.Limits.{too_many}
 use Rattle.dsn_shapes.specs.Known.{keepout_heads}
 use Rattle.dsn_shapes.specs.Lists.{at_of, text_of, is_word, lists, name_of, says, quoted_name, capped, notes_in}
 use Rattle.dsn_shapes.specs.Lists.{left_out_in}
 use Rattle.dsn_shapes.specs.Names.{names_at, first_place, same_names}
 use Rattle.dsn_shapes.specs.Shapes.{ban_of, ban_refusals, ban_notes, bound_of, bound_refusals}
 use Rattle.dsn_shapes.specs.Rules.{rule_set, rule_refusals, rule_notes}
-use Rattle.dsn_shapes.specs.declared.table.TheConstants.{NO_BOUNDARY, NO_PADSTACK, NO_SECTION, PAST_LIMIT}
-use Rattle.dsn_shapes.specs.declared.limits.TheConstants.{MOST_LAYERS, MOST_ITEMS}
+use Rattle.dsn_shapes.specs.declared.table.TheConstants.{NO_BOUNDARY, NO_PADSTACK, NO_SECTION}
 
 -- ---- lists
 abbrev pub structures : Tree → List Tree
@@ -47,13 +46,6 @@ controls structs = lists (codes "control" ∷ []) structs
 abbrev pub padstacks : Tree → List Tree
 padstacks pcb = lists (codes "padstack" ∷ []) (lists (codes "library" ∷ []) (pcb ∷ []))
 
--- ---- limits
--- the first list past a limit
-abbrev pub past_limit : What → ℕ → List Tree → List Refusal
-past_limit what limit ts =
-    option_map_or (λ t. record { number = PAST_LIMIT; at = at_of t; what = what; limit = limit } ∷ [])
-    (slice_get ts limit) []
-
 -- ---- layers
 -- a layer of type `power` is a power layer
 abbrev pub is_power : Tree → Bool
@@ -66,7 +58,7 @@ unfoldable pub layers_in : List Tree → List Layer
 layers_in ts = map layer_of ts
 
 unfoldable pub layer_refusals : List Tree → List Refusal
-layer_refusals ts = flat_map (λ t. quoted_name t 1) ts ++ (same_names 1 ts ++ past_limit Layers MOST_LAYERS ts)
+layer_refusals ts = flat_map (λ t. quoted_name t 1) ts ++ (same_names 1 ts ++ too_many Layers 0 ts)
 
 -- ---- parts that are missing
 -- no structure or no layer; no boundary, at the first structure
@@ -82,7 +74,7 @@ missing pcb structs ls bounds =
 -- ---- boundaries and keepouts
 unfoldable pub area_refusals : ℕ → List Layer → List Tree → List Tree → List Refusal
 area_refusals nm layers bounds bans = flat_map (bound_refusals nm layers) bounds
-    ++ (flat_map (ban_refusals nm layers) bans ++ past_limit Items MOST_ITEMS (bounds ++ bans))
+    ++ (flat_map (ban_refusals nm layers) bans ++ too_many Items 0 (bounds ++ bans))
 
 -- ---- via padstacks, each of which the library has
 -- the words behind the head of a list

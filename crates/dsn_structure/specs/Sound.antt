@@ -6,7 +6,7 @@ use Rattle.dsn_shapes.specs.declared.parts.Layer.{Layer}
 use Rattle.dsn_shapes.specs.declared.parts.BanShape.{BanShape}
 use Rattle.dsn_shapes.specs.declared.parts.Structure.{Structure}
 use Rattle.dsn_shapes.specs.Fits.{IsBoundShape, IsRuleSetFit, IsShapeFit}
-use Rattle.dsn_shapes.specs.declared.limits.TheConstants.{MOST_LAYERS, MOST_ITEMS, MOST_PER}
+use Rattle.pcb_model.specs.declared.limits.TheConstants.{MOST_LAYERS, MOST_ITEMS, MOST_PER}
 
 -- a resolution from 1 to 1,000,000, and names that a session can print
 pub record IsHeadSound (h : Head) : Type 0 where

@@ -7,11 +7,9 @@ ghost use Rattle.dsn_shapes.specs.Refusals.{noted};
 ghost use Rattle.dsn_shapes.specs.Shapes.{ban_notes, ban_of, bound_of};
 ghost use Rattle.dsn_structure.specs.Layout.{area_refusals, keepouts};
 
-use crate::layers::refuse_past;
-use dsn_shapes::limits::MOST_ITEMS;
 use dsn_shapes::{
     BanShape, Bounds, Keepouts, Layer, LayerShape, Refusal, Trees, What, ban_notes, keepout_heads,
-    read_each,
+    read_each, refuse_past,
 };
 use dsn_tree::Tree;
 use dsn_units::Scale;
@@ -75,7 +73,7 @@ pub(crate) fn read_areas(
     let all = all_areas(alloc, bounds, bans)?;
     let bound_shapes = read_each(alloc, &Bounds { scale, layers }, first, bounds)?;
     let ban_shapes = read_each(alloc, &Keepouts { scale, layers }, first, bans)?;
-    refuse_past(first, &all, What::Items, MOST_ITEMS);
+    refuse_past(first, What::Items, 0, &all);
     Ok(Areas {
         bounds: bound_shapes,
         bans: ban_shapes,

@@ -13,7 +13,6 @@ ghost use Rattle.dsn_structure.specs.Sound.{IsHeadSound};
 ghost use Rattle.std.specs.Option.{option_map_or};
 ghost use Rattle.std.specs.Prelude.{codes, unwrap_or};
 
-use dsn_shapes::limits::MOST_PER;
 use dsn_shapes::table::{NO_BOARD, NO_NUMBER, NO_SECTION, NO_UNIT};
 use dsn_shapes::{
     Head, ListKind, ReadFault, Refusal, Trees, at_of, name_of, note, nth_word, pass_over, place_of,
@@ -22,6 +21,7 @@ use dsn_shapes::{
 use dsn_tree::{Tree, is_headed, word};
 use dsn_units::{Scale, read_decimal, whole_number};
 use geo_kernel::{List, Name, Unit};
+use pcb_model::limits::MOST_PER;
 use std::alloc::{AllocError, Global};
 
 fn refuse_no_pcb(first: &mut Option<Refusal>, pcb: &Tree)

@@ -6,34 +6,15 @@ ghost use Rattle.dsn_shapes.specs.Lists.{capped};
 ghost use Rattle.dsn_shapes.specs.Refusals.{noted};
 ghost use Rattle.dsn_structure.specs.Layout.{frame_layers, frame_notes, frame_refusals, is_power, layer_refusals};
 ghost use Rattle.dsn_structure.specs.Layout.{layers_in, lists_left_out, lists_passed, missing, no_boundary};
-ghost use Rattle.dsn_structure.specs.Layout.{past_limit};
 
-use dsn_shapes::limits::MOST_LAYERS;
-use dsn_shapes::table::{NO_BOUNDARY, NO_SECTION, PAST_LIMIT};
+use dsn_shapes::table::{NO_BOUNDARY, NO_SECTION};
 use dsn_shapes::{
     Layer, ListKind, NameIndex, Part, Refusal, Trees, What, at_of, name_of, note, pass_over,
-    read_each, refuse_quoted_name, refused, says,
+    read_each, refuse_past, refuse_quoted_name, refused, says,
 };
 use dsn_tree::{Tree, child};
 use geo_kernel::List;
 use std::alloc::{AllocError, Global};
-
-/// Refuses the first list past a limit.
-pub(crate) fn refuse_past(first: &mut Option<Refusal>, lists: &Trees, what: What, limit: u64)
-    ensures { first.new ≡ noted first.old (past_limit what limit lists.now) }
-{
-    if let Some(tree) = lists.get(limit as usize) {
-        note(
-            first,
-            Refusal {
-                number: PAST_LIMIT,
-                at: at_of(tree),
-                what,
-                limit,
-            },
-        );
-    }
-}
 
 fn is_power(tree: &Tree) -> bool
     ensures { result ≡ is_power tree.now }
@@ -83,7 +64,7 @@ fn read_layers(
     let index = NameIndex::new(alloc, lists, 1)?;
     let layers = read_each(alloc, &LayerPart, first, lists)?;
     index.refuse_same(first, lists, 1);
-    refuse_past(first, lists, What::Layers, MOST_LAYERS);
+    refuse_past(first, What::Layers, 0, lists);
     Ok(layers)
 }
 

@@ -1,7 +1,8 @@
 -- What reading the rest of an open group means, at any depth.
-use Rattle.std.specs.Prelude.{◌≡◌, ◌+◌, ◌≤◌, ℕ, List, [], ◌∷◌, ◌++◌, Option, Some, Result, Ok, Err, length, map}
+use Rattle.std.specs.Prelude.{◌≡◌, ◌+◌, ◌-◌, ◌≤◌, ℕ, List, [], ◌∷◌, ◌++◌, Option, Some, Result, Ok, Err, length, map}
 use Rattle.std.specs.List.{flat_map, AllByRecursion}
 use Rattle.dsn_tree.specs.declared.fault.TreeFault.{TreeFault}
+use Rattle.dsn_tree.specs.declared.limits.TheConstants.{MOST_DEPTH}
 use Rattle.dsn_tree.specs.declared.tree.Tree.{Tree}
 use Rattle.dsn_tree.specs.Flat.{flat, depth, shown}
 use Rattle.dsn_tree.specs.Verdict.{inside, verdict}
@@ -38,7 +39,7 @@ pub record FaultInside (p : Place) (at room : ℕ) (f : TreeFault) : Type 0 wher
   pub ts : List Token
   pub end : Option TokenFault
   pub reading : Reading p ts end
-  pub first : (outer : List ℕ) → length outer + room ≡ 63 → verdict (inside at outer) ts end ≡ Some f
+  pub first : (outer : List ℕ) → length outer + room ≡ MOST_DEPTH - 1 → verdict (inside at outer) ts end ≡ Some f
 
 -- What reading the rest of the group answers.
 abbrev pub ReadsGroup : Place → ℕ → ℕ → Result (List Tree) TreeFault → Place → Type 0

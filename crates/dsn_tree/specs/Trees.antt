@@ -1,6 +1,7 @@
 -- The tree of a text, or its fault.
 use Rattle.std.specs.Prelude.{◌⊎◌, ◌≡◌, ◌≤◌, ℕ, List, Option, Some, Result, Ok, Err, map}
 use Rattle.dsn_tree.specs.declared.fault.TreeFault.{TreeFault}
+use Rattle.dsn_tree.specs.declared.limits.TheConstants.{MOST_DEPTH}
 use Rattle.dsn_tree.specs.declared.fault.TreeFault.TheVariants.{Memory, QuoteOpen, BadQuoteByte, Unclosed, Surplus}
 use Rattle.dsn_tree.specs.declared.fault.TreeFault.TheVariants.{TooDeep, Empty}
 use Rattle.dsn_tree.specs.declared.tree.Tree.{Tree}
@@ -12,7 +13,7 @@ use Rattle.dsn_tokens.specs.Spelling.{Reading, Spells}
 use Rattle.dsn_tokens.specs.declared.token.Token.{Token}
 use Rattle.dsn_tokens.specs.declared.token.TokenFault.{TokenFault}
 
--- The text spells the tokens of the tree, which is a group and at most 64 deep.
+-- The text spells the tokens of the tree, which is a group and at most MOST_DEPTH deep.
 pub record HasTree (text : List ℕ) (t : Tree) : Type 0 where
   pub at : ℕ
   pub items : List Tree
@@ -20,7 +21,7 @@ pub record HasTree (text : List ℕ) (t : Tree) : Type 0 where
   pub ts : List Token
   pub spells : Spells text ts
   pub shows : map shown ts ≡ flat t
-  pub deep : depth t ≤ 64
+  pub deep : depth t ≤ MOST_DEPTH
 
 -- The text has this fault, met first from left to right.
 pub record HasFault (text : List ℕ) (f : TreeFault) : Type 0 where

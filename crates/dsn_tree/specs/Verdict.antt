@@ -1,6 +1,7 @@
 -- The fault of a text's tokens that is met first from left to right.
-use Rattle.std.specs.Prelude.{ℕ, List, [], ◌∷◌, Option, Some, None, Result, Ok, Err, nat_lt, length, if◌then◌else◌}
+use Rattle.std.specs.Prelude.{◌-◌, ℕ, List, [], ◌∷◌, Option, Some, None, Result, Ok, Err, nat_lt, length, if◌then◌else◌}
 use Rattle.dsn_tree.specs.declared.fault.TreeFault.{TreeFault}
+use Rattle.dsn_tree.specs.declared.limits.TheConstants.{MOST_DEPTH}
 use Rattle.dsn_tree.specs.declared.fault.TreeFault.TheVariants.{Unclosed, Surplus, TooDeep, Empty}
 use Rattle.dsn_tree.specs.declared.fault.TreeFault.TheVariants as tree
 use Rattle.dsn_tokens.specs.declared.token.Token.{Token}
@@ -31,7 +32,8 @@ abbrev pub step : Standing → ℕ → Mark → Result Standing TreeFault
 step before at Left = Ok (inside at [])
 step before at Right = Err (Surplus at)
 step before at (Word text) = Err (Surplus at)
-step (inside at outer) new Left = if nat_lt (length outer) 63 then Ok (inside new (at ∷ outer)) else Err (TooDeep new)
+step (inside at outer) new Left =
+    if nat_lt (length outer) (MOST_DEPTH - 1) then Ok (inside new (at ∷ outer)) else Err (TooDeep new)
 step (inside at outer) new Right = Ok (closed outer)
 step (inside at outer) new (Word text) = Ok (inside at outer)
 step behind at mark = Err (Surplus at)

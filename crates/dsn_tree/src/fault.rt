@@ -23,7 +23,7 @@ pub enum TreeFault {
     /// A word or a closing bracket before the group, or any token behind it.
     #[error("the token at byte {at} stands outside the group")]
     Surplus { at: u64 },
-    /// This bracket opens a group that is more than 64 deep.
+    /// This bracket opens a group that is deeper than the limit.
     #[error("the bracket at byte {at} is too deep")]
     TooDeep { at: u64 },
     /// There is no token.

@@ -1,10 +1,11 @@
 //! The tree of a text in the design language, and look-ups in it.
-//! A text is one group, at most 64 brackets deep.
+//! A text is one group, of at most so many levels as a limit allows.
 #![tactic(auto)]
 
 mod fault;
 mod heads;
 mod laws;
+pub mod limits;
 mod reading;
 mod tree;
 

@@ -1,11 +1,12 @@
 //! Reading the tree of a text.
-//! A group is read by a call of its own, so that calls nest at most 64 deep.
+//! A group is read by a call of its own, so that calls nest as deep as brackets may.
 
-ghost use Rattle.std.specs.Prelude.{[], ◌∷◌, ◌++◌, IfOk, OnOk, ◌≡◌, ◌<◌, ◌≤◌, ◌^◌, length};
+ghost use Rattle.std.specs.Prelude.{[], ◌∷◌, ◌++◌, IfOk, OnOk, ◌≡◌, ◌<◌, ◌≤◌, ◌-◌, ◌^◌, length};
 ghost use Rattle.dsn_tree.specs.Groups.{ReadsGroup};
 ghost use Rattle.dsn_tree.specs.Trees.{ReadsTree};
 
 use crate::fault::{TreeFault, fault_of};
+use crate::limits::MOST_DEPTH;
 use crate::tree::Tree;
 use dsn_tokens::{Lexer, Mark, Token, each_read};
 use geo_kernel::List;
@@ -34,7 +35,7 @@ fn rest_of_group(
     at: u64,
     room: usize,
 ) -> Result<List<Tree>, TreeFault>
-    requires { room ≤ 63 }
+    requires { room ≤ MOST_DEPTH - 1 }
     ensures { ReadsGroup lexer.old at room result lexer.new }
 {
     let mut items = short_list(alloc)?;
@@ -89,7 +90,7 @@ pub fn read_tree(alloc: Global, text: &[u8]) -> Result<Tree, TreeFault>
             return Err(TreeFault::Surplus { at });
         }
     }
-    let items = match rest_of_group(alloc, &mut lexer, at, 63) {
+    let items = match rest_of_group(alloc, &mut lexer, at, MOST_DEPTH - 1) {
         Ok(items) => items,
         Err(fault) => return Err(fault),
     };

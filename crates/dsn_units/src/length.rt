@@ -9,6 +9,7 @@ ghost use Rattle.dsn_units.specs.Halves.{nearest_half, roof_half};
 use crate::Decimal;
 use crate::fraction::doubled;
 use geo_kernel::Unit;
+use geo_kernel::limits::{FURTHEST, WIDEST};
 use thiserror::Error;
 
 /// How many nm one unit of a design's numbers has.
@@ -56,11 +57,6 @@ fn roof_half(exact: bool, count: u128) -> u64
     };
     size as u64
 }
-
-// The greatest size of a coordinate, and the greatest extent, in nm.
-const FURTHEST: u64 = 0x2000_0000;
-
-const WIDEST: u64 = 0x1000_0000;
 
 /// The decimal as a coordinate in nm: the nearest whole number, the upper one of two that are equally near.
 /// The fault comes exactly where that passes 2^29 in absolute value.

@@ -44,7 +44,7 @@ use Rattle.dsn_shapes.specs.Shapes.{shape_of, shape_refusals}
 use Rattle.dsn_shapes.proofs.Fits.{back_nil, each_nil, first_below, front_nil, none_left, shape_fit, test_fails}
 use Rattle.dsn_shapes.proofs.Fits.{test_holds}
 use Rattle.dsn_shapes.specs.Fits.{IsShapeFit}
-use Rattle.dsn_shapes.proofs.Few.{few_left, shape_layered, shape_layers}
+use Rattle.dsn_shapes.proofs.Few.{few_kept, shape_layered, shape_layers}
 use Rattle.dsn_shapes.proofs.Within.{IsNearIfRead, wanted_near}
 use Rattle.dsn_wiring.specs.Layers.{has_layer, layers_below}
 use Rattle.dsn_wiring.specs.Nets.{is_fixed, net_names, net_of, net_refusals, place_in}
@@ -53,7 +53,8 @@ use Rattle.dsn_wiring.specs.Wires.{path_refusals, paths_in, refused_form, wire_m
 use Rattle.dsn_wiring.specs.Vias.{coord_of, is_far, is_past, is_via_past, past_refusal, point_by, spine_past, stack_at}
 use Rattle.dsn_wiring.specs.Vias.{stack_past, stack_place, unknown_stack, via_metal, via_place, via_place_refusals}
 use Rattle.dsn_wiring.specs.Vias.{via_refusals}
-use Rattle.dsn_wiring.specs.Counts.{items_before, too_many}
+use Rattle.dsn_shapes.specs.Limits.{too_many}
+use Rattle.dsn_wiring.specs.Counts.{items_before}
 use Rattle.dsn_wiring.specs.Whole.{lists_left_out, metal_of, metal_refusals, refusals_of, wire_lists, wire_of}
 use Rattle.dsn_wiring.specs.Whole.{wiring_of, wiring_refusals, wirings}
 use Rattle.dsn_wiring.specs.Sound.{HasFewStacks, IsCopperSound, IsStackNear, IsWireSound, IsWiringSound}
@@ -345,12 +346,8 @@ one_sound nm st lib network t few left e =
           (back_nil (net_refusals nets t) _ e) (via_sound nm st lib t few) (wire_sound nm st lib t left);
     }
 
-abbrev past_limit : Tree → List Refusal
-past_limit t = record { number = 23; at = at_of t; what = Items; limit = 1048576 } ∷ []
-
-few_wires : (before : ℕ) (ts : List Tree) → too_many before ts ≡ [] → length ts ≤ 1048576
-unfolding too_many
-few_wires before ts e = let h = few_left past_limit (λ t f. cc) ts (1048576 - before) e in omega arith
+few_wires : (before : ℕ) (ts : List Tree) → too_many Items before ts ≡ [] → length ts ≤ 1048576
+few_wires before ts e = let h = few_kept Items before ts e in omega arith
 
 pub wiring_sound : (nm : ℕ) (st : Structure) (lib : Library) (placing : Placing) (network : Network) (pcb : Tree)
     → HasFewStacks lib → least (wiring_refusals nm st lib placing network pcb) ≡ None
@@ -367,10 +364,10 @@ wiring_sound nm st lib placing network pcb few none =
     (back_nil (left_out_in (wirings pcb)) _ (front_nil (lists_left_out (wirings pcb) ts) _ all)) in
     let refusals =
     each_nil (refusals_of nm st.layers lib.stacks names nets) ts
-    (back_nil (too_many (items_before st lib placing) ts) _ rest) in
+    (back_nil (too_many Items (items_before st lib placing) ts) _ rest) in
     let l : length (map make ts) ≡ length ts = length-map ts make in
     let m : length ts ≤ 1048576 =
-    few_wires (items_before st lib placing) ts (front_nil (too_many (items_before st lib placing) ts) _ rest) in
+    few_wires (items_before st lib placing) ts (front_nil (too_many Items (items_before st lib placing) ts) _ rest) in
     record {
       few = omega arith;
       wires = All-map (IsWireSound st lib network) make ts

@@ -1,5 +1,5 @@
 -- Each refusal of a wiring is one of the table.
-use Rattle.std.proofs.Common.{◌-◌, ℕ, List, [], ◌∷◌, Option, length, refl}
+use Rattle.std.proofs.Common.{ℕ, List, [], ◌∷◌, Option, length, refl}
 use Rattle.std.specs.Prelude.{◌==◌, codes, drop, is_some, slice_get}
 use Rattle.geo_kernel.specs.declared.point.Point.{Point}
 use Rattle.dsn_tree.specs.declared.tree.Tree.{Tree}
@@ -15,21 +15,15 @@ use Rattle.dsn_shapes.specs.Known.{form_heads}
 use Rattle.dsn_shapes.specs.Lists.{at_of, lists, place_of}
 use Rattle.dsn_shapes.specs.Names.{stack_names}
 use Rattle.dsn_shapes.specs.Shapes.{shape_of}
-use Rattle.dsn_shapes.proofs.Tabled.{AreTabled, all_left_out_tabled, both, coord_tabled, each, either, none, of_some}
-use Rattle.dsn_shapes.proofs.Tabled.{one, passed, shape_tabled, where_fails, where_holds}
-use Rattle.dsn_wiring.specs.Counts.{items_before, too_many}
+use Rattle.dsn_shapes.proofs.Tabled.{AreTabled, all_left_out_tabled, both, coord_tabled, each, either, many_tabled}
+use Rattle.dsn_shapes.proofs.Tabled.{none, of_some, one, shape_tabled, where_fails, where_holds}
+use Rattle.dsn_wiring.specs.Counts.{items_before}
 use Rattle.dsn_wiring.specs.Nets.{net_names, net_refusals, place_in, unknown_net}
 use Rattle.dsn_wiring.specs.Vias.{is_via_past, past_refusal, stack_at, stack_place, unknown_stack, via_place}
 use Rattle.dsn_wiring.specs.Vias.{via_place_refusals, via_refusals}
 use Rattle.dsn_wiring.specs.Wires.{further_forms, is_unfit, no_form, others_in, path_refusals, paths_in, refused_form}
 use Rattle.dsn_wiring.specs.Wires.{wire_refusals}
 use Rattle.dsn_wiring.specs.Whole.{lists_left_out, metal_refusals, refusals_of, wire_lists, wiring_refusals, wirings}
-
-limit_tabled : (before : ℕ) (ts : List Tree) → AreTabled (too_many before ts)
-unfolding too_many
-limit_tabled before ts =
-    of_some (λ t. record { number = 23; at = at_of t; what = Items; limit = 1048576 } ∷ [])
-    (slice_get ts (1048576 - before)) [] (λ t. passed Items (at_of t) (λ e. cc)) none
 
 -- ---- nets
 net_tabled : (nets : List (List ℕ)) (t : Tree) → AreTabled (net_refusals nets t)
@@ -103,6 +97,6 @@ pub wiring_tabled : (nm : ℕ) (st : Structure) (lib : Library) (placing : Placi
 wiring_tabled nm st lib placing net pcb =
     let one_each = refusals_of nm st.layers lib.stacks (stack_names lib.stacks) (net_names net.nets) in
     both _ _ (sections_tabled (wirings pcb) (wire_lists pcb))
-    (both _ _ (limit_tabled (items_before st lib placing) (wire_lists pcb))
+    (both _ _ (many_tabled Items (λ e. cc) (items_before st lib placing) (wire_lists pcb))
     (each one_each (each_tabled nm st.layers lib.stacks (stack_names lib.stacks) (net_names net.nets))
     (wire_lists pcb)))

@@ -14,7 +14,7 @@ use Rattle.dsn_shapes.specs.declared.parts.Library.{Library}
 use Rattle.dsn_shapes.specs.declared.parts.Network.{Network}
 use Rattle.dsn_shapes.specs.declared.parts.ReadWire.{ReadWire}
 use Rattle.dsn_shapes.specs.declared.parts.Wiring.{Wiring}
-use Rattle.dsn_shapes.specs.declared.limits.TheConstants.{MOST_ITEMS}
+use Rattle.pcb_model.specs.declared.limits.TheConstants.{MOST_ITEMS}
 
 -- at this place the padstack's vertices have coordinates of at most 2 ^ 29 in absolute value
 abbrev pub IsStackNear : Point → Stack → Type 0

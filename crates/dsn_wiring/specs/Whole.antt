@@ -6,6 +6,7 @@ use Rattle.dsn_tree.specs.Heads.{is_headed}
 use Rattle.pcb_model.specs.declared.item.Metal.{Metal}
 use Rattle.dsn_shapes.specs.declared.known.ListKind.TheVariants as list
 use Rattle.dsn_shapes.specs.declared.refusal.Refusal.{Refusal}
+use Rattle.dsn_shapes.specs.declared.refusal.What.TheVariants.{Items}
 use Rattle.dsn_shapes.specs.declared.parts.Layer.{Layer}
 use Rattle.dsn_shapes.specs.declared.parts.Stack.{Stack}
 use Rattle.dsn_shapes.specs.declared.parts.Structure.{Structure}
@@ -14,12 +15,13 @@ use Rattle.dsn_shapes.specs.declared.parts.Placing.{Placing}
 use Rattle.dsn_shapes.specs.declared.parts.Network.{Network}
 use Rattle.dsn_shapes.specs.declared.parts.ReadWire.{ReadWire}
 use Rattle.dsn_shapes.specs.declared.parts.Wiring.{Wiring}
+use Rattle.dsn_shapes.specs.Limits.{too_many}
 use Rattle.dsn_shapes.specs.Lists.{at_of, lists, capped, notes_in, left_out_in}
 use Rattle.dsn_wiring.specs.Nets.{net_names, net_of, net_refusals, is_fixed}
 use Rattle.dsn_wiring.specs.Wires.{wire_metal, wire_refusals}
 use Rattle.dsn_shapes.specs.Names.{stack_names}
 use Rattle.dsn_wiring.specs.Vias.{via_metal, via_refusals}
-use Rattle.dsn_wiring.specs.Counts.{items_before, too_many}
+use Rattle.dsn_wiring.specs.Counts.{items_before}
 
 abbrev pub wirings : Tree → List Tree
 wirings pcb = lists (codes "wiring" ∷ []) (pcb ∷ [])
@@ -53,7 +55,7 @@ lists_passed sections ts = notes_in list.Wiring sections + notes_in list.Wiring 
 -- all refusals of the wiring
 abbrev pub wiring_refusals : ℕ → Structure → Library → Placing → Network → Tree → List Refusal
 wiring_refusals nm st lib placing net pcb = lists_left_out (wirings pcb) (wire_lists pcb)
-    ++ (too_many (items_before st lib placing) (wire_lists pcb)
+    ++ (too_many Items (items_before st lib placing) (wire_lists pcb)
     ++ flat_map (refusals_of nm st.layers lib.stacks (stack_names lib.stacks) (net_names net.nets)) (wire_lists pcb))
 
 -- its value

@@ -18,7 +18,7 @@ use Rattle.dsn_shapes.specs.Lists.{at_of, lists, place_of}
 use Rattle.dsn_shapes.specs.Shapes.{shape_of, shape_refusals}
 use Rattle.dsn_wiring.specs.Layers.{layers_below}
 use Rattle.dsn_shapes.specs.declared.table.TheConstants.{BAD_FORM, LEFT_OUT}
-use Rattle.dsn_shapes.specs.declared.limits.TheConstants.{MOST_LAYERS}
+use Rattle.pcb_model.specs.declared.limits.TheConstants.{MOST_LAYERS}
 
 -- ---- lists of copper in a wire
 abbrev pub paths_in : Tree → List Tree

@@ -1,14 +1,14 @@
 //! How many items stand before the wiring: boundaries, keepouts, and the pins and keepouts of placed components.
-//! Together with the wires and vias there may be 1,048,576.
+//! Together with the wires and vias there may be `MOST_ITEMS`.
 
-ghost use Rattle.std.specs.Prelude.{◌≡◌, ◌∷◌, sum_by};
+ghost use Rattle.std.specs.Prelude.{◌≡◌, sum_by};
 ghost use Rattle.dsn_shapes.specs.Lists.{capped};
+ghost use Rattle.dsn_shapes.specs.declared.refusal.What.TheVariants.{Items};
+ghost use Rattle.dsn_shapes.specs.Limits.{too_many};
 ghost use Rattle.dsn_shapes.specs.Refusals.{noted};
-ghost use Rattle.dsn_wiring.specs.Counts.{image_items, items_before, place_items, too_many};
+ghost use Rattle.dsn_wiring.specs.Counts.{image_items, items_before, place_items};
 
-use dsn_shapes::limits::MOST_ITEMS;
-use dsn_shapes::table::PAST_LIMIT;
-use dsn_shapes::{Image, Library, Place, Placing, Refusal, Structure, Trees, What, at_of, note};
+use dsn_shapes::{Image, Library, Place, Placing, Refusal, Structure, Trees, What, refuse_past};
 use geo_kernel::List;
 
 fn image_items(image: &Image) -> u64
@@ -49,24 +49,6 @@ fn items_before(st: &Structure, lib: &Library, placing: &Placing) -> u64
     areas.saturating_add(placed)
 }
 
-// Refuses the first wire or via past the limit, where `before` items stand before them.
-#[tactic(auto, unfolding(crate::specs::Counts::too_many))]
-fn refuse_behind(first: &mut Option<Refusal>, before: u64, wires: &Trees)
-    ensures { first.new ≡ noted first.old (too_many before wires.now) }
-{
-    if let Some(tree) = wires.get(MOST_ITEMS.saturating_sub(before) as usize) {
-        note(
-            first,
-            Refusal {
-                number: PAST_LIMIT,
-                at: at_of(tree),
-                what: What::Items,
-                limit: MOST_ITEMS,
-            },
-        );
-    }
-}
-
 /// Refuses the first wire or via past the limit of items.
 pub(crate) fn refuse_many(
     first: &mut Option<Refusal>,
@@ -75,7 +57,7 @@ pub(crate) fn refuse_many(
     placing: &Placing,
     wires: &Trees,
 )
-    ensures { first.new ≡ noted first.old (too_many (items_before st.now lib.now placing.now) wires.now) }
+    ensures { first.new ≡ noted first.old (too_many Items (items_before st.now lib.now placing.now) wires.now) }
 {
-    refuse_behind(first, items_before(st, lib, placing), wires);
+    refuse_past(first, What::Items, items_before(st, lib, placing), wires);
 }

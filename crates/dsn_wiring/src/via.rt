@@ -18,6 +18,7 @@ use dsn_shapes::{
 };
 use dsn_tree::Tree;
 use dsn_units::Scale;
+use geo_kernel::limits::FURTHEST;
 use geo_kernel::{List, Point, Spine};
 use pcb_model::Metal;
 use std::alloc::{AllocError, Global};
@@ -78,9 +79,6 @@ fn via_place(first: &mut Option<Refusal>, via: &Tree, s: Scale) -> Option<Point>
     let y = coord_of(first, via, 3, s);
     point_by(x, y)
 }
-
-// The greatest size of a coordinate, in nm.
-const FURTHEST: u64 = 0x2000_0000;
 
 fn is_far(a: i64, by: i64) -> bool
     ensures { result ≡ is_far a by }

@@ -9,7 +9,6 @@ ghost use Rattle.dsn_wiring.specs.Wires.{chain_of, further_forms, no_form, no_wi
 ghost use Rattle.dsn_wiring.specs.Wires.{paths_in, refused_form, wire_metal, wire_refusals};
 
 use crate::layers::layers_below;
-use dsn_shapes::limits::MOST_LAYERS;
 use dsn_shapes::table::{BAD_FORM, LEFT_OUT};
 use dsn_shapes::{
     Layer, LayerShape, Refusal, Trees, at_of, form_heads, note, note_shape, place_of, refused,
@@ -18,6 +17,7 @@ use dsn_tree::Tree;
 use dsn_units::Scale;
 use geo_kernel::{List, Point, Spine};
 use pcb_model::Metal;
+use pcb_model::limits::MOST_LAYERS;
 use std::alloc::{AllocError, Global};
 
 // The vertices of a chain; an area has none.

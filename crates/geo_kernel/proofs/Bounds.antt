@@ -1,10 +1,15 @@
 -- What the code's sums and products of signed numbers give, within their bounds.
 use Rattle.std.proofs.Common.{◌≡◌, ℕ, ℤ, ◌+ℤ◌, ◌-ℤ◌, ◌*ℤ◌, ◌*◌, ◌^◌, ◌≤◌, ◌<◌, unsigned_abs, pos, ◌≤ℤ◌, IsTrue, Bool}
-use Rattle.std.proofs.Common.{◌⊎◌, ◌↔◌, w64, to_z, of_z, lit<, sym, ap, ap₂, ◌∙◌, arith, mul-le-mul}
+use Rattle.std.proofs.Common.{◌⊎◌, ◌↔◌, w64, to_z, of_z, lit<, sym, refl, ap, ap₂, ◌∙◌, arith, mul-le-mul}
+use Rattle.std.proofs.Common.{◌<ℤ◌, true, false, cond, ◌&&◌, subst, le_trans, lit≤}
 use Rattle.std.proofs.lemmas.Int.{ints, to_z-of_z, fits_signed_mul, fits_signed_from_abs, unsigned_abs-mul}
-use lib.Signed.{le_z}
+use lib.Signed.{le_z, lt_z}
 use borrow.Author.Differences.{true_is_le}
 use mir.Val.{SFits, Fits}
+use Rattle.geo_kernel.specs.declared.point.Point.{Point}
+use Rattle.geo_kernel.specs.Plane.{IsWithin}
+use Rattle.geo_kernel.specs.Moved.{moved}
+use Rattle.geo_kernel.specs.Spine.{is_right}
 use Rattle.geo_kernel.specs.Boxes.{IsGap}
 use mir.Syntax.{w128}
 use Rattle.geo_kernel.specs.Nearest.{dot, cross}
@@ -106,6 +111,67 @@ pub area_value : (z n : ℤ) → unsigned_abs n ≤ 2 ^ 122 → unsigned_abs z �
     → seen_wide n ≡ z *ℤ z
 area_value z n h k e = unseen_wide n (omega arith) ∙ e ∙ ap₂ (λ x y. x *ℤ y) (middle z k) (middle z k)
 
+-- the sum of two numbers, as the code computes it
+pub added_value : (a b : ℤ) → unsigned_abs a ≤ 2 ^ 60 → unsigned_abs b ≤ 2 ^ 60 → seen (seen a +ℤ seen b) ≡ a +ℤ b
+added_value a b h k =
+    ap₂ (λ y z. seen (y +ℤ z)) (unseen a (omega arith)) (unseen b (omega arith))
+    ∙ unseen (a +ℤ b) (omega (arith, ints, h, k))
+
+abbrev pub point : ℤ → ℤ → Point
+point x y = record { x = x; y = y }
+
+-- a moved point, as the code computes it
+pub moved_value : (p by : Point) → IsWithin (2 ^ 36) p → IsWithin (2 ^ 29) by
+    → point (seen (seen p.x +ℤ seen by.x)) (seen (seen p.y +ℤ seen by.y)) ≡ moved by p
+moved_value p by h k =
+    ap₂ point (added_value p.x by.x (le_trans h.0 (lit≤ tt)) (le_trans k.0 (lit≤ tt)))
+    (added_value p.y by.y (le_trans h.1 (lit≤ tt)) (le_trans k.1 (lit≤ tt)))
+
+-- the product of two numbers of 64 bits fits 128
+pub wide_fits : (a b : ℤ) → unsigned_abs a ≤ 2 ^ 61 → unsigned_abs b ≤ 2 ^ 61 → SFits w128 (a *ℤ b)
+wide_fits a b h k = fits_signed_mul w128 a b (2 ^ 61) (2 ^ 61) h k (lit< tt)
+
+-- that product, as the code computes it
+pub wide_value : (a b : ℤ) → unsigned_abs a ≤ 2 ^ 61 → unsigned_abs b ≤ 2 ^ 61
+    → seen_wide (seen_wide (seen a) *ℤ seen_wide (seen b)) ≡ a *ℤ b
+wide_value a b h k =
+    ap seen_wide (ap₂ (λ x y. x *ℤ y) (widened a a h refl) (widened b b k refl))
+    ∙ to_z-of_z w128 (a *ℤ b) (wide_fits a b h k)
+
+-- and its bound
+pub wide_within : (a b r : ℤ) → unsigned_abs a ≤ 2 ^ 61 → unsigned_abs b ≤ 2 ^ 61 → r ≡ a *ℤ b
+    → unsigned_abs r ≤ 2 ^ 122
+wide_within a b r h k e = let f = ap unsigned_abs e in let g = unsigned_abs-mul a b in let m = mul-le-mul h k in
+    omega arith
+
+-- what the code has of a number within its bounds is within them
+pub middle_within : (z : ℤ) → unsigned_abs z ≤ 2 ^ 61 → unsigned_abs (seen z) ≤ 2 ^ 61
+middle_within z h = subst (λ y. unsigned_abs y ≤ 2 ^ 61) (sym (middle z h)) h
+
+-- the same for a number of 128 bits
+pub wide_kept : (z : ℤ) → unsigned_abs z ≤ 2 ^ 122 → unsigned_abs (seen_wide z) ≤ 2 ^ 122
+wide_kept z h = subst (λ y. unsigned_abs y ≤ 2 ^ 122) (sym (unseen_wide z (omega arith))) h
+
+-- and for one of 64 bits that is widened
+pub widened_within : (z : ℤ) → unsigned_abs z ≤ 2 ^ 61 → unsigned_abs (seen_wide (seen z)) ≤ 2 ^ 122
+widened_within z h =
+    subst (λ y. unsigned_abs y ≤ 2 ^ 122) (sym (widened z z h refl)) (le_trans h (lit≤ tt))
+
+-- a number of 64 bits fits 128 where the code widens it
+pub cast_fits : (z : ℤ) → unsigned_abs z ≤ 2 ^ 61 → SFits w128 (seen z)
+cast_fits z h = subst (SFits w128) (sym (middle z h)) (fits_signed_from_abs w128 z (omega arith))
+
+-- a comparison of two such numbers, where it says yes and where it says no
+pub at_most : (y z : ℤ) → unsigned_abs y ≤ 2 ^ 61 → unsigned_abs z ≤ 2 ^ 61 → le_z (seen y) (seen z) ≡ true → y ≤ℤ z
+at_most y z h k e = (test y z).0 (sym (ap₂ le_z (middle y h) (middle z k)) ∙ e)
+
+-- the case where it says no
+pub above : (y z : ℤ) → unsigned_abs y ≤ 2 ^ 61 → unsigned_abs z ≤ 2 ^ 61 → le_z (seen y) (seen z) ≡ false → z <ℤ y
+above y z h k e = beyond y z (sym (ap₂ le_z (middle y h) (middle z k)) ∙ e)
+  where
+    beyond : (y z : ℤ) → le_z y z ≡ false → z <ℤ y
+    beyond y z e = omega (arith, ints)
+
 -- twice the way from hi up to lo, at 128 bits
 pub beyond_value : (hi lo : ℤ) (k : ℕ) → SFits w64 hi → SFits w64 lo → Fits w64 k →
     IsTrue (le_z (to_z w128 k) (seen_wide (pos 2 *ℤ seen_wide (seen_wide (seen lo) -ℤ seen_wide (seen hi)))))
@@ -121,3 +187,48 @@ pub seen_gaps : (a0 a1 b0 b1 : ℤ) (k : ℕ) (r : Bool) → seen a0 ≡ a0 → 
     → IsTrue r ↔ (IsGap (seen a1) (seen b0) k ⊎ IsGap (seen b1) (seen a0) k)
     → IsTrue r ↔ (IsGap a1 b0 k ⊎ IsGap b1 a0 k)
 seen_gaps a0 a1 b0 b1 k r e f g i h = rw (e, f, g, i) at h
+
+-- a coordinate as the code has it
+near : (z : ℤ) → unsigned_abs z ≤ 2 ^ 29 → seen z ≡ z
+near z h = unseen z (omega arith)
+
+-- the four ways through the test whether a segment is right of a point
+module _ (p a b u v : Point) (turn : ℤ) (hp : IsWithin (2 ^ 29) p) (ha : IsWithin (2 ^ 29) a)
+    (hb : IsWithin (2 ^ 29) b) (ht : unsigned_abs turn ≤ 2 ^ 61) (ux : u.x ≡ b.x -ℤ a.x) (uy : u.y ≡ b.y -ℤ a.y)
+    (vx : v.x ≡ p.x -ℤ a.x) (vy : v.y ≡ p.y -ℤ a.y) (e : turn ≡ cross u.x u.y v.x v.y) where
+  abbrev turned : ℤ
+  turned = (b.x -ℤ a.x) *ℤ (p.y -ℤ a.y) -ℤ (b.y -ℤ a.y) *ℤ (p.x -ℤ a.x)
+
+  turning : seen turn ≡ turned
+  turning = middle turn ht ∙ e ∙ ap₂ (λ s t. s -ℤ t) (ap₂ (λ s t. s *ℤ t) ux vy) (ap₂ (λ s t. s *ℤ t) uy vx)
+
+  from_below : (t : Bool) → le_z (seen a.y) (seen p.y) ≡ t → t ≡ le_z a.y p.y
+  from_below t h = sym h ∙ ap₂ le_z (near a.y ha.1) (near p.y hp.1)
+
+  to_above : (t : Bool) → lt_z (seen p.y) (seen b.y) ≡ t → t ≡ lt_z p.y b.y
+  to_above t h = sym h ∙ ap₂ lt_z (near p.y hp.1) (near b.y hb.1)
+
+  to_below : (t : Bool) → le_z (seen b.y) (seen p.y) ≡ t → t ≡ le_z b.y p.y
+  to_below t h = sym h ∙ ap₂ le_z (near b.y hb.1) (near p.y hp.1)
+
+  abbrev tested : Bool → Bool → Bool → Bool
+  tested low high under = cond low (high && lt_z (pos 0) turned) (under && lt_z turned (pos 0))
+
+  pub right_rising : le_z (seen a.y) (seen p.y) ≡ true → lt_z (seen p.y) (seen b.y) ≡ true
+      → lt_z (pos 0) (seen turn) ≡ is_right p (record { from = a; to = b })
+  right_rising h k =
+      ap (lt_z (pos 0)) turning ∙ ap₂ (λ s t. tested s t (le_z b.y p.y)) (from_below true h) (to_above true k)
+
+  pub below_both : le_z (seen a.y) (seen p.y) ≡ true → lt_z (seen p.y) (seen b.y) ≡ false
+      → false ≡ is_right p (record { from = a; to = b })
+  below_both h k = ap₂ (λ s t. tested s t (le_z b.y p.y)) (from_below true h) (to_above false k)
+
+  pub right_falling : le_z (seen a.y) (seen p.y) ≡ false → le_z (seen b.y) (seen p.y) ≡ true
+      → lt_z (seen turn) (pos 0) ≡ is_right p (record { from = a; to = b })
+  right_falling h k =
+      ap (λ z. lt_z z (pos 0)) turning
+      ∙ ap₂ (λ s t. tested s (lt_z p.y b.y) t) (from_below false h) (to_below true k)
+
+  pub above_both : le_z (seen a.y) (seen p.y) ≡ false → le_z (seen b.y) (seen p.y) ≡ false
+      → false ≡ is_right p (record { from = a; to = b })
+  above_both h k = ap₂ (λ s t. tested s (lt_z p.y b.y) t) (from_below false h) (to_below false k)

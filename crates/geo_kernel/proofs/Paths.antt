@@ -2,7 +2,7 @@
 -- left.
 use Rattle.std.proofs.Common.{◌≡◌, ℕ, suc, zero, ◌+◌, ◌%◌, ◌-◌, ◌≢◌, ◌<◌, ◌≤◌, List, [], ◌∷◌, ◌++◌, take, drop, get_or}
 use Rattle.std.proofs.Common.{flat_map, length, drop-cons, add-one, All, Any, ◌↔◌, ◌⊎◌, inl, inr, ⊎_elim, count_by}
-use Rattle.std.proofs.Common.{Bool, true, false, not, cond, IsTrue, refl, sym, ap, ◌∙◌, subst, arith}
+use Rattle.std.proofs.Common.{Bool, true, false, true≢false, not, cond, IsTrue, refl, sym, ap, ◌∙◌, subst, arith}
 use Rattle.std.proofs.lemmas.List.{drop_all, take_all}
 use Rattle.std.proofs.lemmas.List.Elements.{All-nil, All-cons, All-head, All-tail, All-append}
 use Rattle.std.proofs.lemmas.List.Sums.{sum_by-cons, sum_by-append}
@@ -78,6 +78,11 @@ module _ (P : Segment → Type 0) (start last d : Point) (points : List Point) (
   pub any_stops : LeftOver (Any P) start last points i → i < length points → P (link_at last d points i)
       → Any P (links start points)
   any_stops left h here = left.whole (rw (links-drop last d points i h) (Any-here P _ _ here))
+
+  -- the loop came to the end of the path, so no link is as P says
+  pub any_none : LeftOver (Any P) start last points i → length points ≤ i → IsTrue false ↔ Any P (links start points)
+  any_none left h =
+      (λ t. absurd (true≢false (sym t)), λ a. absurd (Any-nil P ((left_none (Any P) start last points i h left).1 a)))
 
 -- ---- parity
 abbrev pub bit : Bool → ℕ
@@ -299,6 +304,10 @@ module _ {X : Type 0} (P : Segment → Type 0) (f : X → List Segment) (ls : Li
 
   pub some_none : (i : ℕ) → length ls ≤ i → SomeLeft P f ls i → ¬ (Any P (flat_map f ls))
   some_none i h left all = Any-nil P (rw (drop_all i ls h) at left.part all)
+
+  -- the loop came to the end of the list, so no segment is as P says
+  pub none_told : (i : ℕ) → SomeLeft P f ls i → length ls ≤ i → IsTrue false ↔ Any P (flat_map f ls)
+  none_told i left h = (λ t. absurd (true≢false (sym t)), λ a. absurd (some_none i h left a))
 
 -- what holds of each loop holds of that at a place
 pub at_place : (Q : List Point → Type 0) (loops : List (List Point)) (i : ℕ) (d ps : List Point) → All Q loops

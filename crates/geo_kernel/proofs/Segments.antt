@@ -1,6 +1,7 @@
 -- The distances of segments, by the vectors between their ends.
 use Rattle.std.proofs.Common.{◌≡◌, ℕ, [], ◌∷◌, ℤ, pos, ◌+◌, ◌*◌, ◌-◌, ◌≤◌, ◌<◌, ◌+ℤ◌, ◌-ℤ◌, ◌*ℤ◌, ◌≤ℤ◌, ◌<ℤ◌, ◌⊎◌, ◌↔◌}
-use Rattle.std.proofs.Common.{inl, inr, ⊎_elim, ap, ap₂, ◌∙◌, arith, mul-pos, mul-le-mul, le_refl}
+use Rattle.std.proofs.Common.{inl, inr, ⊎_elim, ap, ap₂, sym, ◌∙◌, arith, mul-pos, mul-le-mul, le_refl}
+use Rattle.std.proofs.Common.{Bool, true, false, not, IsTrue, true≢false, refl}
 use Rattle.std.proofs.lemmas.Int.{ints, by_lt_z}
 use Rattle.geo_kernel.specs.declared.point.Point.{Point}
 use Rattle.geo_kernel.specs.Plane.{apart, distance_at, SegmentsKeep, SegmentsTouch}
@@ -384,3 +385,16 @@ keep_no_touch a b c d k j h l t =
       where
         up : {j k : ℕ} → j < k → j + 1 ≤ k
         up h = omega arith
+
+-- the first of two tests said yes
+pub first_says : {A B : Type 0} (r : Bool) → IsTrue r ↔ A → IsTrue r → IsTrue r ↔ (A ⊎ B)
+first_says r f t = (λ u. inl (f.0 u), λ x. t)
+
+-- the first of two tests said no, so the second tells
+pub second_says : {A B : Type 0} (r s : Bool) → IsTrue r ↔ A → r ≡ false → IsTrue s ↔ B → IsTrue s ↔ (A ⊎ B)
+second_says r s f e g = (λ u. inr (g.0 u), λ x. ⊎_elim (λ a. absurd (true≢false (sym (f.1 a) ∙ e))) (λ b. g.1 b) x)
+
+-- the test of what is not so
+pub denied : {A : Type 0} (r : Bool) → IsTrue r ↔ A → IsTrue (not r) ↔ ¬ A
+denied true f = (λ t. absurd (true≢false (sym t)), λ n. absurd (n (f.0 refl)))
+denied false f = (λ t a. true≢false (sym (f.1 a)), λ n. refl)

@@ -6,6 +6,7 @@ mod close;
 mod interior;
 mod keep;
 mod laws;
+pub mod limits;
 mod list;
 mod path;
 mod point;

@@ -23,6 +23,7 @@ use Rattle.board_offers.specs.Items.{added, gone, without, replaced}
 use Rattle.pcb_board.specs.Boards.{BoardOf, given}
 use Rattle.board_offers.specs.Offers.{IsWellFormed}
 use Rattle.pcb_board.specs.Answers.{known, IsClearOn}
+use Rattle.board_offers.specs.declared.offer.TheConstants.{CLOSER}
 
 -- ---- an offer that may be made
 -- it is well formed, and there is no trouble at any id
@@ -146,7 +147,7 @@ pub record TakesNothing (o : Offer) : Type 0 where
 
 abbrev pub Chooses : Mesh → BoardOf → Offer → Option ℕ → Type 0
 Chooses m b o (Some penalty) = MakesWay m b o
-Chooses m b o None = o.worker < 16 → TakesNothing o
+Chooses m b o None = o.worker < CLOSER → TakesNothing o
 
 -- ---- least offers
 -- a least walk for the offer, whatever it takes out
@@ -165,6 +166,6 @@ pub record IsLeastOffer (m : Mesh) (via_cost : ℕ) (b : BoardOf) (o : Offer) : 
   pub place : ℕ
   pub island : Island
   pub island_is : slice_get found place ≡ Some island
-  pub first : o.worker < 16 → place ≡ 0
+  pub first : o.worker < CLOSER → place ≡ 0
   pub joins : JoinsLeast m via_cost b o island (remove found place)
   pub chooses : Chooses m b o o.penalty

@@ -18,6 +18,7 @@ ghost use Rattle.pcb_model.specs.declared.item.Item.{Item as OneItem};
 ghost use Rattle.pcb_model.specs.declared.item.Metal.{Metal as OneMetal};
 ghost use Rattle.pcb_model.specs.declared.design.Design.{Design as TheDesign};
 ghost use Rattle.board_offers.specs.declared.offer.Shoved.{Shoved as OneShove};
+ghost use Rattle.board_offers.specs.declared.offer.TheConstants.{CLOSER};
 
 use path_wire::own_copper_agrees;
 use pcb_islands::joining_falls;
@@ -26,7 +27,7 @@ use pcb_islands::joining_falls;
 /// its way or shoves it.
 pub fn least_offers_may_be_made()
     ensures { (m : Mesh) (via_cost : ℕ) (b : BoardOf) (o : OneOffer) → IsBoard b → Ascends b.items
-        → IsPlainCopper b.design → FitsDesign b.design m → o.base ≤ length b.history → o.worker ≤ 16
+        → IsPlainCopper b.design → FitsDesign b.design m → o.base ≤ length b.history → o.worker ≤ CLOSER
         → o.net < length b.design.nets → IsLeastOffer m via_cost b o → (o.penalty ≡ None → TakesNothing o)
         → MayBeMade b o }
 {
@@ -38,8 +39,8 @@ pub fn least_offers_may_be_made()
 /// shoves stand together.
 pub fn shoves_may_be_made()
     ensures { (m : Mesh) (via_cost : ℕ) (b : BoardOf) (o : OneOffer) (penalty : ℕ) (ids : Seq ℕ) → IsBoard b
-        → Ascends b.items → IsPlainCopper b.design → FitsDesign b.design m → o.base ≤ length b.history → o.worker ≤ 16
-        → o.net < length b.design.nets → IsLaidLeast m via_cost b o → o.penalty ≡ Some penalty
+        → Ascends b.items → IsPlainCopper b.design → FitsDesign b.design m → o.base ≤ length b.history
+        → o.worker ≤ CLOSER → o.net < length b.design.nets → IsLaidLeast m via_cost b o → o.penalty ≡ Some penalty
         → AreIdsInWay b.design b.items (added b.design (given b) o) ids
         → AreShovesOf b.design m b.items (added b.design (given b) o) ids o.shoves → o.rip ≡ []
         → StandTogether b.design b.items o.shoves → MayBeMade b o }

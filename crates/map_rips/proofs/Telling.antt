@@ -13,7 +13,7 @@ use Rattle.pcb_model.specs.Sound.{IsSound, Serves}
 use Rattle.route_lattice.specs.Mesh.{Mesh, node_count}
 use Rattle.route_lattice.specs.Ways.{way_count}
 use Rattle.route_lattice.specs.Legal.{probe_at, IsOpen}
-use Rattle.ripup.specs.Rips.{IsInWay, IsCharged, most_charged}
+use Rattle.ripup.specs.Rips.{IsInWay, IsCharged}
 use Rattle.ripup.proofs.Fixed.{fixed_held}
 use Rattle.ripup.proofs.Counting.{none_counted, to_limit}
 use Rattle.move_maps.specs.declared.window.Window.{Window}
@@ -27,6 +27,7 @@ use Rattle.move_maps.proofs.Alike.{clear_agrees, none_missed, bit_opens, same_pr
 use Rattle.move_maps.proofs.Foreign.{agreed_clear, counted_shut}
 use Rattle.map_rips.specs.RipMaps.{AreRipMaps}
 use Rattle.map_rips.proofs.Parting.{OnOthers, missed_apart, counted_by, none_of_part}
+use Rattle.ripup.specs.declared.moves.TheConstants.{MOST_CHARGED}
 
 -- a probe lies inside or outside
 one_outside : (d : Design) (p : Probe) (a b : ℕ) → IsOutside d p a → IsOutside d p b → a ≡ b
@@ -77,7 +78,7 @@ module _ (d : Design) (items : List Item) (g net : ℕ) (p : Probe) (serves : Se
       let r = routed_counted in
       let sum = r.1 in
       let past : All IsPast items = none_missed IsPast items r.0 (omega (arith, e, sum)) r.2 in
-      none_counted (IsInWay d net p) most_charged items
+      none_counted (IsInWay d net p) MOST_CHARGED items
       (λ b there way. way.clashes (clear_agrees d g net p b alike
       (All-contains IsPast items b past there way.routed)))
 
@@ -88,7 +89,7 @@ module _ (d : Design) (items : List Item) (g net : ℕ) (p : Probe) (serves : Se
       let r = routed_counted in
       let sum = r.1 in
       let same : r.0 ≡ t - f = omega (arith, sum) in
-      to_limit (IsInWay d net p) most_charged items (t - f)
+      to_limit (IsInWay d net p) MOST_CHARGED items (t - f)
       (subst (Counts (IsInWay d net p) items) same
       (counted_by IsPast (IsInWay d net p) items r.0
       (λ b there. (

@@ -13,7 +13,7 @@ ghost use Rattle.map_rips.specs.RipMaps.{AreRipMaps};
 
 use move_maps::{GroupMap, MoveMaps, NetMoves};
 use pcb_model::{Copper, Design};
-use ripup::RipMoves;
+use ripup::{MOST_CHARGED, RipMoves};
 use route_lattice::{Lattice, Move, Moves};
 use std::alloc::{AllocError, Global};
 
@@ -26,11 +26,12 @@ pub struct MapRips<'a, C: Copper> {
     pub penalty: u64,
 }
 
-/// The lesser of a number and 16.
-fn at_most_16(n: u8) -> u64
-    ensures { result ≡ min n 16 }
+/// Of so many items those that a move is charged for.
+fn at_most_charged(n: u8) -> u64
+    ensures { result ≡ min n MOST_CHARGED }
 {
-    if n < 16 { n as u64 } else { 16 }
+    let n = n as u64;
+    if n < MOST_CHARGED { n } else { MOST_CHARGED }
 }
 
 impl<C: Copper> MapRips<'_, C> {
@@ -86,7 +87,7 @@ impl<C: Copper> MapRips<'_, C> {
         self.moves.own.is_off(self.moves.by_map.legal.lat, node)
     }
 
-    /// For how many routed items the move is charged, at most 16, or None where the maps don't tell.
+    /// For how many routed items the move is charged, or None where the maps don't tell.
     fn charged(&self, node: u32, i: u32) -> Option<u64>
         requires can_rip { let t = self.now.moves.by_map.legal in
             CanRip t.d.now t.lat.now t.net t.via_cost self.now.penalty }
@@ -97,7 +98,7 @@ impl<C: Copper> MapRips<'_, C> {
         requires index { let t = self.now.moves.by_map.legal in i < way_count t.d.now t.lat.now t.net }
         ensures counted { let t = self.now.moves.by_map.legal in IfSome result
             (IsCharged t.d.now (C.items t.c.now) t.net (probe_at t.d.now t.lat.now t.net node i)) }
-        ensures few { IfSome result (λ n. n ≤ 16) }
+        ensures few { IfSome result (λ n. n ≤ MOST_CHARGED) }
     {
         let all = self.tally(node, i);
         let fixed = self.fixed_tally(node, i);
@@ -110,7 +111,7 @@ impl<C: Copper> MapRips<'_, C> {
         if !self.moves.own.is_off(self.moves.by_map.legal.lat, node) {
             return None;
         }
-        Some(at_most_16(all.saturating_sub(fixed)))
+        Some(at_most_charged(all.saturating_sub(fixed)))
     }
 
     /// Whether nothing fixed shuts the move, by the copper.

@@ -7,7 +7,7 @@ use Rattle.pcb_model.specs.declared.item.Item.{Item}
 use Rattle.pcb_model.specs.declared.design.Design.{Design}
 use Rattle.route_lattice.specs.Mesh.{Mesh, node_count}
 use Rattle.route_lattice.specs.Ways.{way_count}
-use Rattle.route_lattice.specs.Legal.{probe_at, IsOpen}
+use Rattle.route_lattice.specs.Legal.{probe_at, CanMove, IsOpen}
 use Rattle.move_maps.specs.declared.map.GroupMap.{GroupMap}
 use Rattle.move_maps.specs.Groups.{AreAlike}
 use Rattle.move_maps.specs.Maps.{IsTally, IsMapOf, place_at}
@@ -37,3 +37,11 @@ module _ (d : Design) (m : Mesh) (items : List Item) (g : GroupMap) (net v i n :
   opens p q e z = bit_opens d m items g.first net v i k
       (subst (IsTally d g.first items (probe_at d m g.first v i)) (sym e ∙ z)
       (h.tallies v i p (subst (λ n. i < n) (sym (same_way_count d m g.first net k)) q)))
+
+-- moves whose parts are those of moves that may be used may be used too
+pub can_move_at : (d e : Design) (m n : Mesh) (net g cost price : ℕ) → e ≡ d → n ≡ m → g ≡ net → price ≡ cost
+    → CanMove d m net cost → CanMove e n g price
+can_move_at d e m n net g cost price ed em en ep h =
+    subst (λ x. CanMove e n g x) (sym ep) (subst (λ x. CanMove e n x cost) (sym en)
+    (subst (λ (x : Mesh). CanMove e x net cost) (sym em)
+    (subst (λ (x : Design). CanMove x m net cost) (sym ed) h)))

@@ -10,12 +10,13 @@ ghost use Rattle.move_maps.specs.Starts.{IsCentred, StaysNear};
 
 use crate::clear::padstack_pieces;
 use crate::cover::padstack_extent;
+use geo_kernel::limits::FURTHEST;
 use geo_kernel::{Point, first_point};
 use pcb_model::{Design, Piece};
 use route_lattice::Lattice;
 
 // The greatest absolute value of a coordinate.
-const EDGE: i64 = 1 << 29;
+const EDGE: i64 = FURTHEST as i64;
 
 fn begins_at_origin(q: &Piece) -> bool
     requires { IsFit q.now }

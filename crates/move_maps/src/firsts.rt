@@ -14,11 +14,11 @@ use pcb_model::{Copper, Design};
 use route_lattice::{Lattice, LegalMoves};
 use std::alloc::{AllocError, Global};
 
-/// How many groups have maps at most.
-const MOST_GROUPS: usize = 16;
+/// Groups that have maps.
+pub const MOST_GROUPS: usize = 16;
 
-/// How many moves the maps have together at most.
-const MOST_MOVES: u64 = 1 << 28;
+/// Moves that the maps have together.
+pub const MOST_MOVES: u64 = 1 << 28;
 
 // Whether the net is like one of the nets.
 fn is_like_some(d: &Design, firsts: &[u32], net: u32) -> bool
@@ -57,9 +57,9 @@ fn moves_of<C: Copper>(lat: &Lattice, d: &Design, c: &C, g: u32) -> u64
 
 // Whether there can't be a group more than these, where the maps would then have so many moves.
 fn is_full(groups: usize, moves: u64) -> bool
-    ensures full { result ≡ true → (16 ≤ groups) ⊎ (2 ^ 28 < moves) }
-    ensures groups { result ≡ false → groups < 16 }
-    ensures moves { result ≡ false → moves ≤ 2 ^ 28 }
+    ensures full { result ≡ true → (MOST_GROUPS ≤ groups) ⊎ (MOST_MOVES < moves) }
+    ensures groups { result ≡ false → groups < MOST_GROUPS }
+    ensures moves { result ≡ false → moves ≤ MOST_MOVES }
 {
     if MOST_GROUPS <= groups {
         return true;

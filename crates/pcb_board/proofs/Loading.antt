@@ -1,7 +1,7 @@
 -- Loading a design's items, one by one.
 use Rattle.std.proofs.Common.{◌≡◌, ◌⊎◌, inl, inr, ℕ, ◌+◌, ◌<◌, ◌≤◌, ◌^◌, zero, suc, false}
 use Rattle.std.proofs.Common.{refl, sym, ◌∙◌, ap, subst, List, [], ◌∷◌, ◌++◌, length, get_or, arith}
-use Rattle.std.proofs.Common.{Result, Ok, Err, drop}
+use Rattle.std.proofs.Common.{Result, Ok, Err, drop, pos}
 use Rattle.std.proofs.Math.Seq.{drop-cons}
 use Rattle.std.specs.Prelude.{OnOk, All, Any, Contains, ℤ, unsigned_abs}
 use Rattle.std.proofs.lemmas.Int.{ints}
@@ -175,6 +175,19 @@ box_area loops r fit box = by box.left box.right box.bottom box.top
           };
         }
 
+-- a point is an area
+pub no_area : IsArea (record { x0 = pos 0; y0 = pos 0; x1 = pos 0; y1 = pos 0 })
+no_area = record {
+  x_rises = omega (arith, ints);
+  y_rises = omega (arith, ints);
+  within = record {
+    x0_within = omega arith;
+    y0_within = omega arith;
+    x1_within = omega arith;
+    y1_within = omega arith;
+  };
+}
+
 -- ---- what is loaded, one by one
 pub fixed_all : (d : Design) (l : Loaded) → IsSound d → l.tiles.items ≡ d.fixed → l.given.items ≡ d.fixed
     → l.dropped ≡ [] → IsArea l.tiles.area → HasClearancesWithin l.tiles.reach d → AreLoaded d d.free l
@@ -204,6 +217,43 @@ kept_more d l n w item (Ok _) sound wire kept is legal tiles given = record {
   reach = subst (λ (t : Spread). HasClearancesWithin t.reach d) (sym tiles) kept.reach;
 }
 kept_more d l n w item (Err e) sound wire kept is legal tiles given = tt
+
+-- it is the one that is loaded
+pub kept_one : {T E : Type 0} (d : Design) (l n : Loaded) (w : FreeWire) (item : Item) (r : Result T E) → IsKept d l
+    → item ≡ free_item d l.given.items w → IsLegal d (l.tiles.items ++ item ∷ [])
+    → OnOk r (n.given.items ≡ l.given.items ++ item ∷ []) → OnOk r (n.dropped ≡ l.dropped)
+    → OnOk r (LoadsOne d l w n)
+kept_one d l n w item (Ok _) kept is legal given dropped = inl (
+  subst (λ (a : Item). IsLegal d (l.given.items ++ a ∷ [])) is
+      (subst (λ (xs : List Item). IsLegal d (xs ++ item ∷ [])) kept.held legal),
+  given ∙ ap (λ (a : Item). l.given.items ++ a ∷ []) is,
+  dropped,
+)
+kept_one d l n w item (Err e) kept is legal given dropped = tt
+
+-- where a place is dropped, what was loaded stays
+pub drop_kept : {T E : Type 0} (d : Design) (l n : Loaded) (r : Result T E) → IsKept d l
+    → OnOk r (n.tiles ≡ l.tiles) → OnOk r (n.given.items ≡ l.given.items) → OnOk r (IsKept d n)
+drop_kept d l n (Ok _) kept tiles given = record {
+  held = ap (λ (t : Spread). t.items) tiles ∙ kept.held ∙ sym given;
+  loaded = subst (IsLoaded d) (sym given) kept.loaded;
+  area = subst (λ (t : Spread). IsArea t.area) (sym tiles) kept.area;
+  reach = subst (λ (t : Spread). HasClearancesWithin t.reach d) (sym tiles) kept.reach;
+}
+drop_kept d l n (Err e) kept tiles given = tt
+
+-- and its place is listed
+pub drop_one : {T E : Type 0} (d : Design) (l n : Loaded) (w : FreeWire) (item : Item) (r : Result T E) → IsKept d l
+    → item ≡ free_item d l.given.items w → ¬ (IsLegal d (l.tiles.items ++ item ∷ []))
+    → OnOk r (n.given.items ≡ l.given.items) → OnOk r (n.dropped ≡ l.dropped ++ w.at ∷ [])
+    → OnOk r (LoadsOne d l w n)
+drop_one d l n w item (Ok _) kept is refused given dropped = inr (
+  λ legal. refused (subst (λ (xs : List Item). IsLegal d (xs ++ item ∷ [])) (sym kept.held)
+      (subst (λ (a : Item). IsLegal d (l.given.items ++ a ∷ [])) (sym is) legal)),
+  given,
+  dropped,
+)
+drop_one d l n w item (Err e) kept is refused given dropped = tt
 
 pub rest_one : (free xs : List FreeWire) (i : ℕ) (w : FreeWire) → xs ≡ free → i < length xs → w ≡ get_or xs i w
     → drop i free ≡ w ∷ drop (i + 1) free

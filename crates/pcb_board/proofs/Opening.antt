@@ -1,9 +1,9 @@
 -- A board as it is started, kept parts included.
 use Rattle.std.proofs.Common.{◌≡◌, ℕ, ◌<◌, ◌≤◌, ◌^◌, zero, suc, Some, refl, sym, ◌∙◌, ap, subst, List, [], ◌∷◌}
-use Rattle.std.proofs.Common.{length, take, arith}
+use Rattle.std.proofs.Common.{get_or, length, take, arith, ◌+◌, ◌++◌}
 use Rattle.std.specs.Prelude.{All, slice_get, slice_index_or}
 use Rattle.std.proofs.lemmas.List.Elements.{All-cons}
-use Rattle.std.proofs.lemmas.List.{take_all}
+use Rattle.std.proofs.lemmas.List.{take_all, take_more}
 use Rattle.pcb_model.specs.declared.item.Item.{Item}
 use Rattle.pcb_model.specs.declared.design.Design.{Design}
 use Rattle.pcb_model.specs.Plain.{IsPlainCopper}
@@ -93,3 +93,38 @@ pub fixed_below : (d : Design) → IsSound d → (i : ℕ) (a : Item) → slice_
 fixed_below d s i a at = fronts (λ (b : Item). b.id < a.id) i d.fixed
     (λ j b less e. let first = (s.fixed j b e).numbered in let here = (s.fixed i a at).numbered in
     omega (arith, first, here, less))
+
+-- one more of them is copied
+pub fixed_more : (fixed xs : List Item) (i : ℕ) (a b : Item) → xs ≡ fixed → i < length xs → a ≡ get_or xs i a → b ≡ a
+    → take i fixed ++ b ∷ [] ≡ take (i + 1) fixed
+fixed_more fixed xs i a b same within is copy =
+    ap (λ (c : Item). take i fixed ++ c ∷ []) (copy ∙ is)
+    ∙ ap (λ (ys : List Item). take i ys ++ get_or xs i a ∷ []) (sym same)
+    ∙ sym (take_more xs i a within) ∙ ap (take (i + 1)) same
+
+-- ---- an equal board
+module _ (a n : Inside) (design_is : n.design ≡ a.design) (cap_is : n.cap ≡ a.cap) (history_is : n.history ≡ a.history)
+    (workers_are : n.workers ≡ a.workers) (given_is : n.given.items ≡ a.given.items)
+    (started_is : n.started ≡ a.started) (changed_is : n.changed.items ≡ a.changed.items)
+    (tiles_are : n.tiles ≡ a.tiles) where
+  pub copied_view : board_of n ≡ board_of a
+  copied_view =
+      ap (λ (x : Design). boarded x (take n.started n.given.items) n.cap n.history n.tiles.items) design_is
+      ∙ ap (λ (k : ℕ). boarded a.design (take k n.given.items) n.cap n.history n.tiles.items) started_is
+      ∙ ap (λ (xs : List Item). boarded a.design (take a.started xs) n.cap n.history n.tiles.items) given_is
+      ∙ ap (λ (k : ℕ). boarded a.design (take a.started a.given.items) k n.history n.tiles.items) cap_is
+      ∙ ap (λ (h : List Entry). boarded a.design (take a.started a.given.items) a.cap h n.tiles.items) history_is
+      ∙ ap (λ (t : Spread). boarded a.design (take a.started a.given.items) a.cap a.history t.items) tiles_are
+
+  pub copied_indexed : IsIndexed a → IsIndexed n
+  copied_indexed kept = record {
+    board = subst IsBoard (sym copied_view) kept.board;
+    indexed = subst (λ (b : BoardOf). AreIndexed b n.given.items n.changed.items) (sym copied_view)
+        (subst (λ (xs : List Item). AreIndexed (board_of a) xs n.changed.items) (sym given_is)
+        (subst (AreIndexed (board_of a) a.given.items) (sym changed_is) kept.indexed));
+    numbered = subst AreNumbered (sym copied_view) kept.numbered;
+    started = let s = kept.started in let e = ap length given_is in omega (arith, s, e, started_is);
+    workers_are = workers_are ∙ kept.workers_are ∙ sym (ap worker_entries history_is);
+    spread = subst (IsSnapKept n.tiles) (sym design_is)
+        (subst (λ (t : Spread). IsSnapKept t a.design) (sym tiles_are) kept.spread);
+  }

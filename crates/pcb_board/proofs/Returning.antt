@@ -22,6 +22,13 @@ use Rattle.pcb_board.proofs.Committing.{boarded}
 use Rattle.pcb_board.proofs.Backing.{back_board}
 use Rattle.pcb_board.proofs.Numbered.{back_numbered}
 use Rattle.pcb_board.proofs.Turns.{marked_is, turned_indexed}
+use Rattle.std.proofs.Common.{Result, Ok, Err}
+use Rattle.std.specs.Prelude.{OnErr}
+
+-- what stands in any case stands where a result is an error
+pub err_any : {T E : Type 0} {P : Type 0} (r : Result T E) → P → OnErr r P
+err_any (Ok _) h = tt
+err_any (Err e) h = h
 
 pub record IsReturned (a n : Inside) (to : ℕ) (marks : List Bool) : Type 0 where
   pub design_is : n.design ≡ a.design

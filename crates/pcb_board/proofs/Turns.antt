@@ -1,25 +1,27 @@
 -- A board that goes back: the marks of the ids that stand, and what it keeps.
 use Rattle.std.proofs.Common.{◌≡◌, ◌≢◌, ◌⊎◌, inl, inr, ℕ, ◌+◌, ◌-◌, ◌<◌, ◌≤◌, zero, suc, Bool, true, false, true≢false}
 use Rattle.std.proofs.Common.{Option, Some, refl, sym, ◌∙◌, ap, subst, List, [], ◌∷◌, ◌++◌, length, get_or, take}
-use Rattle.std.proofs.Common.{arith}
+use Rattle.std.proofs.Common.{arith, cond, map, set}
 use Rattle.std.proofs.Common.{length-append}
-use Rattle.std.specs.Prelude.{All, IfSome, ◌||◌, slice_get, slice_index_or}
+use Rattle.std.specs.Prelude.{All, Contains, IfSome, ◌||◌, slice_get, slice_index_or}
 use Rattle.std.specs.List.{filter}
-use Rattle.std.proofs.lemmas.Bool.{cases_lt}
-use Rattle.std.proofs.lemmas.List.{length-take-le}
+use Rattle.std.proofs.lemmas.Bool.{cases_eq, cases_lt}
+use Rattle.std.proofs.lemmas.List.{append-nil, get_or-set_other, get_or-set_same, length-take-le, map_more, take_more}
+use Rattle.std.proofs.lemmas.List.Elements.{filter_more}
 use Rattle.std.proofs.lemmas.Option.{slice_get_within, slice_get_read}
 use Rattle.pcb_model.specs.declared.item.Item.{Item}
 use Rattle.pcb_model.specs.declared.design.Design.{Design}
+use Rattle.board_offers.specs.declared.offer.Shoved.{Shoved}
 use Rattle.board_offers.specs.declared.offer.Offer.{Offer}
 use Rattle.board_offers.specs.Items.{names, is_on, without, gone, new_items, joined_items}
 use Rattle.board_offers.specs.Given.{AreGiven}
-use Rattle.board_offers.proofs.Lists.{found_at, on_item, in_from}
+use Rattle.board_offers.proofs.Lists.{found_at, on_item, in_from, in_named, named_in}
 use Rattle.board_offers.proofs.Troubles.{names_on, or_cases, or_left, or_right, is_on_in}
 use Rattle.board_offers.proofs.New.{IsNew, new_at}
 use Rattle.pcb_board.specs.declared.answer.Entry.{Entry}
 use Rattle.pcb_board.specs.declared.answer.Entry.TheVariants.{Join, Back}
 use Rattle.pcb_board.specs.Boards.{BoardOf, Past, past, next, given, replayed, IsLast, Changes}
-use Rattle.pcb_board.specs.Renewing.{AreIndexed}
+use Rattle.pcb_board.specs.Renewing.{AreIndexed, AreMarked}
 use Rattle.pcb_board.specs.Turning.{AreNumbered, IsJoinAt, LeadBack, AreMarks, ArePut, IsRangePut}
 use Rattle.pcb_board.specs.Turning.{MarksJoin}
 use Rattle.pcb_board.specs.Turning.{AreTurned, is_marked, EndsWithin, IsReached}
@@ -104,6 +106,88 @@ put_both xs ys v old mid new first second = record {
     by x d within (inr free) named =
         second.others x d (let l = first.long in omega (arith, l, within)) free
         ∙ first.named x d within (front x named free)
+
+-- no marks are put
+pub put_none : (v : Bool) (marks : List Bool) → ArePut [] v marks marks
+put_none v marks = record {
+  long = refl;
+  named = λ x d within named. absurd (true≢false (sym named));
+  others = λ x d within free. refl;
+}
+
+-- one more id's mark is put
+pub put_more : (ids : List ℕ) (i : ℕ) (v : Bool) (old mid new : List Bool) → i < length ids
+    → ArePut (take i ids) v old mid → ArePut (get_or ids i 0 ∷ []) v mid new → ArePut (take (i + 1) ids) v old new
+put_more ids i v old mid new within first second =
+    subst (λ (xs : List ℕ). ArePut xs v old new) (sym (take_more ids i 0 within))
+    (put_both (take i ids) (get_or ids i 0 ∷ []) v old mid new first second)
+
+-- one more shoved item's mark is put
+pub put_shoved : (shoves : List Shoved) (i : ℕ) (s : Shoved) (v : Bool) (old mid new : List Bool) → i < length shoves
+    → s ≡ get_or shoves i s → ArePut (map (λ (t : Shoved). t.id) (take i shoves)) v old mid
+    → ArePut (s.id ∷ []) v mid new → ArePut (map (λ (t : Shoved). t.id) (take (i + 1) shoves)) v old new
+put_shoved shoves i s v old mid new within is first second =
+    subst (λ (xs : List ℕ). ArePut xs v old new)
+    (sym (map_more (λ (t : Shoved). t.id) shoves i s within
+    ∙ ap (λ (t : Shoved). map (λ (u : Shoved). u.id) (take i shoves) ++ t.id ∷ []) (sym is)))
+    (put_both (map (λ (t : Shoved). t.id) (take i shoves)) (s.id ∷ []) v old mid new first second)
+
+-- ---- the numbers of entries
+-- a list of one id names it alone
+one_named : (id x : ℕ) → names (id ∷ []) x ≡ true → id ≡ x
+one_named id x named = by (named_in (id ∷ []) x named)
+  where
+    by : Contains (id ∷ []) x → id ≡ x
+    by (zero, within, is) = is
+    by (suc k, within, is) = absurd (omega (arith, within))
+
+-- an id behind others gets the number
+mark_last : (front : List ℕ) (id number : ℕ) (old mid : List ℕ) → id < length mid → AreMarked front number old mid
+    → AreMarked (front ++ id ∷ []) number old (set mid id number)
+mark_last front id number old mid inside first = record {
+  named = λ x d less named. elim (cases_eq x id) [
+    | inl same ↦ subst (λ (y : ℕ). slice_index_or (set mid id number) y d ≡ number) (sym same)
+        (get_or-set_same mid id number d inside)
+    | inr other ↦ get_or-set_other mid id x number d other ∙ first.named x d less (before x named other)
+  ];
+  others = λ x d less free.
+      get_or-set_other mid id x number d (λ e. true≢false (sym (names_on front (id ∷ []) x
+      ∙ or_right (names front x) (names (id ∷ []) x) (in_named (id ∷ []) x (0, omega arith, sym e))) ∙ free))
+      ∙ first.others x d less (is_false (names front x) (λ e. true≢false
+      (sym (names_on front (id ∷ []) x ∙ or_left (names front x) (names (id ∷ []) x) e) ∙ free)));
+}
+  where
+    before : (x : ℕ) → names (front ++ id ∷ []) x ≡ true → x ≢ id → names front x ≡ true
+    before x named other = elim (or_cases (names front x) (names (id ∷ []) x)
+        (sym (names_on front (id ∷ []) x) ∙ named)) [
+          | inl here ↦ here
+          | inr there ↦ absurd (other (sym (one_named id x there)))
+        ]
+
+-- one more id gets the number
+pub mark_more : (ids : List ℕ) (i number : ℕ) (old mid new : List ℕ) → i < length ids → get_or ids i 0 < length mid
+    → AreMarked (take i ids) number old mid → new ≡ set mid (get_or ids i 0) number
+    → AreMarked (take (i + 1) ids) number old new
+mark_more ids i number old mid new within inside first is =
+    subst (λ (xs : List ℕ). AreMarked xs number old new) (sym (take_more ids i 0 within))
+    (subst (AreMarked (take i ids ++ get_or ids i 0 ∷ []) number old) (sym is)
+    (mark_last (take i ids) (get_or ids i 0) number old mid inside first))
+
+-- one more item passes a filter
+pub passes_more : (p : Item → Bool) (xs ys zs : List Item) (i : ℕ) (a : Item) → i < length xs → a ≡ get_or xs i a
+    → p a ≡ true → ys ≡ filter p (take i xs) → zs ≡ ys ++ a ∷ [] → zs ≡ filter p (take (i + 1) xs)
+passes_more p xs ys zs i a within is passes before new =
+    new ∙ ap (λ (us : List Item). us ++ a ∷ []) before
+    ∙ sym (filter_more p xs i a within ∙ ap (λ (us : List Item). filter p (take i xs) ++ us)
+    (subst (λ (b : Item). cond (p b) (b ∷ []) [] ≡ a ∷ []) is (ap (λ (t : Bool). cond t (a ∷ []) []) passes)))
+
+-- one more item doesn't
+pub fails_more : (p : Item → Bool) (xs ys zs : List Item) (i : ℕ) (a : Item) → i < length xs → a ≡ get_or xs i a
+    → p a ≡ false → ys ≡ filter p (take i xs) → zs ≡ ys → zs ≡ filter p (take (i + 1) xs)
+fails_more p xs ys zs i a within is fails before same =
+    same ∙ before ∙ sym (append-nil (filter p (take i xs)))
+    ∙ sym (filter_more p xs i a within ∙ ap (λ (us : List Item). filter p (take i xs) ++ us)
+    (subst (λ (b : Item). cond (p b) (b ∷ []) [] ≡ []) is (ap (λ (t : Bool). cond t (a ∷ []) []) fails)))
 
 -- a join's marks after it
 pub join_marks : (d : Design) (g items : List Item) (o : Offer) (first after : ℕ) (old new : List Bool)

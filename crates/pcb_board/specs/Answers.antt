@@ -9,10 +9,11 @@ use Rattle.board_offers.specs.Items.{new_items, joined_items}
 use Rattle.pcb_board.specs.Boards.{BoardOf, SnapOf, given, replayed, worker_entries, IsCommitOf}
 use Rattle.board_offers.specs.Offers.{Known, IsWellFormed, FailsFirst}
 use Rattle.board_offers.specs.Troubles.{IsClear, FailsLeast}
+use Rattle.board_offers.specs.declared.offer.TheConstants.{CLOSER}
 
 -- a worker makes the offer, and as many entries of workers stand as may
 pub record IsFull (b : BoardOf) (o : Offer) : Type 0 where
-  pub worker : o.worker < 16
+  pub worker : o.worker < CLOSER
   pub reached : b.cap ≤ worker_entries b.history
 
 abbrev pub known : BoardOf → Known

@@ -11,6 +11,7 @@ use Rattle.board_offers.specs.declared.offer.Offer.{Offer}
 use Rattle.pcb_board.specs.declared.answer.Entry.{Entry}
 use Rattle.pcb_board.specs.declared.answer.Entry.TheVariants.{Join, Back}
 use Rattle.board_offers.specs.Items.{is_on, new_items, joined_items}
+use Rattle.board_offers.specs.declared.offer.TheConstants.{CLOSER}
 
 -- a board as contracts see it: its design and start list, how many entries of workers may stand, its history,
 -- and its items in order of id
@@ -115,7 +116,7 @@ board_at b n = record b { history = take n b.history; items = replayed b n }
 
 -- ---- entries of workers
 abbrev pub is_worker : ℕ → Bool
-is_worker w = nat_lt w 16
+is_worker w = nat_lt w CLOSER
 
 abbrev pub is_of_worker : Entry → Bool
 is_of_worker (Join o first after) = is_worker o.worker

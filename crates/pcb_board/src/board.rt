@@ -19,9 +19,9 @@ use crate::answer::{Answer, BackFault, Entry, OfferBack, RunBack};
 use crate::copy::{copy_history, copy_items};
 use crate::load::{Loaded, load_fixed, load_free};
 use crate::marks::{mark_entry, mark_range, marked_tiles, renew_turned};
-use crate::renew::{count_worker, enter, make_room, renew};
+use crate::renew::{admit, count_worker, renew};
 use crate::snap::Snap;
-use board_offers::{Judged, Offer, gone_ids, judge, least_trouble};
+use board_offers::{CLOSER, Judged, Offer, gone_ids, judge, least_trouble};
 use geo_kernel::List;
 use pcb_model::{Copper, Design, Item, pairs_are_symmetric};
 use pcb_tiles::Tiles;
@@ -78,20 +78,10 @@ fn beginning(alloc: Global, d: &Design) -> Result<(Loaded, Vec<u64>), AllocError
     ensures size { IfOk result (λ r. length r.1.items ≡ length r.0.given.items) }
     ensures zeros { IfOk result (λ r. (x k : ℕ) → x < length r.1.items → slice_index_or r.1.items x k ≡ 0) }
 {
-    let fixed = load_fixed(alloc, d)?;
-    let loaded = load_free(alloc, d, fixed)?;
+    let mut loaded = load_fixed(alloc, d)?;
+    load_free(alloc, d, &mut loaded)?;
     let changed = unchanged(alloc, loaded.given.len())?;
     Ok((loaded, changed))
-}
-
-// The design, to be shared.
-fn shared(alloc: Global, design: Design) -> Result<Shared<Design>, AllocError>
-    ensures { IfOk result (λ s. s ≡ design) }
-{
-    match Shared::new(alloc, design) {
-        Ok(design) => Ok(design),
-        Err(_) => Err(AllocError),
-    }
 }
 
 // The board of what was loaded, and the places of what was dropped.
@@ -140,7 +130,7 @@ impl Board {
         requires cap { cap ≤ 2 ^ 19 }
         ensures { IfOk result (λ r. IsStarted design cap r.0 r.1) }
     {
-        let design = shared(alloc, design)?;
+        let design = Shared::new(alloc, design)?;
         let (loaded, changed) = beginning(alloc, design.get())?;
         Ok(opened(alloc, design, cap, loaded, changed))
     }
@@ -233,7 +223,7 @@ impl Board {
     fn is_full(&self, offer: &Offer) -> bool
         ensures { IsTrue result ↔ IsFull self.now offer.now }
     {
-        offer.worker < 16 && self.workers >= self.cap
+        offer.worker < CLOSER && self.workers >= self.cap
     }
 
     fn least_trouble(&self, offer: &Offer, new: &[Item]) -> Result<Option<u64>, AllocError>
@@ -275,19 +265,16 @@ impl Board {
         ensures err { IfErr result (λ e. (e.offer ≡ offer) × (self.new ≡ self.old)) }
     {
         pairs_are_symmetric();
-        let first = self.given.len();
-        let after = first + new.len();
+        let after = self.given.len() + new.len();
         let number = self.history.as_slice().len() as u64 + 1;
         let workers = count_worker(self.workers, offer.worker);
-        if let Err(cause) = make_room(&mut self.given, &mut self.changed, new.len()) {
-            return Err(OfferBack { offer, cause });
-        }
-        let (gone, tiles) = enter(
+        let (gone, tiles) = admit(
             self.alloc,
+            &mut self.given,
+            &mut self.changed,
             &mut self.history,
             &self.tiles,
             offer,
-            first,
             new.as_slice(),
         )?;
         let mut new = new.into_vec();

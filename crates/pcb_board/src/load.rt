@@ -158,14 +158,13 @@ fn drop_place(loaded: &mut Loaded, at: u64) -> Result<(), AllocError>
 }
 
 /// Behind the fixed items, the free ones in order.
-pub(crate) fn load_free(alloc: Global, d: &Design, fixed: Loaded) -> Result<Loaded, AllocError>
+pub(crate) fn load_free(alloc: Global, d: &Design, loaded: &mut Loaded) -> Result<(), AllocError>
     requires sound { IsSound d.now }
-    requires fixed { AreLoaded d.now d.now.free fixed }
-    ensures { IfOk result (AreLoaded d.now []) }
+    requires fixed { AreLoaded d.now d.now.free loaded.old }
+    ensures { OnOk result (AreLoaded d.now [] loaded.new) }
 {
-    let mut loaded = fixed;
     for w in d.free.as_slice() {
-        load_one(alloc, d, &mut loaded, w)?;
+        load_one(alloc, d, loaded, w)?;
     }
-    Ok(loaded)
+    Ok(())
 }

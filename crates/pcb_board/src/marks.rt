@@ -15,8 +15,9 @@ ghost use Rattle.pcb_board.specs.Turning.{ArePut, IsRangePut, MarksJoin, EndsWit
 
 use crate::answer::Entry;
 use crate::load::empty_tiles;
+use crate::renew::add_copy;
 use board_offers::Shoved;
-use pcb_model::{Copper, Design, Item, copy_item};
+use pcb_model::{Copper, Design, Item};
 use pcb_tiles::Tiles;
 use std::alloc::{AllocError, Global};
 
@@ -107,10 +108,7 @@ pub(crate) fn marked_tiles(
     let mut tiles = empty_tiles(alloc, d)?;
     for item in given {
         if is_marked(marks, item.id) {
-            let copy = copy_item(alloc, item)?;
-            if let Err((_, cause)) = tiles.add(copy) {
-                return Err(cause);
-            }
+            add_copy(alloc, &mut tiles, item)?;
         }
     }
     Ok(tiles)

@@ -130,8 +130,8 @@ fn push_join(
     }
 }
 
-/// Enters an offer into a history, and gives the ids that it takes from the tiles, and the tiles afterwards.
-pub(crate) fn enter(
+// Enters an offer into a history, and gives the ids that it takes from the tiles, and the tiles afterwards.
+fn enter(
     alloc: Global,
     history: &mut List<Entry>,
     tiles: &Tiles,
@@ -157,12 +157,8 @@ pub(crate) fn enter(
     Ok((gone, tiles))
 }
 
-/// Makes room for so many more items and ids.
-pub(crate) fn make_room(
-    given: &mut Vec<Item>,
-    changed: &mut Vec<u64>,
-    count: usize,
-) -> Result<(), AllocError>
+// Makes room for so many more items and ids.
+fn make_room(given: &mut Vec<Item>, changed: &mut Vec<u64>, count: usize) -> Result<(), AllocError>
     ensures given { given.new.items ≡ given.old.items }
     ensures changed { changed.new.items ≡ changed.old.items }
     ensures given_room { OnOk result (vec_len given.old + count ≤ vec_capacity given.new) }
@@ -170,6 +166,38 @@ pub(crate) fn make_room(
 {
     given.reserve(count)?;
     changed.reserve(count)
+}
+
+/// Makes room for an offer's new items and enters it, and gives what entering it gives.
+pub(crate) fn admit(
+    alloc: Global,
+    given: &mut Vec<Item>,
+    changed: &mut Vec<u64>,
+    history: &mut List<Entry>,
+    tiles: &Tiles,
+    offer: Offer,
+    come: &[Item],
+) -> Result<(Vec<u64>, Tiles), OfferBack>
+    requires total { length given.old.items + length come.now < 2 ^ 64 }
+    requires fit { All IsItemFit come.now }
+    requires below { All (λ (a : OneItem). a.id < length given.old.items) tiles.now.items }
+    requires numbered { (j : ℕ) (a : OneItem) → slice_get come.now j ≡ Some a
+        → a.id ≡ length given.old.items + j }
+    ensures given { given.new.items ≡ given.old.items }
+    ensures changed { changed.new.items ≡ changed.old.items }
+    ensures given_room { OnOk result (vec_len given.old + length come.now ≤ vec_capacity given.new) }
+    ensures changed_room { OnOk result (vec_len changed.old + length come.now ≤ vec_capacity changed.new) }
+    ensures gone { IfOk result (λ r. r.0.items ≡ gone offer) }
+    ensures tiles { IfOk result (λ r. r.1 ≡ holding tiles.now (without (gone offer) tiles.now.items ++ come.now)) }
+    ensures entered { OnOk result (history.new ≡ history.old ++ Entry.Join offer (length given.old.items)
+        (length given.old.items + length come.now) ∷ []) }
+    ensures err { IfErr result (λ e. (e.offer ≡ offer) × (history.new ≡ history.old)) }
+{
+    let first = given.len();
+    if let Err(cause) = make_room(given, changed, come.len()) {
+        return Err(OfferBack { offer, cause });
+    }
+    enter(alloc, history, tiles, offer, first, come)
 }
 
 /// Gives the ids and all new ones up to a total the number of an entry. There is room for them.

@@ -7,6 +7,7 @@ pub mod Flooded
 pub mod Pads
 pub mod Selects
 pub mod Classes
+pub mod Placed
 pub mod Gathering
 pub mod Whole
 pub mod Numbers

@@ -7,8 +7,8 @@ use Rattle.std.proofs.lemmas.Cmp.{nat_eq_equiv}
 use Rattle.std.proofs.lemmas.Map.Views.{list_any-from_Contains, Contains-from_any, exact_unsigned_eq}
 use Rattle.std.proofs.lemmas.List.{length_push}
 use Rattle.std.proofs.lemmas.List.Sums.{sum_by-cons}
-use Rattle.std.proofs.lemmas.List.Elements.{All-nil, All-push, All-pop, All-weaker, Contains-append_left, Contains-push}
-use Rattle.std.proofs.lemmas.List.Elements.{Contains-push_cases}
+use Rattle.std.proofs.lemmas.List.Elements.{All-nil, All-push, All-pop, All-head, All-weaker}
+use Rattle.std.proofs.lemmas.List.Elements.{Contains-append_left, Contains-push, Contains-push_cases}
 use Rattle.pcb_model.specs.declared.item.Item.{Item}
 use Rattle.pcb_islands.specs.Numbers.{IsWith}
 use Rattle.pcb_islands.specs.Flooding.{is_reached, IsIdOf, IsTakenIn}
@@ -145,3 +145,52 @@ module _ (r w ids r1 w1 r2 : List ℕ) (id : ℕ) (t : IsTakenIn r w ids r1 w1) 
               (earlier r1 r2 s.kept),
         );
   }
+
+-- where nothing was taken in before, one id is
+pub taken_one : (r w r' w' : List ℕ) (id : ℕ) → IsWith r id true r' → w' ≡ w ++ id ∷ []
+    → IsTakenIn r w (id ∷ []) r' w'
+taken_one r w r' w' id s is =
+    subst (λ (v : List ℕ). IsTakenIn r w (id ∷ []) r' v) (sym is) (taken_fresh r w [] r w r' id (taken_none r w) s)
+
+-- and none, where it was reached
+pub taken_again : (r w r' w' : List ℕ) (id : ℕ) → IsWith r id false r' → w' ≡ w → IsTakenIn r w (id ∷ []) r' w'
+taken_again r w r' w' id s is =
+    subst (λ (v : List ℕ). IsTakenIn r w (id ∷ []) r' v) (sym is) (taken_stale r w [] r w r' id (taken_none r w) s)
+
+-- all in a list of one is that one
+the_one : (id q : ℕ) → Contains (id ∷ []) q → id ≡ q
+the_one id q h = elim (Contains-push_cases [] id q h) [ inl none ↦ absurd (omega (arith, none.1)) | inr same ↦ same ]
+
+-- one id more is taken in
+pub taken_then : (r w ids r1 w1 r2 w2 : List ℕ) (id : ℕ) → IsTakenIn r w ids r1 w1 → IsTakenIn r1 w1 (id ∷ []) r2 w2
+    → IsTakenIn r w (ids ++ id ∷ []) r2 w2
+taken_then r w ids r1 w1 r2 w2 id t s =
+    let last : (q : ℕ) → Contains (id ∷ []) q → Contains (ids ++ id ∷ []) q =
+    λ q h. subst (Contains (ids ++ id ∷ [])) (the_one id q h) (Contains-push ids id) in
+    record {
+      kept = λ q h. s.kept q (t.kept q h);
+      taken = All-push (Contains r2) ids id (All-weaker (Contains r1) (Contains r2) s.kept ids t.taken)
+          (All-head (Contains r2) id [] s.taken);
+      only = λ q h. elim (s.only q h) [
+        | inl old ↦ elim (t.only q old) [
+          | inl a ↦ inl a
+          | inr b ↦
+              inr (Contains-append_left ids (id ∷ []) q b.0, s.waiting_kept q b.1)
+        ]
+        | inr both ↦ inr (last q both.0, both.1)
+      ];
+      waiting_kept = λ q h. s.waiting_kept q (t.waiting_kept q h);
+      waiting_only = λ q h. elim (s.waiting_only q h) [
+        | inl old ↦ elim (t.waiting_only q old) [
+          | inl a ↦ inl a
+          | inr b ↦ inr (Contains-append_left ids (id ∷ []) q b)
+        ]
+        | inr one ↦ inr (last q one)
+      ];
+      work_left = λ items each. let front = All-pop (IsIdOf items) (ids ++ id ∷ []) ids (Some id) refl each in
+          omega (
+            arith,
+            t.work_left items front.0,
+            s.work_left items (All-push (IsIdOf items) [] id (All-nil (IsIdOf items)) front.1),
+          );
+    }

@@ -1,7 +1,7 @@
 //! All items that are joined to an item, found by flooding.
 //! Each of them is spread from once, by the search for what touches it.
 
-ghost use Rattle.std.specs.Prelude.{◌≡◌, ◌<◌, All, Contains, IfOk, OnOk};
+ghost use Rattle.std.specs.Prelude.{◌≡◌, ℕ, ◌<◌, List as Seq, [], ◌∷◌, All, Contains, IfOk, OnOk};
 ghost use Rattle.pcb_model.specs.Bounds.{IsItemFit};
 ghost use Rattle.pcb_model.specs.Copper.{Ascends};
 ghost use Rattle.pcb_islands.specs.Islands.{AreIdsJoined};
@@ -36,6 +36,16 @@ fn touched_by<C: Copper, L: Ledger>(
     Ok(ids)
 }
 
+/// Takes one id in: where it wasn't reached, it is reached now, and waits.
+fn take_one(reached: &mut Ids, waiting: &mut Vec<u64>, id: u64) -> Result<(), AllocError>
+    ensures { OnOk result (IsTakenIn reached.old waiting.old.items (id ∷ []) reached.new waiting.new.items) }
+{
+    if reached.insert(id)? {
+        waiting.push(id)?;
+    }
+    Ok(())
+}
+
 /// Takes ids in: those that weren't reached are reached now, and wait.
 pub(crate) fn take_in(
     reached: &mut Ids,
@@ -45,11 +55,27 @@ pub(crate) fn take_in(
     ensures { OnOk result (IsTakenIn reached.old waiting.old.items ids.now reached.new waiting.new.items) }
 {
     for id in ids {
-        if reached.insert(*id)? {
-            waiting.push(*id)?;
-        }
+        take_one(reached, waiting, *id)?;
     }
     Ok(())
+}
+
+/// Spreads from an item: takes in the ids of what touches it.
+fn spread<C: Copper, L: Ledger>(
+    alloc: Global,
+    c: &C,
+    a: &Item,
+    steps: &mut Steps<L>,
+    reached: &mut Ids,
+    waiting: &mut Vec<u64>,
+) -> Result<(), AllocError>
+    requires fits { IsItemFit a.now }
+    requires ids { All HasIdWithin (C.items c.now) }
+    ensures { OnOk result ((ids : Seq ℕ) × AreTouched (C.items c.now) a.now ids
+        × IsTakenIn reached.old waiting.old.items ids reached.new waiting.new.items) }
+{
+    let touched = touched_by(alloc, c, a, steps)?;
+    take_in(reached, waiting, touched.as_slice())
 }
 
 /// The ids of all items that are joined to an item of the copper, ascending.
@@ -76,8 +102,7 @@ pub(crate) fn flood<C: Copper, L: Ledger>(
         let Some(a) = c.item(id) else {
             unreachable!();
         };
-        let touched = touched_by(alloc, c, a, &mut steps)?;
-        take_in(&mut reached, &mut waiting, touched.as_slice())?;
+        spread(alloc, c, a, &mut steps, &mut reached, &mut waiting)?;
     }
     reached.to_list(alloc)
 }

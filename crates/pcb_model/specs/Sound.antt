@@ -21,6 +21,7 @@ use Rattle.pcb_model.specs.declared.design.Design.{Design}
 use Rattle.pcb_model.specs.Pieces.{pieces_of}
 use Rattle.pcb_model.specs.Bounds.{IsFit, IsItemFit, IsMetalFit, IsDesignFit}
 use Rattle.pcb_model.specs.Board.{is_fixed}
+use Rattle.pcb_model.specs.declared.limits.TheConstants.{MOST_LAYERS, MOST_PER}
 
 -- ---- indices
 abbrev pub IsMetalInRange : Design → Metal → Type 0
@@ -133,7 +134,7 @@ pub record HasPrintableNames (d : Design) : Type 0 where
 -- how many parts it has
 pub record HasFewParts (d : Design) : Type 0 where
   pub some_layers : 1 ≤ length d.layers
-  pub few_layers : length d.layers ≤ 32
+  pub few_layers : length d.layers ≤ MOST_LAYERS
   pub some_bounds : 1 ≤ length d.bounds
   pub few_padstacks : length d.padstacks ≤ 2 ^ 26
   pub few_components : length d.components ≤ 2 ^ 26
@@ -145,7 +146,7 @@ pub record IsSound (d : Design) : Type 0 where
   pub parts : HasFewParts d
   pub fits : IsDesignFit d
   pub some_per : 1 ≤ d.per
-  pub few_per : d.per ≤ 1000000
+  pub few_per : d.per ≤ MOST_PER
   pub width_within : IfSome d.rules.width (λ w. w ≤ 2 ^ 28)
   pub class_widths_within : All (λ (rs : RuleSet). IfSome rs.width (λ w. w ≤ 2 ^ 28)) d.classes
   pub padstack_layers : All (λ (s : Padstack). All (IsLayerOf d) s.pieces) d.padstacks

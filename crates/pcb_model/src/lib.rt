@@ -8,6 +8,7 @@ mod greatest;
 mod item;
 mod laws;
 mod legal;
+pub mod limits;
 mod make;
 mod near;
 mod pair;

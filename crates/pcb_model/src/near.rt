@@ -15,6 +15,7 @@ ghost use Rattle.pcb_model.specs.Near.{SeparatesAll, IsQueryOf, box_of_points, v
 use crate::probe::{padstack_pieces, probe_kind};
 use crate::rules::{Side, reach_of};
 use crate::{Design, Item, Piece, Probe};
+use geo_kernel::limits::FURTHEST;
 use geo_kernel::{Point, Rect4, Spine, box_of, parted};
 
 /// A box that holds all spines of some pieces, in nm, their greatest width, and their least and greatest layer.
@@ -27,7 +28,7 @@ pub struct Extent {
 }
 
 // The greatest absolute value of a coordinate.
-const EDGE: i64 = 1 << 29;
+const EDGE: i64 = FURTHEST as i64;
 
 impl Extent {
     // That of no piece.

@@ -5,3 +5,4 @@ pub mod Nearness
 pub mod Grids
 pub mod Changes
 pub mod Shelves
+pub mod Sought

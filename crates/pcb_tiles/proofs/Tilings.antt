@@ -1,9 +1,10 @@
 -- How the numbers of tiles go with coordinates.
-use Rattle.std.proofs.Common.{◌≡◌, ℕ, ℤ, pos, ◌+◌, ◌*◌, ◌^◌, ◌/◌, ◌<◌, ◌≤◌, max, arith, ap, ◌∙◌}
+use Rattle.std.proofs.Common.{◌≡◌, ℕ, ℤ, pos, ◌+◌, ◌*◌, ◌^◌, ◌/◌, ◌<◌, ◌≤◌, ◌-◌, max, arith, ap, ap₂, subst, ◌∙◌}
 use Rattle.std.specs.Prelude.{neg_ℤ, ◌≤ℤ◌, ◌+ℤ◌, ◌-ℤ◌, ◌*ℤ◌, ◌<ℤ◌, unsigned_abs}
-use Rattle.std.proofs.lemmas.Int.{ints, clamps, by_lt_z}
+use Rattle.std.proofs.lemmas.Int.{ints, clamps, by_lt_z, to_z-of_z}
 use Rattle.geo_kernel.specs.Boxes.{IsGap}
-use mir.Val.{SFits}
+use Rattle.std.specs.Int.{int_min, int_max}
+use mir.Val.{SFits, to_z, of_z}
 use mir.Syntax.{w64}
 use lib.IntN.{negsuc}
 use Rattle.geo_kernel.specs.declared.point.Rect4.{Rect4}
@@ -79,6 +80,44 @@ block_is area bounds by fc lc fr lr pc pr a b c d e f =
 pub fits64 : (z : ℤ) → unsigned_abs z ≤ 2 ^ 30 → SFits w64 z
 fits64 (pos n) h = record { sfits = omega (arith, h) }
 fits64 (negsuc n) h = record { sfits = omega (arith, h) }
+
+-- what the code sees of a coordinate is the coordinate
+seen_same : (z : ℤ) → unsigned_abs z ≤ 2 ^ 29 → to_z w64 (of_z w64 z) ≡ z
+seen_same z h = to_z-of_z w64 z (fits64 z (omega (arith, h)))
+
+-- the lesser of two numbers that fit fits
+lesser_fits : (a b : ℤ) → SFits w64 a → SFits w64 b → SFits w64 (int_min a b)
+lesser_fits a b f g =
+    by_lt_z {P = SFits w64 (int_min a b)} a b
+    (λ k. let e : a ≡ int_min a b = omega (arith, ints, clamps, k) in subst (λ (t : ℤ). SFits w64 t) e f)
+    (λ k. let e : b ≡ int_min a b = omega (arith, ints, clamps, k) in subst (λ (t : ℤ). SFits w64 t) e g)
+
+-- the code's nearest coordinate is the nearest one
+pub nearest_is : (lo hi z m n : ℤ) → unsigned_abs lo ≤ 2 ^ 29 → unsigned_abs hi ≤ 2 ^ 29 → SFits w64 z
+    → m ≡ int_min (to_z w64 (of_z w64 z)) (to_z w64 (of_z w64 hi))
+    → n ≡ int_max (to_z w64 (of_z w64 m)) (to_z w64 (of_z w64 lo)) → n ≡ clamped lo hi z
+nearest_is lo hi z m n low high fits m_is n_is =
+    let less : m ≡ int_min z hi = m_is ∙ ap₂ int_min (to_z-of_z w64 z fits) (seen_same hi high) in
+    let seen : to_z w64 (of_z w64 m) ≡ int_min z hi = ap (λ (t : ℤ). to_z w64 (of_z w64 t)) less
+    ∙ to_z-of_z w64 (int_min z hi) (lesser_fits z hi fits (fits64 hi (omega (arith, high)))) in
+    n_is ∙ ap₂ int_max seen (seen_same lo low)
+
+-- it is within the bound of its ends
+pub nearest_small : (lo hi z n : ℤ) → lo ≤ℤ hi → unsigned_abs lo ≤ 2 ^ 29 → unsigned_abs hi ≤ 2 ^ 29
+    → n ≡ clamped lo hi z → unsigned_abs n ≤ 2 ^ 29
+nearest_small lo hi z n rises low high is =
+    omega (arith, ints, rises, low, high, is, clamped_from lo hi z rises, clamped_to lo hi z rises)
+
+-- a coordinate has a tile as the code sees it
+pub seen_small : (z : ℤ) → unsigned_abs z ≤ 2 ^ 29 → unsigned_abs (to_z w64 (of_z w64 z)) ≤ 2 ^ 30
+seen_small z h = omega (arith, ap unsigned_abs (seen_same z h), h)
+
+-- its tile, counted from the tile of the first
+pub place_counted : (lo hi z n : ℤ) (a b : ℕ) → unsigned_abs lo ≤ 2 ^ 29 → unsigned_abs n ≤ 2 ^ 29
+    → n ≡ clamped lo hi z → a ≡ tile_of (to_z w64 (of_z w64 n)) → b ≡ tile_of (to_z w64 (of_z w64 lo))
+    → (a - b) ≡ place_of lo hi z
+place_counted lo hi z n a b low small is a_is b_is =
+    ap₂ (λ (i j : ℕ). i - j) (a_is ∙ ap tile_of (seen_same n small ∙ is)) (b_is ∙ ap tile_of (seen_same lo low))
 
 pub fits_less : (z : ℤ) (by : ℕ) → unsigned_abs z ≤ 2 ^ 29 → by ≤ 2 ^ 29 → unsigned_abs (z -ℤ pos by) ≤ 2 ^ 30
 fits_less z by h k = omega (arith, ints, h, k)

@@ -176,14 +176,26 @@ pub(crate) fn change_grid(
     Ok(Shared::new(alloc, changed)?)
 }
 
+// So many shares of a value.
+fn shares<T: Drop>(
+    alloc: Global,
+    value: &Shared<T>,
+    count: usize,
+) -> Result<List<Shared<T>>, AllocError>
+    ensures { IfOk result (λ l. l ≡ replicate count value.now) }
+{
+    let mut shares = List::new(alloc);
+    for _one in 0..count {
+        shares.push(value.share()?)?;
+    }
+    Ok(shares)
+}
+
 fn empty_row(alloc: Global, columns: usize) -> Result<Row, AllocError>
     ensures { IfOk result (λ r. r ≡ replicate columns []) }
 {
     let cell = Shared::new(alloc, List::new(alloc))?;
-    let mut cells = List::new(alloc);
-    for _column in 0..columns {
-        cells.push(cell.share()?)?;
-    }
+    let cells = shares(alloc, &cell, columns)?;
     Ok(Shared::new(alloc, cells)?)
 }
 
@@ -193,9 +205,6 @@ pub(crate) fn empty_grid(alloc: Global, area: Rect4) -> Result<Grid, AllocError>
     ensures { IfOk result (λ g. g ≡ grid_of area []) }
 {
     let row = empty_row(alloc, columns_in(area))?;
-    let mut rows = List::new(alloc);
-    for _line in 0..rows_in(area) {
-        rows.push(row.share()?)?;
-    }
+    let rows = shares(alloc, &row, rows_in(area))?;
     Ok(Shared::new(alloc, rows)?)
 }

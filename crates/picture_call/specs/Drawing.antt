@@ -13,7 +13,7 @@ use Rattle.board_picture.specs.declared.open.OpenLine.{OpenLine}
 use Rattle.board_picture.specs.Open.{AreOpenLines}
 use Rattle.board_picture.specs.Picture.{picture_of}
 use Rattle.picture_call.specs.declared.outcome.PictureCall.{PictureCall}
-use Rattle.dsn_shapes.specs.declared.limits.TheConstants.{MOST_BYTES}
+use Rattle.pcb_model.specs.declared.limits.TheConstants.{MOST_BYTES}
 
 -- the most bytes of a design's file and of a session's
 abbrev pub max_bytes : ℕ

@@ -11,7 +11,7 @@ use crate::{Outcome, PictureCall};
 use desk_io::{Desk, DeskFail};
 use dsn_design::read_design;
 use dsn_shapes::DesignFault;
-use dsn_shapes::limits::MOST_BYTES;
+use pcb_model::limits::MOST_BYTES;
 use pcb_model::{Design, FreeWire};
 use route_words::Text;
 use ses_reader::{SesFault, read_session};

@@ -18,17 +18,18 @@ use Rattle.route_lattice.specs.Fits.{FitsDesign}
 use Rattle.route_lattice.specs.Legal.{probe_at, way_between, move_price, way_price}
 use Rattle.route_lattice.proofs.Fitting.{point_within}
 use Rattle.route_lattice.proofs.Leading.{way_leads, way_goes}
-use Rattle.ripup.specs.Rips.{IsInWay, IsCharged, CanRip, rip_graph, most_charged}
+use Rattle.ripup.specs.Rips.{IsInWay, IsCharged, CanRip, rip_graph}
 use Rattle.ripup.proofs.Counting.{one_count, few}
+use Rattle.ripup.specs.declared.moves.TheConstants.{MOST_CHARGED}
 
 one_charge : (d : Design) (items : List Item) (net : ℕ) (o : Option Probe) (m n : ℕ) → IsCharged d items net o m
     → IsCharged d items net o n → m ≡ n
 one_charge d items net None m n h k = h ∙ sym k
-one_charge d items net (Some p) m n h k = one_count (IsInWay d net p) most_charged items m n h k
+one_charge d items net (Some p) m n h k = one_count (IsInWay d net p) MOST_CHARGED items m n h k
 
 few_charged : (d : Design) (items : List Item) (net : ℕ) (o : Option Probe) (n : ℕ) → IsCharged d items net o n → n ≤ 16
 few_charged d items net None n h = omega (arith, h)
-few_charged d items net (Some p) n h = few (IsInWay d net p) most_charged items n h
+few_charged d items net (Some p) n h = few (IsInWay d net p) MOST_CHARGED items n h
 
 -- ---- ways
 between_small : (p q : Point) → IsWithin (2 ^ 29) p → IsWithin (2 ^ 29) q → way_between p q ≤ 2 ^ 31

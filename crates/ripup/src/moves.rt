@@ -9,15 +9,15 @@ ghost use Rattle.pcb_model.specs.Sound.{IsSound};
 ghost use Rattle.route_lattice.specs.Mesh.{node_count};
 ghost use Rattle.route_lattice.specs.Ways.{way_count};
 ghost use Rattle.route_lattice.specs.Legal.{IsLegalProbe, probe_at};
-ghost use Rattle.ripup.specs.Rips.{IsInWay, CountsTo, IsCharged, rip_graph, CanRip, most_charged};
+ghost use Rattle.ripup.specs.Rips.{IsInWay, CountsTo, IsCharged, rip_graph, CanRip};
 
 use pcb_model::{Copper, Design, Probe, Steps, probe_inside};
 use route_lattice::{Lattice, LegalMoves, Move, Moves};
 use std::marker::Brand;
 use std::sync::ledger::{Blank, Ledger};
 
-/// How many items a move is charged for at most.
-const MOST_CHARGED: u64 = 16;
+/// Items that a move is charged for, where more are in its way.
+pub const MOST_CHARGED: u64 = 16;
 
 /// Whether all fixed items agree with what the probe stands for.
 fn fixed_agree<C: Copper, L: Ledger>(d: &Design, c: &C, net: u32, p: &Probe, blank: Blank) -> bool
@@ -50,7 +50,7 @@ fn is_legal_on_fixed<C: Copper>(d: &Design, c: &C, net: u32, p: &Probe) -> bool
     fixed_agree::<C, Brand>(d, c, net, p, Blank::new(1))
 }
 
-/// How many routed items disagree with what the probe stands for, at most 16.
+/// How many routed items disagree with what the probe stands for, up to the limit.
 fn count_in_way<C: Copper, L: Ledger>(d: &Design, c: &C, net: u32, p: &Probe, blank: Blank) -> u64
     requires name { blank.name ≡ L.name }
     requires parts { blank.parts ≡ L.parts }
@@ -58,8 +58,8 @@ fn count_in_way<C: Copper, L: Ledger>(d: &Design, c: &C, net: u32, p: &Probe, bl
     requires sound { IsSound d.now }
     requires serves { C.serves c.now d.now }
     requires p_fits { IsProbeFit d.now p.now }
-    ensures counted { CountsTo (IsInWay d.now net p.now) most_charged (C.items c.now) result }
-    ensures few { result ≤ 16 }
+    ensures counted { CountsTo (IsInWay d.now net p.now) MOST_CHARGED (C.items c.now) result }
+    ensures few { result ≤ MOST_CHARGED }
 {
     c.in_order();
     let mut steps: Steps<L> = Steps::new(blank);
@@ -107,7 +107,7 @@ impl<'a, C: Copper> RipMoves<'a, C> {
         }
     }
 
-    /// How many items are in the way of a move, at most 16.
+    /// How many items are in the way of a move, up to the limit.
     fn charged(&self, node: u32, i: u32) -> u64
         requires can_rip { CanRip self.now.legal.d.now self.now.legal.lat.now self.now.legal.net self.now.legal.via_cost
             self.now.penalty }
@@ -116,7 +116,7 @@ impl<'a, C: Copper> RipMoves<'a, C> {
         requires index { i < way_count self.now.legal.d.now self.now.legal.lat.now self.now.legal.net }
         ensures counted { IsCharged self.now.legal.d.now (C.items self.now.legal.c.now) self.now.legal.net
             (probe_at self.now.legal.d.now self.now.legal.lat.now self.now.legal.net node i) result }
-        ensures few { result ≤ 16 }
+        ensures few { result ≤ MOST_CHARGED }
     {
         match self.legal.probe(node, i) {
             Some(p) => count_in_way::<C, Brand>(

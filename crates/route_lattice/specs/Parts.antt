@@ -1,5 +1,5 @@
 -- What the private functions of `gather` and `make` give: the parts of a lattice.
-use Rattle.std.specs.Prelude.{ℕ, ◌≤◌, ◌<◌, ◌^◌, unsigned_abs, length, true, false, nat_le, unwrap_or}
+use Rattle.std.specs.Prelude.{ℕ, ◌*◌, ◌≤◌, ◌<◌, ◌^◌, unsigned_abs, length, true, false, nat_le, unwrap_or}
 use Rattle.std.specs.List.{find}
 use Rattle.geo_kernel.specs.declared.point.Rect4.{Rect4}
 use Rattle.pcb_model.specs.declared.design.Design.{Design}
@@ -11,6 +11,8 @@ use Rattle.route_lattice.specs.Lines.{line_list}
 use Rattle.route_lattice.specs.Mesh.{Mesh, node_count}
 use Rattle.route_lattice.specs.Spans.{IsAxisFit, IsAxisOf}
 use Rattle.route_lattice.specs.Whole.{doublings}
+use Rattle.route_lattice.specs.declared.limits.TheConstants.{DEFAULT_NODES, FINEST_GRID, TRIED_GRIDS}
+use Rattle.pcb_model.specs.declared.limits.TheConstants.{MOST_LAYERS}
 
 -- a box's sides are within 2^29
 pub record IsBoxWithin (r : Rect4) : Type 0 where
@@ -36,7 +38,7 @@ pub record ArePartsFit (p : Parts) : Type 0 where
   pub outline_within : IsBoxWithin p.outline
   pub few_across : length p.across ≤ 2 ^ 26
   pub few_up : length p.up ≤ 2 ^ 26
-  pub few_layers : length p.layers ≤ 32
+  pub few_layers : length p.layers ≤ MOST_LAYERS
 
 -- the lattice of parts and a grid
 abbrev pub mesh_of : Parts → ℕ → Mesh
@@ -66,4 +68,6 @@ pub record AreAxesOf (p : Parts) (grid : ℕ) (a : Axes) : Type 0 where
 
 -- the default grid of parts
 unfoldable pub first_grid : Parts → ℕ
-first_grid p = unwrap_or (find (λ grid. nat_le (node_count (mesh_of p grid)) (2 ^ 22)) (doublings 12 100000)) 409600000
+first_grid p =
+    unwrap_or (find (λ grid. nat_le (node_count (mesh_of p grid)) DEFAULT_NODES) (doublings TRIED_GRIDS FINEST_GRID))
+    (FINEST_GRID * 2 ^ TRIED_GRIDS)

@@ -8,6 +8,7 @@ use Rattle.route_lattice.specs.declared.make.LatticeFault.TheVariants.{TooManyNo
 use Rattle.route_lattice.specs.Gather.{unit_of, outline_of, anchors_of, signals_of}
 use Rattle.route_lattice.specs.Lines.{line_list}
 use Rattle.route_lattice.specs.Mesh.{Mesh, node_count}
+use Rattle.route_lattice.specs.declared.limits.TheConstants.{MOST_NODES, DEFAULT_NODES, FINEST_GRID, TRIED_GRIDS}
 
 -- the lattice of a design and a grid: its lines lie strictly inside the box of the first boundary
 abbrev pub lattice_of : Design → ℕ → Mesh
@@ -21,8 +22,8 @@ lattice_of d grid = record {
 
 -- the lattice m, where it has at most 2^24 nodes, else how many it would have
 abbrev pub IsLatticeOf : Mesh → Result Mesh LatticeFault → Type 0
-IsLatticeOf m (Ok l) = (l ≡ m) × (node_count m ≤ 2 ^ 24)
-IsLatticeOf m (Err (TooManyNodes count)) = (count ≡ node_count m) × (2 ^ 24 < node_count m)
+IsLatticeOf m (Ok l) = (l ≡ m) × (node_count m ≤ MOST_NODES)
+IsLatticeOf m (Err (TooManyNodes count)) = (count ≡ node_count m) × (MOST_NODES < node_count m)
 IsLatticeOf m (Err (Memory e)) = Unit {0}
 
 -- n grids, each twice the one before it
@@ -33,4 +34,5 @@ doublings (suc n) grid = grid ∷ doublings n (2 * grid)
 -- the first of 100, 200, 400 .. 204,800 um whose lattice has at most 2^22 nodes, else 409,600 um; in nm
 unfoldable pub default_grid : Design → ℕ
 default_grid d =
-    unwrap_or (find (λ grid. nat_le (node_count (lattice_of d grid)) (2 ^ 22)) (doublings 12 100000)) 409600000
+    unwrap_or (find (λ grid. nat_le (node_count (lattice_of d grid)) DEFAULT_NODES) (doublings TRIED_GRIDS FINEST_GRID))
+    (FINEST_GRID * 2 ^ TRIED_GRIDS)

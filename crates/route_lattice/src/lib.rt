@@ -8,6 +8,7 @@ mod found;
 mod gather;
 mod laws;
 mod legal;
+pub mod limits;
 mod lines;
 mod make;
 mod mesh;

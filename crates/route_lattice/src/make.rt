@@ -12,6 +12,7 @@ ghost use Rattle.route_lattice.specs.declared.gather.Parts.{Parts as TheParts};
 
 use crate::axis::{Axis, axis_len, axis_lines, axis_of};
 use crate::gather::{Parts, gather};
+use crate::limits::{DEFAULT_NODES, FINEST_GRID, MOST_NODES, TRIED_GRIDS};
 use crate::lines::Ruler;
 use crate::mesh::Lattice;
 use geo_kernel::List;
@@ -101,9 +102,9 @@ fn pick_grid(alloc: Global, p: &Parts) -> Result<u64, AllocError>
     ensures some { IfOk result (λ grid. 1 ≤ grid) }
     ensures fine { IfOk result (λ grid. grid ≤ 2 ^ 30) }
 {
-    let mut grid = 100_000;
-    for _ in 0..12u32 {
-        if nodes_at(alloc, p, grid)? <= 1 << 22 {
+    let mut grid = FINEST_GRID;
+    for _ in 0..TRIED_GRIDS {
+        if nodes_at(alloc, p, grid)? <= DEFAULT_NODES {
             return Ok(grid);
         }
         grid *= 2;
@@ -125,6 +126,26 @@ fn grid_or_default(alloc: Global, p: &Parts, grid: Option<u64>) -> Result<u64, A
     }
 }
 
+/// The lattice of parts and a grid, of its axes and the number of its nodes.
+fn lattice_on(
+    alloc: Global,
+    p: &Parts,
+    grid: u64,
+    axes: &Axes,
+    count: u32,
+) -> Result<Lattice, AllocError>
+    requires fit { AreAxesFit axes.now }
+    requires axes { AreAxesOf p.now grid axes.now }
+    requires counted { count ≡ node_count (mesh_of p.now grid) }
+    requires few { count ≤ 2 ^ 24 }
+    ensures { IfOk result (λ m. m ≡ mesh_of p.now grid) }
+{
+    let xs = axis_lines(alloc, &axes.across)?;
+    let ys = axis_lines(alloc, &axes.up)?;
+    let layers = List::from_slice(alloc, p.layers.as_slice())?;
+    Ok(Lattice::of_parts(grid, p.unit, xs, ys, layers, count))
+}
+
 /// The lattice of parts and a grid.
 pub(crate) fn build(alloc: Global, p: &Parts, grid: u64) -> Result<Lattice, LatticeFault>
     requires parts { ArePartsFit p.now }
@@ -134,13 +155,10 @@ pub(crate) fn build(alloc: Global, p: &Parts, grid: u64) -> Result<Lattice, Latt
 {
     let axes = axes_of(alloc, p, grid)?;
     let count = node_total(&p.layers, &axes);
-    if count > 1 << 24 {
+    if count > MOST_NODES {
         return Err(LatticeFault::TooManyNodes { count });
     }
-    let xs = axis_lines(alloc, &axes.across)?;
-    let ys = axis_lines(alloc, &axes.up)?;
-    let layers = List::from_slice(alloc, p.layers.as_slice())?;
-    Ok(Lattice::of_parts(grid, p.unit, xs, ys, layers, count as u32))
+    Ok(lattice_on(alloc, p, grid, &axes, count as u32)?)
 }
 
 impl Lattice {

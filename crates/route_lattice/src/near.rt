@@ -10,18 +10,16 @@ ghost use Rattle.pcb_model.specs.Pieces.{padstack_pieces as padstack_pieces_of};
 ghost use Rattle.route_lattice.specs.Near.{is_near_at, is_spine_near_at, are_near_at};
 ghost use Rattle.route_lattice.specs.Ways.{has_copper as has_copper_on, can_join as can_join_at};
 
+use geo_kernel::limits::FURTHEST;
 use geo_kernel::{List, Point, Spine};
 use pcb_model::{Design, Piece};
-
-/// The greatest absolute value of a coordinate, in nm.
-const LIMIT: u64 = 1 << 29;
 
 fn is_close(a: i64, by: i64) -> bool
     requires a_within { unsigned_abs a ≤ 2 ^ 29 }
     requires by_within { unsigned_abs by ≤ 2 ^ 29 }
     ensures { result ≡ nat_le (unsigned_abs (a +ℤ by)) (2 ^ 29) }
 {
-    (a + by).unsigned_abs() <= LIMIT
+    (a + by).unsigned_abs() <= FURTHEST
 }
 
 fn is_near(p: Point, by: Point) -> bool

@@ -7,6 +7,7 @@ ghost use Rattle.cut_certificate.specs.Same.{SameMoves};
 ghost use Rattle.ripup.specs.Rips.{rip_graph};
 ghost use Rattle.pcb_board.specs.Boards.{BoardOf};
 ghost use Rattle.route_plan.specs.Plans.{IsSnapOf, CanPlan, IsPassingOffer, FindsPassing, Plans};
+ghost use Rattle.board_offers.specs.declared.offer.TheConstants.{CLOSER};
 
 use crate::plans::{Led, Planned};
 use crate::route::{Route, Routed, Task};
@@ -99,7 +100,7 @@ pub(crate) fn plan_passing_with<M: Moves>(
     requires can_plan { CanPlan d.now lat.now snap.now net via_cost (Some penalty) }
     requires ready { M.ready moves.now }
     requires moves { SameMoves (M.graph moves.now) (rip_graph d.now lat.now snap.now.items net via_cost penalty) }
-    requires worker { worker ≤ 16 }
+    requires worker { worker ≤ CLOSER }
     requires size { search.old ≡ node_count lat.now }
     ensures plan { IfOk result (λ p. (b : BoardOf) → IsSnapOf snap.now b
         → Plans lat.now via_cost b worker net (Some penalty) p) }

@@ -7,6 +7,7 @@ ghost use Rattle.route_lattice.specs.Legal.{legal_graph};
 ghost use Rattle.cut_certificate.specs.Same.{SameMoves};
 ghost use Rattle.pcb_board.specs.Boards.{BoardOf};
 ghost use Rattle.route_plan.specs.Plans.{IsSnapOf, CanPlan, IsBareOffer, Plans, StandsAt, LeadsFrom};
+ghost use Rattle.board_offers.specs.declared.offer.TheConstants.{CLOSER};
 
 use crate::route::{Route, Routed, Task};
 use geo_kernel::List;
@@ -77,10 +78,10 @@ pub(crate) fn offer_with<M: Moves>(
     requires ready { M.ready legal.now }
     requires legal { SameMoves (M.graph legal.now)
         (legal_graph d.now lat.now snap.now.items island.now.net via_cost) }
-    requires worker { worker ≤ 16 }
+    requires worker { worker ≤ CLOSER }
     requires size { search.old ≡ node_count lat.now }
     ensures leads { IfOk result (λ r. (b : BoardOf) (place : ℕ) → IsSnapOf snap.now b
-        → StandsAt b.design b.items island.now.net place island.now others.now → (worker < 16 → place ≡ 0)
+        → StandsAt b.design b.items island.now.net place island.now others.now → (worker < CLOSER → place ≡ 0)
         → LeadsFrom lat.now via_cost b worker island.now others.now r) }
     ensures size { search.new ≡ search.old }
 {
@@ -120,7 +121,7 @@ pub(crate) fn plan_legal_with<M: Moves>(
     requires can_plan { CanPlan d.now lat.now snap.now net via_cost None }
     requires ready { M.ready legal.now }
     requires legal { SameMoves (M.graph legal.now) (legal_graph d.now lat.now snap.now.items net via_cost) }
-    requires worker { worker ≤ 16 }
+    requires worker { worker ≤ CLOSER }
     requires size { search.old ≡ node_count lat.now }
     ensures plan { IfOk result (λ p. (b : BoardOf) → IsSnapOf snap.now b → Plans lat.now via_cost b worker net None p) }
     ensures size { search.new ≡ search.old }

@@ -8,6 +8,7 @@ ghost use Rattle.cut_certificate.specs.Same.{SameMoves};
 ghost use Rattle.move_maps.specs.Maps.{AreMapsOf};
 ghost use Rattle.pcb_board.specs.Boards.{BoardOf};
 ghost use Rattle.route_plan.specs.Plans.{IsSnapOf, CanPlan, Plans, StandsAt, LeadsFrom};
+ghost use Rattle.board_offers.specs.declared.offer.TheConstants.{CLOSER};
 
 use crate::passing::plan_passing_with;
 use crate::plans::{Led, Planned, offer_with, plan_legal_with};
@@ -37,10 +38,10 @@ pub fn offer_from(
     others: &List<Island>,
 ) -> Result<Led, AllocError>
     requires can_plan { CanPlan d.now lat.now snap.now island.now.net via_cost None }
-    requires worker { worker ≤ 16 }
+    requires worker { worker ≤ CLOSER }
     requires size { search.old ≡ node_count lat.now }
     ensures leads { IfOk result (λ r. (b : BoardOf) (place : ℕ) → IsSnapOf snap.now b
-        → StandsAt b.design b.items island.now.net place island.now others.now → (worker < 16 → place ≡ 0)
+        → StandsAt b.design b.items island.now.net place island.now others.now → (worker < CLOSER → place ≡ 0)
         → LeadsFrom lat.now via_cost b worker island.now others.now r) }
     ensures size { search.new ≡ search.old }
 {
@@ -65,10 +66,10 @@ pub fn offer_by_maps(
 ) -> Result<Led, AllocError>
     requires can_plan { CanPlan d.now lat.now snap.now island.now.net via_cost None }
     requires maps { AreMapsOf d.now lat.now snap.now.items maps.now }
-    requires worker { worker ≤ 16 }
+    requires worker { worker ≤ CLOSER }
     requires size { search.old ≡ node_count lat.now }
     ensures leads { IfOk result (λ r. (b : BoardOf) (place : ℕ) → IsSnapOf snap.now b
-        → StandsAt b.design b.items island.now.net place island.now others.now → (worker < 16 → place ≡ 0)
+        → StandsAt b.design b.items island.now.net place island.now others.now → (worker < CLOSER → place ≡ 0)
         → LeadsFrom lat.now via_cost b worker island.now others.now r) }
     ensures size { search.new ≡ search.old }
 {
@@ -95,7 +96,7 @@ pub fn plan_legal_in(
     net: u32,
 ) -> Result<Planned, AllocError>
     requires can_plan { CanPlan d.now lat.now snap.now net via_cost None }
-    requires worker { worker ≤ 16 }
+    requires worker { worker ≤ CLOSER }
     requires size { search.old ≡ node_count lat.now }
     ensures plan { IfOk result (λ p. (b : BoardOf) → IsSnapOf snap.now b → Plans lat.now via_cost b worker net None p) }
     ensures size { search.new ≡ search.old }
@@ -118,7 +119,7 @@ pub fn plan_passing_in(
     penalty: u64,
 ) -> Result<Planned, AllocError>
     requires can_plan { CanPlan d.now lat.now snap.now net via_cost (Some penalty) }
-    requires worker { worker ≤ 16 }
+    requires worker { worker ≤ CLOSER }
     requires size { search.old ≡ node_count lat.now }
     ensures plan { IfOk result (λ p. (b : BoardOf) → IsSnapOf snap.now b
         → Plans lat.now via_cost b worker net (Some penalty) p) }
@@ -144,7 +145,7 @@ fn plan_legal_by_maps(
 ) -> Result<Planned, AllocError>
     requires can_plan { CanPlan d.now lat.now snap.now net via_cost None }
     requires maps { AreMapsOf d.now lat.now snap.now.items maps.now }
-    requires worker { worker ≤ 16 }
+    requires worker { worker ≤ CLOSER }
     requires size { search.old ≡ node_count lat.now }
     ensures plan { IfOk result (λ p. (b : BoardOf) → IsSnapOf snap.now b → Plans lat.now via_cost b worker net None p) }
     ensures size { search.new ≡ search.old }
@@ -173,7 +174,7 @@ fn plan_passing_by_maps(
     requires can_plan { CanPlan d.now lat.now snap.now net via_cost (Some penalty) }
     requires maps { AreMapsOf d.now lat.now snap.now.items maps.now }
     requires fixed { IfSome fixed (λ f. AreMapsOf d.now lat.now d.now.fixed f.now) }
-    requires worker { worker ≤ 16 }
+    requires worker { worker ≤ CLOSER }
     requires size { search.old ≡ node_count lat.now }
     ensures plan { IfOk result (λ p. (b : BoardOf) → IsSnapOf snap.now b
         → Plans lat.now via_cost b worker net (Some penalty) p) }
@@ -204,7 +205,7 @@ pub fn plan_in(
     penalty: Option<u64>,
 ) -> Result<Planned, AllocError>
     requires can_plan { CanPlan d.now lat.now snap.now net via_cost penalty }
-    requires worker { worker ≤ 16 }
+    requires worker { worker ≤ CLOSER }
     requires size { search.old ≡ node_count lat.now }
     ensures plan { IfOk result (λ p. (b : BoardOf) → IsSnapOf snap.now b
         → Plans lat.now via_cost b worker net penalty p) }
@@ -232,7 +233,7 @@ pub fn plan_with<M: Moves>(
     requires can_plan { CanPlan d.now lat.now snap.now net via_cost penalty }
     requires ready { M.ready legal.now }
     requires legal { SameMoves (M.graph legal.now) (legal_graph d.now lat.now snap.now.items net via_cost) }
-    requires worker { worker ≤ 16 }
+    requires worker { worker ≤ CLOSER }
     requires size { search.old ≡ node_count lat.now }
     ensures plan { IfOk result (λ p. (b : BoardOf) → IsSnapOf snap.now b
         → Plans lat.now via_cost b worker net penalty p) }
@@ -262,7 +263,7 @@ pub fn plan_by_maps(
     requires can_plan { CanPlan d.now lat.now snap.now net via_cost penalty }
     requires maps { AreMapsOf d.now lat.now snap.now.items maps.now }
     requires fixed { IfSome fixed (λ f. AreMapsOf d.now lat.now d.now.fixed f.now) }
-    requires worker { worker ≤ 16 }
+    requires worker { worker ≤ CLOSER }
     requires size { search.old ≡ node_count lat.now }
     ensures plan { IfOk result (λ p. (b : BoardOf) → IsSnapOf snap.now b
         → Plans lat.now via_cost b worker net penalty p) }
@@ -288,7 +289,7 @@ pub fn plan(
     penalty: Option<u64>,
 ) -> Result<Planned, AllocError>
     requires can_plan { CanPlan d.now lat.now snap.now net via_cost penalty }
-    requires worker { worker ≤ 16 }
+    requires worker { worker ≤ CLOSER }
     ensures { IfOk result (λ p. (b : BoardOf) → IsSnapOf snap.now b → Plans lat.now via_cost b worker net penalty p) }
 {
     let mut search = Search::new(alloc, lat.count())?;

@@ -1,2 +1,4 @@
 pub mod Named
 pub mod Counted
+pub mod Tallied
+pub mod Stretched

@@ -4,13 +4,17 @@ use Rattle.std.proofs.Common.{sym, ◌∙◌, ap, List, [], ◌∷◌, ◌++◌,
 use Rattle.std.proofs.Common.{get_or, length-drop, arith}
 use Rattle.std.specs.Prelude.{All, Contains}
 use Rattle.std.proofs.lemmas.Bool.{eq-eqb, ne_eqb, eqb-true, false_from_ne_true}
-use Rattle.std.proofs.lemmas.List.{get_or_default, get_or-drop, drop_more, drop_all, append-nil}
+use Rattle.std.proofs.lemmas.List.{at_drop_all, at_drop_more, get_or_default, get_or-drop, drop_more, drop_all}
+use Rattle.std.proofs.lemmas.List.{append-nil}
 use Rattle.std.proofs.lemmas.List.Concat.{flat_map-append}
 use Rattle.std.proofs.lemmas.List.Elements.{All-contains, All-tail}
 use Rattle.std.proofs.lemmas.List.Folds.{Any-from_list_any, list_any-from_Any}
 use Rattle.pcb_model.specs.declared.item.Item.{Item}
 use Rattle.pcb_model.specs.Copper.{Ascends}
 use Rattle.board_offers.proofs.Lists.{all_front, pairs_rest}
+use Rattle.cut_certificate.specs.declared.cut.Block.{Block}
+use Rattle.cut_certificate.specs.declared.cut.Blocker.TheVariants.{Item as OfItem, Outside}
+use Rattle.route_report.specs.Report.{is_item, is_named}
 use Rattle.route_report.specs.Naming.{has_id, holds, is_among, AreAscending}
 
 abbrev Before : Item → Item → Type 0
@@ -147,3 +151,51 @@ pub lines_none : (f : Item → List ℕ) (ids : List ℕ) (i : ℕ) (items : Lis
 lines_none f ids i items past =
     ap (λ (left : List ℕ). flat_map f (filter (is_among left) items)) (drop_all i ids past)
     ∙ ap (λ (xs : List Item). flat_map f xs) (among_none items)
+
+-- a test behind one that fails
+or_end : (b r : Bool) → ((b || false) || r) ≡ (b || r)
+or_end true r = refl
+or_end false r = refl
+
+-- tests behind the same one
+or_front : (b p q r s : Bool) → (p || r) ≡ (q || s) → ((b || p) || r) ≡ ((b || q) || s)
+or_front true p q r s e = refl
+or_front false p q r s e = e
+
+-- what one more id holds
+holds_more : (ids : List ℕ) (new id : ℕ) (r : Bool) → (holds (ids ++ new ∷ []) id || r)
+    ≡ (holds ids id || ((new == id) || r))
+holds_more [] new id r = or_end (new == id) r
+holds_more (x ∷ ids) new id r = or_front (x == id) (holds (ids ++ new ∷ []) id) (holds ids id) r ((new == id) || r)
+    (holds_more ids new id r)
+
+-- a block that names an id, which is held from then on
+pub held_more : (blocked : List Block) (i : ℕ) (d : Block) (new id : ℕ) (n : Bool) (ids more : List ℕ)
+    → i < length blocked → (get_or blocked i d).by ≡ OfItem new → more ≡ ids ++ new ∷ []
+    → (holds ids id || is_named (drop i blocked) id) ≡ n → (holds more id || is_named (drop (i + 1) blocked) id) ≡ n
+held_more blocked i d new id n ids more lt is pushed so_far =
+    let rest = is_named (drop (i + 1) blocked) id in
+    ap (λ xs. holds xs id || rest) pushed ∙ holds_more ids new id rest
+    ∙ ap (λ t. holds ids id || (t || rest)) (sym (ap (is_item id) is))
+    ∙ ap (λ t. holds ids id || t) (sym (at_drop_more (λ bs. is_named bs id) blocked i d lt)) ∙ so_far
+
+-- a block that names none
+pub held_on : (blocked : List Block) (i : ℕ) (d : Block) (id : ℕ) (n : Bool) (ids more : List ℕ)
+    → i < length blocked → (get_or blocked i d).by ≡ Outside → more ≡ ids
+    → (holds ids id || is_named (drop i blocked) id) ≡ n → (holds more id || is_named (drop (i + 1) blocked) id) ≡ n
+held_on blocked i d id n ids more lt is same so_far =
+    let rest = is_named (drop (i + 1) blocked) id in
+    ap (λ xs. holds xs id || rest) same
+    ∙ ap (λ t. holds ids id || (t || rest)) (sym (ap (is_item id) is))
+    ∙ ap (λ t. holds ids id || t) (sym (at_drop_more (λ bs. is_named bs id) blocked i d lt)) ∙ so_far
+
+-- none is left
+pub held_all : (blocked : List Block) (i : ℕ) (id : ℕ) (n : Bool) (ids : List ℕ) → length blocked ≤ i
+    → (holds ids id || is_named (drop i blocked) id) ≡ n → holds ids id ≡ n
+held_all blocked i id n ids past so_far =
+    sym (or_none (holds ids id)) ∙ ap (λ t. holds ids id || t) (sym (at_drop_all (λ bs. is_named bs id) blocked i past))
+    ∙ so_far
+  where
+    or_none : (b : Bool) → (b || false) ≡ b
+    or_none true = refl
+    or_none false = refl

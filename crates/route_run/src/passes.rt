@@ -6,6 +6,7 @@ ghost use Rattle.board_sight.specs.Sights.{IsSeenOn};
 ghost use Rattle.route_lattice.specs.Fits.{FitsDesign};
 ghost use Rattle.route_run.specs.Runs.{run_from, pass_at, penalty_of as penalty_at, HaveEnded};
 ghost use Rattle.route_run.specs.Passing.{IsTask, AreOpenOn, IsMade, EndsBy, HasPassed, Stays};
+ghost use Rattle.board_offers.specs.declared.offer.TheConstants.{CLOSER};
 
 use crate::connections::{OpenNets, look_over};
 use board_sight::{Sight, look};
@@ -72,7 +73,7 @@ fn one_pass<R: Threads + Wait + Sync, G: Gate + Sync>(
     gate: &G,
 ) -> Result<Made, AllocError>
     requires task { IsTask board.design lat.now via_cost }
-    requires workers { (1 ≤ workers) × (workers ≤ 16) }
+    requires workers { (1 ≤ workers) × (workers ≤ CLOSER) }
     requires number { number ≤ 99 }
     requires open_nets { AreOpenOn board open_nets }
     requires base { IfSome base (λ s. IsSeenOn lat.now board s.now) }
@@ -135,7 +136,7 @@ pub(crate) fn make_passes<R: Threads + Wait + Sync, G: Gate + Sync>(
     gate: &G,
 ) -> Result<(Board, List<PassLine>), AllocError>
     requires task { IsTask board.design lat.now via_cost }
-    requires workers { (1 ≤ workers) × (workers ≤ 16) }
+    requires workers { (1 ≤ workers) × (workers ≤ CLOSER) }
     requires passes { (1 ≤ passes) × (passes ≤ 99) }
     requires new { board.history ≡ [] }
     ensures passed { IfOk result (λ r. HasPassed lat.now (run_from via_cost workers passes) r.0 r.1) }

@@ -6,6 +6,7 @@ ghost use Rattle.pcb_model.specs.Sound.{IsSound};
 ghost use Rattle.pcb_model.specs.Plain.{IsPlainCopper};
 ghost use Rattle.route_run.specs.Runs.{IsRun, run_from};
 ghost use Rattle.route_run.specs.Passing.{IsTask};
+ghost use Rattle.board_offers.specs.declared.offer.TheConstants.{CLOSER};
 
 use crate::facts::{all_cuts, complete_nets};
 use crate::keep::{best_of, go_back};
@@ -47,7 +48,7 @@ pub fn run_nets<R: Threads + Wait + Sync, G: Gate + Sync>(
     requires sound { IsSound design }
     requires plain { IsPlainCopper design }
     requires task { IsTask design lat.now via_cost }
-    requires workers { (1 ≤ workers) × (workers ≤ 16) }
+    requires workers { (1 ≤ workers) × (workers ≤ CLOSER) }
     requires passes { (1 ≤ passes) × (passes ≤ 99) }
     ensures { IfOk result (λ r. IsRun design lat.now (run_from via_cost workers passes) r.board r.facts) }
 {

@@ -12,6 +12,8 @@ use Rattle.route_words.specs.declared.command.Command.TheVariants.{Route, Gen}
 use Rattle.route_words.specs.declared.command.Knobs.{Knobs}
 use Rattle.route_words.specs.declared.command.WordFault.{WordFault}
 use Rattle.route_words.specs.declared.command.WordFault.TheVariants.{NoCommand, UnknownCommand, Usage, Memory}
+use Rattle.route_words.specs.declared.limits.TheConstants.{LAST_BOARD, LONGEST_GRID, MOST_PASSES, MOST_VIA_COST}
+use Rattle.route_words.specs.declared.limits.TheConstants.{MOST_WORKERS, PASSES, VIA_COST, WORKERS}
 
 -- ---- numbers
 
@@ -44,7 +46,7 @@ number_or default least most (Some word) = number_between least most word
 -- the grid in nm of a value in um, if one is given; None where the value is no such number
 abbrev pub grid_in : Option Word → Option (Option ℕ)
 grid_in None = Some None
-grid_in (Some word) = option_map (λ um. Some (1000 * um)) (number_between 1 100000 word)
+grid_in (Some word) = option_map (λ um. Some (1000 * um)) (number_between 1 LONGEST_GRID word)
 
 -- the knobs that these values of `--grid`, `--workers`, `--passes` and `--via-cost` give, the first and last in um
 abbrev pub knobs_in : Option Word → Option Word → Option Word → Option Word → Bool → Option Knobs
@@ -55,7 +57,8 @@ knobs_in grid workers passes via_cost omit_fixed =
       passes = passes;
       via_cost = 1000 * um;
       omit_fixed = omit_fixed;
-    }) (number_or 2000 0 1000000 via_cost)) (number_or 10 1 99 passes)) (number_or 4 1 16 workers)) (grid_in grid)
+    }) (number_or VIA_COST 0 MOST_VIA_COST via_cost)) (number_or PASSES 1 MOST_PASSES passes))
+    (number_or WORKERS 1 MOST_WORKERS workers)) (grid_in grid)
 
 -- the knobs that the options among the parts give
 abbrev pub knobs_of : List Part → Option Knobs
@@ -87,9 +90,9 @@ route_of words =
 
 -- ---- gen
 
--- exactly one name, which is a number from 1 to 400
+-- exactly one name, which is the number of a generated board
 abbrev pub gen_with : List Word → Result Command WordFault
-gen_with (word ∷ []) = unwrap_or (option_map (λ n. Ok (Gen n)) (number_between 1 400 word)) (Err Usage)
+gen_with (word ∷ []) = unwrap_or (option_map (λ n. Ok (Gen n)) (number_between 1 LAST_BOARD word)) (Err Usage)
 gen_with names = Err Usage
 
 abbrev pub gen_form : Form
@@ -127,12 +130,12 @@ Says told (Ok value) = told ≡ Ok value
 
 -- knobs in their ranges, lengths in nm
 pub record AreWithin (knobs : Knobs) : Type 0 where
-  pub grid : IfSome knobs.grid (λ nm. (1000 ≤ nm) × (nm ≤ 100000000))
-  pub workers : (1 ≤ knobs.workers) × (knobs.workers ≤ 16)
-  pub passes : (1 ≤ knobs.passes) × (knobs.passes ≤ 99)
-  pub via_cost : knobs.via_cost ≤ 1000000000
+  pub grid : IfSome knobs.grid (λ nm. (1000 ≤ nm) × (nm ≤ 1000 * LONGEST_GRID))
+  pub workers : (1 ≤ knobs.workers) × (knobs.workers ≤ MOST_WORKERS)
+  pub passes : (1 ≤ knobs.passes) × (knobs.passes ≤ MOST_PASSES)
+  pub via_cost : knobs.via_cost ≤ 1000 * MOST_VIA_COST
 
 -- names that aren't empty, and numbers in their ranges
 abbrev pub IsWithin : Command → Type 0
 IsWithin (Route input output knobs) = (0 < length input) × (0 < length output) × AreWithin knobs
-IsWithin (Gen n) = (1 ≤ n) × (n ≤ 400)
+IsWithin (Gen n) = (1 ≤ n) × (n ≤ LAST_BOARD)

@@ -8,6 +8,9 @@ ghost use Rattle.route_words.specs.Words.{is_digit, number_in, is_short_number, 
 ghost use Rattle.route_words.specs.Words.{grid_in, knobs_in};
 
 use crate::Knobs;
+use crate::limits::{
+    LONGEST_GRID, MOST_PASSES, MOST_VIA_COST, MOST_WORKERS, PASSES, VIA_COST, WORKERS,
+};
 
 fn tests_digit(c: u8) -> bool
     ensures { result ≡ is_digit c }
@@ -82,7 +85,7 @@ fn read_grid(word: Option<&str>) -> Option<Option<u64>>
     match word {
         None => Some(None),
         Some(word) => {
-            let um = read_number(1, 100_000, word)?;
+            let um = read_number(1, LONGEST_GRID, word)?;
             Some(Some(nm_of(um)))
         }
     }
@@ -101,9 +104,9 @@ pub(crate) fn read_knobs(
         (option_map (λ w. w.now) passes.entry) (option_map (λ w. w.now) via_cost.entry) omit_fixed }
 {
     let grid = read_grid(grid)?;
-    let workers = number_or(4, 1, 16, workers)?;
-    let passes = number_or(10, 1, 99, passes)?;
-    let um = number_or(2_000, 0, 1_000_000, via_cost)?;
+    let workers = number_or(WORKERS, 1, MOST_WORKERS, workers)?;
+    let passes = number_or(PASSES, 1, MOST_PASSES, passes)?;
+    let um = number_or(VIA_COST, 0, MOST_VIA_COST, via_cost)?;
     Some(Knobs {
         grid,
         workers,

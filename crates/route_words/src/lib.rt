@@ -5,6 +5,7 @@
 mod command;
 mod form;
 mod knobs;
+pub mod limits;
 mod text;
 mod words;
 

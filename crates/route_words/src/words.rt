@@ -9,6 +9,7 @@ ghost use Rattle.route_words.specs.Forms.{is_on, knobs_found};
 
 use crate::form::{find_gen, find_route};
 use crate::knobs::{read_knobs, read_number};
+use crate::limits::LAST_BOARD;
 use crate::{Command, Knobs, Text, WordFault};
 use clap::ArgMatches;
 use std::alloc::Global;
@@ -85,7 +86,7 @@ fn read_gen(alloc: Global, words: &[String]) -> Result<Command, WordFault>
     let Some(word) = found.get_str("number") else {
         return Err(WordFault::Usage);
     };
-    match read_number(1, 400, word) {
+    match read_number(1, LAST_BOARD, word) {
         Some(n) => Ok(Command::Gen { n }),
         None => Err(WordFault::Usage),
     }

@@ -16,13 +16,15 @@ use Rattle.dsn_shapes.specs.declared.parts.Network.{Network}
 use Rattle.dsn_shapes.specs.declared.parts.Placing.{Placing}
 use Rattle.dsn_shapes.specs.declared.parts.ReadWire.{ReadWire}
 use Rattle.dsn_shapes.specs.declared.parts.Structure.{Structure}
+use Rattle.dsn_shapes.specs.declared.refusal.What.TheVariants.{Items}
+use Rattle.dsn_shapes.specs.Limits.{too_many}
 use Rattle.dsn_shapes.specs.Refusals.{least, refused}
 use Rattle.dsn_shapes.specs.Known.{form_heads}
 use Rattle.dsn_shapes.specs.Lists.{at_of, has_head, left_out, left_out_in, lists, place_of}
 use Rattle.dsn_shapes.specs.Names.{stack_names}
 use Rattle.dsn_shapes.specs.Shapes.{shape_of, shape_refusals}
 use Rattle.dsn_shapes.proofs.Fits.{back_nil, each_nil, front_nil, none_left, test_fails}
-use Rattle.dsn_wiring.specs.Counts.{items_before, too_many}
+use Rattle.dsn_wiring.specs.Counts.{items_before}
 use Rattle.dsn_wiring.specs.Layers.{layers_below}
 use Rattle.dsn_wiring.specs.Nets.{net_names, net_refusals}
 use Rattle.dsn_wiring.specs.Vias.{via_metal, via_refusals}
@@ -157,6 +159,6 @@ wires_long nm st lib placing net pcb none =
     let lefts = each_nil (λ t. flat_map left_out (items_of t)) ts
     (back_nil (left_out_in (wirings pcb)) _ (front_nil (lists_left_out (wirings pcb) ts) _ all)) in
     let refusals = each_nil (refusals_of nm st.layers lib.stacks names nets) ts
-    (back_nil (too_many (items_before st lib placing) ts) _ rest) in
+    (back_nil (too_many Items (items_before st lib placing) ts) _ rest) in
     All-map (λ (w : ReadWire). HasTwoPoints w.metal) (wire_of nm st.layers names nets) ts (λ k d within.
     one_long nm st.layers lib.stacks names nets (get_or ts k d) (lefts k d within) (refusals k d within))

@@ -14,6 +14,7 @@ ghost use Rattle.ses_reader.specs.declared.item.SesFault.{SesFault as OneSesFaul
 ghost use Rattle.ses_reader.specs.Reading.{ReadsSession};
 ghost use Rattle.reading_law.specs.Back.{TellsWiring};
 ghost use Rattle.run_reading.specs.Wired.{HasWiring};
+ghost use Rattle.board_offers.specs.declared.offer.TheConstants.{CLOSER};
 
 use reading_law::sessions_read_back;
 use scale_law::runs_are_on_scale;
@@ -28,7 +29,7 @@ pub fn designs_have_wiring()
 /// printed wiring, item by item in the printed order, or want of memory, whether the fixed wiring is left out or not.
 pub fn runs_read_back()
     ensures { (text : Seq ℕ) (d : TheDesign) (grid : ℕ) (r : RunOf) (b : BoardOf) (facts : RunFacts)
-        (omit_fixed : Bool) (result : Result (Seq OneSesItem) OneSesFault) → HasDesign text d → r.workers ≤ 16
+        (omit_fixed : Bool) (result : Result (Seq OneSesItem) OneSesFault) → HasDesign text d → r.workers ≤ CLOSER
         → IsRun d (lattice_of d grid) r b facts → ReadsSession (session_of d b.items omit_fixed) d result
         → TellsWiring d b.items omit_fixed result }
 {

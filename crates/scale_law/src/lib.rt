@@ -14,6 +14,7 @@ ghost use Rattle.route_report.specs.declared.facts.Facts.{Facts as RunFacts};
 ghost use Rattle.route_run.specs.Runs.{AreLeast, IsRun, RunOf};
 ghost use Rattle.ses_writer.specs.Words.{nearest};
 ghost use Rattle.session_law.specs.Told.{IsOnScale};
+ghost use Rattle.board_offers.specs.declared.offer.TheConstants.{CLOSER};
 
 /// Where each join of a board was a least offer on the design's lattice, and those without a penalty take nothing out,
 /// the routed copper is on the scale of its session after each number of entries.
@@ -26,7 +27,7 @@ pub fn least_joins_are_on_scale()
 
 /// So is that of a run on a lattice of its design, made by at most 16 workers.
 pub fn runs_are_on_scale()
-    ensures { (d : TheDesign) (grid : ℕ) (r : RunOf) (b : BoardOf) (facts : RunFacts) → r.workers ≤ 16
+    ensures { (d : TheDesign) (grid : ℕ) (r : RunOf) (b : BoardOf) (facts : RunFacts) → r.workers ≤ CLOSER
         → IsRun d (lattice_of d grid) r b facts
         → (n : ℕ) → n ≤ length b.history → IsOnScale (scale_of d).nm (replayed b n) }
 {}

@@ -28,6 +28,7 @@ use Rattle.searcher_pool.specs.declared.worker.Attempt.{Attempt}
 use Rattle.searcher_pool.specs.declared.worker.Attempt.TheVariants.{Ended, Joined, Late}
 use Rattle.searcher_pool.specs.Passes.{PassOf, IsTold, IsSpent, EndsTask}
 use Rattle.searcher_pool.specs.Passes.{named, IsStale, IsStaleOf, IsFullAnswer}
+use Rattle.board_offers.specs.declared.offer.TheConstants.{CLOSER}
 
 abbrev pub pass_from : Mesh → ℕ → ℕ → List ℕ → Option ℕ → PassOf
 pass_from m via_cost workers tasks penalty = record {
@@ -54,7 +55,7 @@ pub record IsTurnOf (p : PassOf) (t : TurnOf) : Type 0 where
   pub board : IsBoard (opening t)
   pub task : IsTask p (opening t).design
   pub count : count_of t ≡ p.workers
-  pub few : p.workers ≤ 16
+  pub few : p.workers ≤ CLOSER
 
 -- the maps of a job, if it has any, are those of the design's fixed items alone
 pub record HasFixed (j : Job) (d : Design) : Type 0 where

@@ -11,6 +11,7 @@ ghost use Rattle.board_turn.specs.Turns.{passes_of, opening};
 ghost use Rattle.searcher_pool.specs.Passes.{claimed};
 ghost use Rattle.searcher_pool.specs.Working.{pass_of, IsTurnOf, HasFixed, MayWork, Worked};
 ghost use Rattle.searcher_pool.specs.Crews.{AreFresh, AreBack, AreLogsOf, AreEnded};
+ghost use Rattle.board_offers.specs.declared.offer.TheConstants.{CLOSER};
 
 use crate::log::WorkerLog;
 use crate::worker::{Job, Worker, work};
@@ -168,7 +169,7 @@ pub(crate) fn dismiss(
     logs: &mut Vec<WorkerLog>,
     crew: &mut Crew,
 ) -> bool
-    requires some { (0 < job.workers) × (job.workers ≤ 16) }
+    requires some { (0 < job.workers) × (job.workers ≤ CLOSER) }
     requires crew { AreBack (pass_of job) turn.now counter.now crew.old.items }
     requires home { (home.old.table ≡ counter.now.table) × (home.old.hand ≡ hand (17 - job.workers) [] 0) }
     requires room { (passes.old.items ≡ []) × (vec_len passes.old ≡ 0) × (job.workers ≤ vec_capacity passes.old) }

@@ -10,6 +10,7 @@ ghost use Rattle.board_turn.specs.Turns.{passes_of, opening};
 ghost use Rattle.searcher_pool.specs.Passes.{IsPassed, Grows};
 ghost use Rattle.searcher_pool.specs.Working.{pass_of, pass_from, IsTask, IsTurnOf, HasFixed};
 ghost use Rattle.searcher_pool.specs.Crews.{AreRooms};
+ghost use Rattle.board_offers.specs.declared.offer.TheConstants.{CLOSER};
 
 use crate::crew::{Crew, crew_works, dismiss, searches, staff};
 use crate::log::WorkerLog;
@@ -144,7 +145,7 @@ pub fn run_pass_from<R: Threads + Wait + Sync, G: Gate + Sync>(
     base: Option<&Sight>,
     gate: &G,
 ) -> Result<(Board, Vec<WorkerLog>), PassBack>
-    requires workers { (1 ≤ workers) × (workers ≤ 16) }
+    requires workers { (1 ≤ workers) × (workers ≤ CLOSER) }
     requires task { IsTask (pass_from lat.now via_cost workers tasks.items penalty) board.design }
     requires few { vec_len tasks < 2 ^ 32 }
     requires base { IfSome base (λ s. IsSeenOn lat.now board s.now) }
@@ -202,7 +203,7 @@ pub fn run_pass<R: Threads + Wait + Sync, G: Gate + Sync>(
     penalty: Option<u64>,
     gate: &G,
 ) -> Result<(Board, Vec<WorkerLog>), PassBack>
-    requires workers { (1 ≤ workers) × (workers ≤ 16) }
+    requires workers { (1 ≤ workers) × (workers ≤ CLOSER) }
     requires task { IsTask (pass_from lat.now via_cost workers tasks.items penalty) board.design }
     requires few { vec_len tasks < 2 ^ 32 }
     ensures ok { IfOk result

@@ -9,6 +9,7 @@ ghost use Rattle.board_turn.specs.Turns.{opening};
 ghost use Rattle.searcher_pool.specs.Working.{pass_of, IsTurnOf, IsReady, IsDrawn, IsPlanned, IsAfter, Attempts};
 ghost use Rattle.searcher_pool.specs.Working.{attempt_of, EndsSeen, EndsDrawn, IsSeated, MayWork, Worked};
 ghost use Rattle.searcher_pool.specs.Working.{HasSeen, HasFixed};
+ghost use Rattle.board_offers.specs.declared.offer.TheConstants.{CLOSER};
 
 use crate::log::OfferNote;
 use board_sight::{Sight, see};
@@ -125,7 +126,7 @@ fn plan_on(
 ) -> Result<Planned, AllocError>
     requires can_plan { CanPlan snap.design job.lat.now snap net job.via_cost job.penalty }
     requires fixed { HasFixed job snap.design }
-    requires number { number ≤ 16 }
+    requires number { number ≤ CLOSER }
     requires size { search.old ≡ node_count job.lat.now }
     requires sight { IfSome sight.old (λ s. IsLater job.lat.now s snap) }
     ensures plan { IfOk result (λ p. (b : BoardOf) → IsSnapOf snap b

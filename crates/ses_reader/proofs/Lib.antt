@@ -1,3 +1,4 @@
 pub mod Fractions
+pub mod Naming
 pub mod OneSession
 pub mod Sound

@@ -7,6 +7,7 @@ ghost use Rattle.ses_reader.specs.Measures.{IsFar, IsFractionOf, coord_of, exten
 
 use dsn_units::Decimal;
 use geo_kernel::Unit;
+use geo_kernel::limits::{FURTHEST, WIDEST};
 
 /// The unit of a session's numbers: `per` of it are one `unit`.
 #[derive(Clone, Copy, PartialEq, Eq)]
@@ -111,11 +112,6 @@ fn nearest(negative: bool, f: Fraction) -> i128
     rounded(signed(negative, f.above), f.below)
 }
 
-// The greatest size of a coordinate, and the greatest extent, in nm.
-const FURTHEST: u128 = 0x2000_0000;
-
-const WIDEST: u128 = 0x1000_0000;
-
 /// The decimal as a coordinate in nm: the nearest whole number, the upper one of two that are equally near.
 /// None exactly where that passes 2^29 in absolute value.
 #[tactic(auto, unfolding(crate::specs::Measures::coord_of))]
@@ -127,7 +123,7 @@ pub(crate) fn coord(d: &Decimal, m: Measure) -> Option<i64>
         return None;
     };
     let nearest = nearest(d.negative, f);
-    if nearest.unsigned_abs() > FURTHEST {
+    if nearest.unsigned_abs() > FURTHEST as u128 {
         return None;
     }
     Some(nearest as i64)
@@ -147,7 +143,7 @@ pub(crate) fn extent(d: &Decimal, m: Measure) -> Option<u64>
         return None;
     };
     let size = f.above.div_ceil(f.below);
-    if size > WIDEST {
+    if size > WIDEST as u128 {
         return None;
     }
     Some(size as u64)

@@ -9,11 +9,11 @@ ghost use Rattle.ses_reader.specs.Measures.{measure_in, resolution_refusal, reso
 use crate::measure::Measure;
 use crate::numbers::note_unless;
 use crate::table::{NO_MEASURE, NO_SESSION};
-use dsn_shapes::limits::MOST_PER;
 use dsn_shapes::{Refusal, at_of, name_of, note, place_of, refused};
 use dsn_tree::{Tree, child};
 use dsn_units::{read_decimal, whole_number};
 use geo_kernel::Unit;
+use pcb_model::limits::MOST_PER;
 
 fn unit_of(text: &[u8]) -> Option<Unit>
     ensures { result ≡ unit_of text.now }

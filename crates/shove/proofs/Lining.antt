@@ -1,6 +1,7 @@
 -- The next of ascending lines.
 use Rattle.std.proofs.Common.{◌≡◌, ℕ, ℤ, pos, ◌-◌, ◌<◌, ◌≤◌, ◌≤ℤ◌, ◌<ℤ◌, true, false, true≢false, List, [], ◌∷◌, length}
 use Rattle.std.proofs.Common.{get_or, refl, sym, ◌∙◌, arith, inl, inr, ◌⊎◌, int_lt, int_le}
+use Rattle.std.proofs.Common.{◌≢◌, ap₂, Bool, Option, Some, None, subst}
 use Rattle.std.specs.Prelude.{Contains}
 use Prim.Native.Nat.{zero, suc}
 use Rattle.std.specs.Ordering.{int_cmp}
@@ -8,9 +9,11 @@ use Rattle.std.specs.List.Sorted.{IsStrictlySortedBy}
 use Rattle.std.proofs.lemmas.Int.{ints}
 use Rattle.std.proofs.lemmas.List.Elements.{Contains-get_or}
 use borrow.Author.Differences.{true_is_lt, false_is_le}
+use Rattle.geo_kernel.specs.declared.point.Point.{Point}
+use Rattle.route_lattice.specs.Mesh.{Mesh}
 use Rattle.route_lattice.proofs.Covering.{le_or_lt}
 use Rattle.route_lattice.proofs.Between.{lines_rise}
-use Rattle.shove.specs.Shoves.{IsNextAbove, IsNextBelow}
+use Rattle.shove.specs.Shoves.{IsNextAbove, IsNextBelow, IsNextLine, FindsLine, FindsRun}
 
 pub passes_le : (x y : ℤ) → int_le x y ≡ true → x ≤ℤ y
 passes_le x y e = elim (le_or_lt x y) [
@@ -78,3 +81,42 @@ module _ (lines : List ℤ) (at : ℤ) (place : ℕ) (up : IsStrictlySortedBy in
         | inr h ↦ let l = high there.0 h there.1 in let e = at_place z there in absurd (omega (arith, ints))
       ];
     }
+
+-- ---- where a run goes
+abbrev point_at : ℤ → ℤ → Point
+point_at x y = record { x = x; y = y }
+
+module _ (m : Mesh) (up : Bool) (a b : Point) (lines : List ℤ) where
+  pub moves_across : lines ≡ m.ys → a.y ≡ b.y → a.x ≢ b.x → (y : ℤ) → FindsLine up lines a.y (Some y)
+      → (ax bx z : ℤ) → ax ≡ a.x → bx ≡ b.x → z ≡ y
+      → FindsRun m up a b (Some (record { x = ax; y = z }, record { x = bx; y = z }))
+  moves_across is one_y apart y next ax bx z ax_is bx_is z_is = inl (record {
+    one_y = one_y;
+    apart = apart;
+    line = y;
+    next = subst (λ (zs : List ℤ). IsNextLine up zs a.y y) is next;
+    to_a_is = ap₂ point_at ax_is z_is;
+    to_b_is = ap₂ point_at bx_is z_is;
+  })
+
+  pub stays_across : lines ≡ m.ys → a.y ≡ b.y → FindsLine up lines a.y None → FindsRun m up a b None
+  stays_across is one_y none p q (inl across) =
+      none across.line (subst (λ (zs : List ℤ). IsNextLine up zs a.y across.line) (sym is) across.next)
+  stays_across is one_y none p q (inr upright) = upright.apart one_y
+
+  pub moves_upright : lines ≡ m.xs → a.x ≡ b.x → a.y ≢ b.y → (x : ℤ) → FindsLine up lines a.x (Some x)
+      → (ay cy z : ℤ) → ay ≡ a.y → cy ≡ b.y → z ≡ x
+      → FindsRun m up a b (Some (record { x = z; y = ay }, record { x = z; y = cy }))
+  moves_upright is one_x apart x next ay cy z ay_is cy_is z_is = inr (record {
+    one_x = one_x;
+    apart = apart;
+    line = x;
+    next = subst (λ (zs : List ℤ). IsNextLine up zs a.x x) is next;
+    to_a_is = ap₂ point_at z_is ay_is;
+    to_b_is = ap₂ point_at z_is cy_is;
+  })
+
+  pub stays_upright : lines ≡ m.xs → a.x ≡ b.x → a.y ≢ b.y → FindsLine up lines a.x None → FindsRun m up a b None
+  stays_upright is one_x apart none p q (inl across) = apart across.one_y
+  stays_upright is one_x apart none p q (inr upright) =
+      none upright.line (subst (λ (zs : List ℤ). IsNextLine up zs a.x upright.line) (sym is) upright.next)

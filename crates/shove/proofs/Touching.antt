@@ -127,3 +127,10 @@ one_of (x ∷ xs) up a b (suc i, w, e) (zero, v, f) h =
     let s : x.id ≡ b.id = ap (λ (y : Item). y.id) f in absurd (omega arith)
 one_of (x ∷ xs) up a b (suc i, w, e) (suc j, v, f) h = one_of xs (rest_rises x xs up) a b (i, omega arith, e)
     (j, omega arith, f) h
+
+-- an item that disagrees keeps the new one out
+pub clash_out : (d : Design) (items : List Item) (old new : Item) → new.id ≡ old.id → (id : ℕ)
+    → Finds (λ b. Agrees d new b → ⊥) (Agrees d new) 0 (Some new.id) items (Some id) → CanReplace d items old new → ⊥
+clash_out d items old new one_id id found can =
+    found.holds (can.agrees found.item found.there
+    (λ e. found.looked_at.1 (ap (λ (n : ℕ). Some n) (one_id ∙ sym e))))

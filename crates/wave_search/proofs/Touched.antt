@@ -1,6 +1,7 @@
 -- What is known of the touched nodes after a write.
 use Rattle.std.proofs.Common.{◌≡◌, ℕ, ◌<◌, List, [], ◌∷◌, ◌++◌, length, Option, Some, None, Bool, true, false}
-use Rattle.std.proofs.Common.{sym, refl, ◌∙◌, subst, inl, inr, arith}
+use Rattle.std.proofs.Common.{get_or, length-append, sym, refl, ◌∙◌, subst, inl, inr, arith}
+use Rattle.std.proofs.lemmas.List.{get_or_append_left}
 use Rattle.std.specs.Prelude.{Contains, All}
 use Rattle.std.proofs.lemmas.List.Elements.{All-push, Contains-append_left, Contains-push, Contains-push_cases}
 use Rattle.std.proofs.lemmas.Option.{none-some}
@@ -79,6 +80,14 @@ untouched t unlisted touched none empty =
       covers = λ all v l f. absurd (none-some l (sym (none v) ∙ f));
       labelled = λ all v c. absurd (omega (arith, c.1));
     })
+
+-- without the last of the touched, the others are nodes
+pub fewer_nodes : (t t' : List (Option Label)) (touched rest : List ℕ) (v : ℕ) → length t' ≡ length t
+    → touched ≡ rest ++ v ∷ [] → All (λ u. u < length t) touched → All (λ u. u < length t') rest
+fewer_nodes t t' touched rest v same all_is all = λ k d lt.
+    let long : k < length (rest ++ v ∷ []) = omega (arith, lt, length-append rest (v ∷ [])) in
+    let below : get_or (rest ++ v ∷ []) k d < length t = subst (All (λ u. u < length t)) all_is all k d long in
+    omega (arith, below, same, get_or_append_left rest (v ∷ []) d k lt)
 
 -- the last of the touched loses its label
 pub cleared : (t t' : List (Option Label)) (touched rest : List ℕ) (v : ℕ) → label_at t' v ≡ None

@@ -1,7 +1,8 @@
-use Rattle.std.proofs.Common.{◌≡◌, ℕ, ◌+◌, Some, false, List, [], ◌∷◌, ◌++◌, length, take, sym, ◌∙◌, ap, arith}
-use Rattle.std.proofs.lemmas.List.{take_more, length-take-le}
+use Rattle.std.proofs.Common.{◌≡◌, ℕ, ◌+◌, Some, false, List, [], ◌∷◌, ◌++◌, length, take, sym, ◌∙◌, ap, subst, arith}
+use Rattle.std.proofs.lemmas.List.{take_all, take_more, length-take-le}
 use Rattle.pcb_model.specs.declared.item.Metal.{Metal}
 use Rattle.pcb_model.specs.declared.item.Item.{Item}
+use Rattle.pcb_model.specs.Bounds.{IsMetalFit}
 use Rattle.pcb_model.specs.Pieces.{item_of}
 use Rattle.board_offers.specs.Items.{added_from}
 use Rattle.board_offers.proofs.Making.{added_more}
@@ -30,3 +31,23 @@ loop-m-preserved c =
           ∙ sym (ap (added_from d net first) more);
       counted = let e = c.loop-m.invariant.counted in omega (arith, e);
     }
+
+pub loop-m-init : goal.loop-m-init
+loop-m-init c = record { items = c.new-items.ensures.items; counted = omega arith }
+
+pub make_item-requires-clause-place : goal.make_item-requires-clause-place
+make_item-requires-clause-place c =
+    subst IsMetalFit (sym (c.in_ok-metal.ensures ∙ c.m-item.is))
+    (c.requires.fit c.loop-m.m-index c.m-item.result c.loop-m-test.true)
+
+pub overflow_add-id : goal.overflow_add-id
+overflow_add-id c =
+    let room = c.requires.room in
+    let e = c.loop-m.invariant.counted in
+    let l = c.loop-m-test.true in
+    omega (arith, room, e, l)
+
+pub returns : goal.returns
+returns c =
+    let all = take_all c.loop-m.m-index c.args.add.now c.loop-m-test.false in
+    c.loop-m.invariant.items ∙ ap (added_from c.args.d.now c.args.net c.args.first) all

@@ -1,6 +1,8 @@
-use Rattle.std.proofs.Common.{◌≡◌, ℕ, ◌+◌, Option, Some, List, [], ◌∷◌, ◌++◌, length, take, sym, ◌∙◌, ap, subst, arith}
+use Rattle.std.proofs.Common.{◌≡◌, ℕ, ◌+◌, Option, Some, None, List, [], ◌∷◌, ◌++◌, length, take, sym, ◌∙◌, ap, subst}
+use Rattle.std.proofs.Common.{All, arith}
 use Rattle.std.specs.Prelude.{MatchOption}
-use Rattle.std.proofs.lemmas.List.{take_more, length-take-le}
+use Rattle.std.proofs.lemmas.List.{take_all, take_more, length-take-le}
+use Rattle.std.proofs.lemmas.List.Elements.{All-nil}
 use Rattle.pcb_model.specs.declared.item.Item.{Item}
 use Rattle.board_offers.specs.declared.offer.Shoved.{Shoved}
 use Rattle.board_offers.specs.Items.{item_at, replaced_from, reshaped}
@@ -36,3 +38,31 @@ loop-s-preserved c =
       counted = let e = c.loop-s.invariant.counted in omega (arith, e);
       each = front_more P shoves i s c.loop-s-test.true c.s-item.is c.loop-s.invariant.each r.0;
     }
+
+pub loop-s-init : goal.loop-s-init
+loop-s-init c = record { items = c.new-items.ensures.items; counted = omega arith; each = All-nil _ }
+
+pub overflow_add-id : goal.overflow_add-id
+overflow_add-id c =
+    let room = c.requires.room in
+    let e = c.loop-s.invariant.counted in
+    let l = c.loop-s-test.true in
+    omega (arith, room, e, l)
+
+pub returns-in_default : goal.returns-in_default
+returns-in_default c = λ all.
+    let s = c.s-item.result in
+    let P : Shoved → Type 0 = MayShove c.args.d.now c.args.given.now c.args.net c.args.added.now in
+    subst
+    (λ (o : Option Item).
+    MatchOption o (¬ (P s))
+    (λ (a : Item). P s × (a ≡ reshaped c.args.d.now c.loop-s.id s.chain (item_at c.args.given.now s.id))))
+    {x = _} {y = None} c.in_default.is c.in_ok-item.ensures
+    (subst P (sym c.s-item.is) (all c.loop-s.s-index s c.loop-s-test.true))
+
+pub returns : goal.returns
+returns c =
+    let all = take_all c.loop-s.s-index c.args.shoves.now c.loop-s-test.false in (
+      subst (All (MayShove c.args.d.now c.args.given.now c.args.net c.args.added.now)) all c.loop-s.invariant.each,
+      c.loop-s.invariant.items ∙ ap (replaced_from c.args.d.now c.args.given.now c.args.first) all,
+    )

@@ -1,7 +1,6 @@
-use Rattle.std.proofs.Common.{Some, false, ap, ◌∙◌}
+use Rattle.std.proofs.Common.{Some, false, refl, ap, ◌∙◌}
 use Rattle.std.proofs.lemmas.List.{take_all}
 use Rattle.std.proofs.lemmas.List.Elements.{All-same}
-use Rattle.pcb_model.specs.declared.item.Metal.{Metal}
 use Rattle.pcb_model.specs.Pieces.{item_of}
 use Rattle.pcb_model.specs.Bounds.{IsItemFit}
 use Rattle.board_offers.specs.Items.{added_from}
@@ -12,11 +11,9 @@ pub loop-i-preserved : goal.loop-i-preserved
 loop-i-preserved c =
     let d = c.args.d.now in
     let m = c.index-metals-i.result in
-    one_added d c.args.net c.args.metals.now c.loop-i.i m m c.in_ok-make_item.field-0 c.loop-i.items c.push.new.self
-    c.loop-i-test.true c.index-metals-i.is c.loop-i.invariant
-    (c.in_ok-make_item.ensures ∙ ap (λ (x : Metal). item_of d c.loop-i.i (Some c.args.net) false x)
-    c.in_ok-metal.ensures)
-    c.in_ok-push.ensures.ok
+    one_added d c.args.net c.args.metals.now c.loop-i.i m m (item_of d c.loop-i.i (Some c.args.net) false m)
+    c.loop-i.items c.add_item.new.items c.loop-i-test.true c.index-metals-i.is c.loop-i.invariant refl
+    c.in_ok-add_item.ensures
 
 pub returns-clause-fit : goal.returns-clause-fit
 returns-clause-fit c =

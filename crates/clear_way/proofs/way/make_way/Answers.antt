@@ -1,7 +1,10 @@
-use Rattle.std.proofs.Common.{map, Some, subst, ap, ◌∙◌}
+use Rattle.std.proofs.Common.{◌≡◌, List, map, Some, None, All, sym, subst, ap, ◌∙◌}
+use Rattle.pcb_model.specs.declared.item.Metal.{Metal}
+use Rattle.pcb_model.specs.Bounds.{IsItemFit}
+use Rattle.path_wire.specs.Lays.{IsWellLaid}
 use Rattle.board_offers.specs.Items.{added_from}
 use Rattle.clear_way.specs.Ways.{shove_of, MovesAll}
-use Rattle.clear_way.proofs.Moving.{shoved_way}
+use Rattle.clear_way.proofs.Moving.{shoved_way, ripped_way}
 use Rattle.clear_way.proofs.way.make_way.Goals as goal
 
 pub returns-in-Some : goal.returns-in-Some
@@ -16,3 +19,35 @@ returns-in-Some g c =
     (subst (MovesAll d m items c.as_slice-2.result.now c.as_slice-3.result.now) {x = _} {y = Some c.in-Some.moved}
     c.in-Some.is c.in_ok-moved.ensures)
     c.new-in-Some.ensures (c.in_ok-shoves_of-in-Some.ensures ∙ ap (map shove_of) c.as_slice-in-Some.ensures)
+
+pub to_rip-requires : goal.to_rip-requires
+to_rip-requires g c =
+    record { sound = c.requires.sound; serves = c.requires.serves; fit = c.in_ok-new.ensures.fit }
+
+pub added_items-requires : goal.added_items-requires
+added_items-requires g c = record {
+  sound = c.requires.sound;
+  well = subst (All (IsWellLaid c.args.d.now c.args.net 0)) (sym c.as_slice.ensures) c.requires.well;
+}
+
+pub moved_items-requires : goal.moved_items-requires
+moved_items-requires g c = record {
+  sound = c.requires.sound;
+  fits = c.requires.fits;
+  serves = c.requires.serves;
+  new_fit = subst (All IsItemFit) (sym c.as_slice-2.ensures) c.in_ok-new.ensures.fit;
+}
+
+pub returns : goal.returns
+returns g c =
+    let d = c.args.d.now in
+    let m = c.args.lat.now in
+    let items = g.C.Copper.items c.args.c.now in
+    ripped_way d m items (added_from d c.args.net 0 c.args.metals.now) c.in_ok-new.new c.as_slice-2.result.now
+    c.in_ok-ids.ids c.as_slice-3.result.now c.new-in-None.result c.in_ok-ids.ensures
+    (subst (λ (ms : List Metal). c.in_ok-new.new ≡ added_from d c.args.net 0 ms) c.as_slice.ensures
+    c.in_ok-new.ensures.items) c.as_slice-2.ensures
+    c.as_slice-3.ensures
+    (subst (MovesAll d m items c.as_slice-2.result.now c.as_slice-3.result.now) {x = _} {y = None}
+    c.in-None.is c.in_ok-moved.ensures)
+    c.new-in-None.ensures

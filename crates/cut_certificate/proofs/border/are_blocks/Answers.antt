@@ -29,3 +29,24 @@ returns g c = (
       (listed_from_blocks (g.M.Moves.graph c.args.m.now).at (g.M.Moves.graph c.args.m.now).arity
       (g.M.Shuts.shut_by c.args.m.now) c.args.nodes.now c.args.blocked.now a),
 )
+
+pub all_blocks-requires-clause-ready : goal.all_blocks-requires-clause-ready
+all_blocks-requires-clause-ready g c = c.requires.ready
+
+pub all_blocks-requires-clause-ascends : goal.all_blocks-requires-clause-ascends
+all_blocks-requires-clause-ascends g c = c.requires.ascends
+
+pub all_blocks-requires-clause-nodes : goal.all_blocks-requires-clause-nodes
+all_blocks-requires-clause-nodes g c = c.requires.nodes
+
+pub nodes_listed-requires-clause-ready : goal.nodes_listed-requires-clause-ready
+nodes_listed-requires-clause-ready g c = c.requires.ready
+
+pub nodes_listed-requires-clause-ascends : goal.nodes_listed-requires-clause-ascends
+nodes_listed-requires-clause-ascends g c = c.requires.ascends
+
+pub nodes_listed-requires-clause-nodes : goal.nodes_listed-requires-clause-nodes
+nodes_listed-requires-clause-nodes g c = c.requires.nodes
+
+pub nodes_listed-requires-clause-in_order : goal.nodes_listed-requires-clause-in_order
+nodes_listed-requires-clause-in_order g c = c.in_order.ensures.0 c.if-not-in_order.false

@@ -2,7 +2,8 @@ use Rattle.std.proofs.Common.{◌≡◌, ◌+◌, ◌<◌, List, [], ◌∷◌, 
 use Rattle.cut_certificate.specs.declared.cut.Block.{Block}
 use Rattle.cut_certificate.specs.Border.{LeadsOut, Extends}
 use Rattle.cut_certificate.proofs.Each.{unless}
-use Rattle.cut_certificate.proofs.Blocks.{extends_stays, extends_block}
+use Rattle.cut_certificate.proofs.Blocks.{extends_none, extends_stays, extends_block}
+use Rattle.std.specs.Prelude.{IsSome}
 use Rattle.cut_certificate.proofs.border.push_blocks.Goals as goal
 use Rattle.cut_certificate.proofs.border.push_blocks.Goals.{then-leads_out+in-Some+in_ok-push, else-leads_out}
 
@@ -39,3 +40,41 @@ loop-i-preserved g c =
           (LeadsOut (g.M.Moves.graph c.args.m.now).at c.args.nodes.now c.args.node c.loop-i.i) c.leads_out.ensures
           w.if-leads_out.false))
     ]
+
+pub loop-i-init : goal.loop-i-init
+loop-i-init g c =
+    extends_none (g.M.Moves.graph c.args.m.now).at (g.M.Moves.graph c.args.m.now).arity
+    (g.M.Shuts.shut_by c.args.m.now) c.args.nodes.now c.args.node c.args.blocked.now.items c.requires.in_order
+    c.requires.earlier c.requires.only
+
+pub leads_out-requires-clause-ready : goal.leads_out-requires-clause-ready
+leads_out-requires-clause-ready g c = c.requires.ready
+
+pub leads_out-requires-clause-ascends : goal.leads_out-requires-clause-ascends
+leads_out-requires-clause-ascends g c = c.requires.ascends
+
+pub leads_out-requires-clause-node : goal.leads_out-requires-clause-node
+leads_out-requires-clause-node g c = c.requires.node
+
+pub leads_out-requires-clause-index : goal.leads_out-requires-clause-index
+leads_out-requires-clause-index g c = omega (arith, c.loop-i-test.true, c.arity-i-end.ensures)
+
+pub blocker-requires-clause-ready : goal.blocker-requires-clause-ready
+blocker-requires-clause-ready g c = c.requires.ready
+
+pub blocker-requires-clause-node : goal.blocker-requires-clause-node
+blocker-requires-clause-node g c = c.requires.node
+
+pub blocker-requires-clause-index : goal.blocker-requires-clause-index
+blocker-requires-clause-index g c = omega (arith, c.loop-i-test.true, c.arity-i-end.ensures)
+
+pub blocker-requires-clause-there : goal.blocker-requires-clause-there
+blocker-requires-clause-there g c =
+    subst IsSome (sym (c.leads_out.ensures.0 c.if-leads_out.true).leads) refl
+
+pub unreachable-requires : goal.unreachable-requires
+unreachable-requires g c =
+    let lt : c.loop-i.i < (g.M.Moves.graph c.args.m.now).arity =
+    omega (arith, c.loop-i-test.true, c.arity-i-end.ensures) in
+    absurd (c.requires.closed.each c.args.node c.loop-i.i c.requires.inside lt
+    (c.leads_out.ensures.0 c.if-leads_out.true) c.in_default.ensures.open)

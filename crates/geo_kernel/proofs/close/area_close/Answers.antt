@@ -2,7 +2,7 @@ use Rattle.std.proofs.Common.{sym, ap, ◌∙◌, ◌^◌, true≢false, refl, A
 use Rattle.geo_kernel.specs.Plane.{IsWithin}
 use Rattle.geo_kernel.specs.Spine.{loop_segments}
 use Rattle.geo_kernel.specs.Close.{IsClose}
-use Rattle.geo_kernel.proofs.Paths.{some_next, some_stops, at_place}
+use Rattle.geo_kernel.proofs.Paths.{some_next, some_stops, none_told, at_place}
 use Rattle.geo_kernel.proofs.close.area_close.Goals as goal
 
 pub path_close-requires-clause-start_within : goal.path_close-requires-clause-start_within
@@ -34,3 +34,8 @@ loop-points-preserved c =
     some_next P loop_segments c.args.loops.now c.loop-points.points-index c.points-item.result c.loop-points.invariant
     c.loop-points-test.true
     (λ x. true≢false (sym (c.path_close.ensures.1 (subst (Any P) (sym e) x)) ∙ c.if-path_close.false))
+
+pub returns : goal.returns
+returns c =
+    none_told (IsClose c.args.how c.args.k (record { from = c.args.a; to = c.args.b })) loop_segments c.args.loops.now
+    c.loop-points.points-index c.loop-points.invariant c.loop-points-test.false

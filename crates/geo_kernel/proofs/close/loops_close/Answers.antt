@@ -2,7 +2,7 @@ use Rattle.std.proofs.Common.{sym, ap, ◌∙◌, true≢false, refl, All, Any, 
 use Rattle.geo_kernel.specs.Close.{IsMovable}
 use Rattle.geo_kernel.specs.Spine.{loop_segments}
 use Rattle.geo_kernel.specs.Close.{IsMovedClose}
-use Rattle.geo_kernel.proofs.Paths.{some_next, some_stops, at_place}
+use Rattle.geo_kernel.proofs.Paths.{some_next, some_stops, none_told, at_place}
 use Rattle.geo_kernel.proofs.close.loops_close.Goals as goal
 
 pub path_spine_close-requires-clause-start_movable : goal.path_spine_close-requires-clause-start_movable
@@ -34,3 +34,8 @@ loop-points-preserved c =
     some_next P loop_segments c.args.loops.now c.loop-points.points-index c.points-item.result c.loop-points.invariant
     c.loop-points-test.true
     (λ x. true≢false (sym (c.path_spine_close.ensures.1 (subst (Any P) (sym e) x)) ∙ c.if-path_spine_close.false))
+
+pub returns : goal.returns
+returns c =
+    none_told (IsMovedClose c.args.how c.args.k c.args.t.now c.args.by) loop_segments c.args.loops.now
+    c.loop-points.points-index c.loop-points.invariant c.loop-points-test.false

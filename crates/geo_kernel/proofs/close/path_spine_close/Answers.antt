@@ -1,6 +1,6 @@
 use Rattle.std.proofs.Common.{sym, ◌∙◌, true≢false, pos, refl, get_or, subst}
 use Rattle.geo_kernel.specs.Close.{IsCloseTo, IsMovedClose}
-use Rattle.geo_kernel.proofs.Paths.{any_next, any_stops}
+use Rattle.geo_kernel.proofs.Paths.{any_next, any_stops, any_none}
 use Rattle.geo_kernel.proofs.Moves.{link_moved}
 use Rattle.geo_kernel.proofs.close.path_spine_close.Goals as goal
 
@@ -34,3 +34,9 @@ loop-p-preserved c =
             ∙ c.if-seg_spine_close.false));
       },
     )
+
+pub returns : goal.returns
+returns c =
+    let left = c.loop-p.invariant.1 in
+    any_none (IsMovedClose c.args.how c.args.k c.args.t.now c.args.by) c.args.start left.last
+    (record { x = pos 0; y = pos 0 }) c.args.points.now c.loop-p.p-index left.holds c.loop-p-test.false

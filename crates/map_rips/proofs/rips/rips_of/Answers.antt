@@ -1,4 +1,4 @@
-use Rattle.std.proofs.Common.{◌<◌, length}
+use Rattle.std.proofs.Common.{◌<◌, length, refl}
 use Rattle.std.proofs.lemmas.List.Elements.{All-contains, All-weaker}
 use Rattle.move_maps.specs.declared.map.GroupMap.{GroupMap as OneMap}
 use Rattle.move_maps.specs.Maps.{IsMapOf}
@@ -14,6 +14,66 @@ map_of-requires-clause-firsts g c =
 pub returns-in_default-clause-none : goal.returns-in_default-clause-none
 returns-in_default-clause-none g c =
     no_map c.args.d.now c.args.lat.now c.args.net c.args.fixed.now c.requires.fixed.mapped c.in_default.ensures.none
+
+pub map_of-requires-clause-net : goal.map_of-requires-clause-net
+map_of-requires-clause-net g c = c.requires.can_rip.can_move.net_there
+
+pub returns-in_default-clause-mapped : goal.returns-in_default-clause-mapped
+returns-in_default-clause-mapped g c = tt
+
+pub returns-in_default-clause-lat : goal.returns-in_default-clause-lat
+returns-in_default-clause-lat g c = tt
+
+pub returns-in_default-clause-d : goal.returns-in_default-clause-d
+returns-in_default-clause-d g c = tt
+
+pub returns-in_default-clause-c : goal.returns-in_default-clause-c
+returns-in_default-clause-c g c = tt
+
+pub returns-in_default-clause-net : goal.returns-in_default-clause-net
+returns-in_default-clause-net g c = tt
+
+pub returns-in_default-clause-via_cost : goal.returns-in_default-clause-via_cost
+returns-in_default-clause-via_cost g c = tt
+
+pub returns-in_default-clause-penalty : goal.returns-in_default-clause-penalty
+returns-in_default-clause-penalty g c = tt
+
+pub returns-in_default-clause-rip_maps : goal.returns-in_default-clause-rip_maps
+returns-in_default-clause-rip_maps g c = tt
+
+pub net_moves-requires-clause-can_move : goal.net_moves-requires-clause-can_move
+net_moves-requires-clause-can_move g c = c.requires.can_rip.can_move
+
+pub net_moves-requires-clause-serves : goal.net_moves-requires-clause-serves
+net_moves-requires-clause-serves g c = c.requires.serves
+
+pub net_moves-requires-clause-maps : goal.net_moves-requires-clause-maps
+net_moves-requires-clause-maps g c = c.requires.maps
+
+pub returns-in-Some-2-clause-none : goal.returns-in-Some-2-clause-none
+returns-in-Some-2-clause-none g c = tt
+
+pub returns-in-Some-2-clause-mapped : goal.returns-in-Some-2-clause-mapped
+returns-in-Some-2-clause-mapped g c = let is = c.in-Some-2.is in let e = c.in_ok-moves.ensures in rw is at e.mapped
+
+pub returns-in-Some-2-clause-lat : goal.returns-in-Some-2-clause-lat
+returns-in-Some-2-clause-lat g c = let is = c.in-Some-2.is in let e = c.in_ok-moves.ensures in rw is at e.lat
+
+pub returns-in-Some-2-clause-d : goal.returns-in-Some-2-clause-d
+returns-in-Some-2-clause-d g c = let is = c.in-Some-2.is in let e = c.in_ok-moves.ensures in rw is at e.d
+
+pub returns-in-Some-2-clause-c : goal.returns-in-Some-2-clause-c
+returns-in-Some-2-clause-c g c = let is = c.in-Some-2.is in let e = c.in_ok-moves.ensures in rw is at e.c
+
+pub returns-in-Some-2-clause-net : goal.returns-in-Some-2-clause-net
+returns-in-Some-2-clause-net g c = let is = c.in-Some-2.is in let e = c.in_ok-moves.ensures in rw is at e.net
+
+pub returns-in-Some-2-clause-via_cost : goal.returns-in-Some-2-clause-via_cost
+returns-in-Some-2-clause-via_cost g c = let is = c.in-Some-2.is in let e = c.in_ok-moves.ensures in rw is at e.via_cost
+
+pub returns-in-Some-2-clause-penalty : goal.returns-in-Some-2-clause-penalty
+returns-in-Some-2-clause-penalty g c = refl
 
 pub returns-in-Some-2-clause-rip_maps : goal.returns-in-Some-2-clause-rip_maps
 returns-in-Some-2-clause-rip_maps g c =

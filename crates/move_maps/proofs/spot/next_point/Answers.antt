@@ -1,7 +1,38 @@
-use Rattle.std.proofs.Common.{◌≡◌, sym, ap, ◌∙◌, arith}
+use Rattle.std.proofs.Common.{◌≡◌, ℤ, ◌<◌, List, length, sym, ap, ◌∙◌, subst, arith}
+use Rattle.route_lattice.specs.Mesh.{column, row}
+use Rattle.route_lattice.proofs.Places.{row_below}
+use Rattle.route_lattice.proofs.Windows.{column_below}
 use Rattle.move_maps.specs.Spots.{line_after, line_before, next_point}
 use Rattle.move_maps.proofs.Spotting.{right_next, left_next, above_next, below_next, across_told, up_told}
 use Rattle.move_maps.proofs.spot.next_point.Goals as goal
+
+pub line_after-requires : goal.line_after-requires
+line_after-requires c =
+    let m = c.args.lat.now in let s = c.args.s.now in let k = c.requires.spot in
+    subst (λ n. n < length c.as_slice-xs.result.now) k.column_is
+    (subst (λ (zs : List ℤ). column m s.node < length zs) (sym (c.as_slice-xs.ensures ∙ c.xs.ensures))
+    (column_below m s.node k.there))
+
+pub line_before-requires : goal.line_before-requires
+line_before-requires c =
+    let m = c.args.lat.now in let s = c.args.s.now in let k = c.requires.spot in
+    subst (λ n. n < length c.as_slice-xs.result.now) k.column_is
+    (subst (λ (zs : List ℤ). column m s.node < length zs) (sym (c.as_slice-xs.ensures ∙ c.xs.ensures))
+    (column_below m s.node k.there))
+
+pub line_after-requires-in-2 : goal.line_after-requires-in-2
+line_after-requires-in-2 c =
+    let m = c.args.lat.now in let s = c.args.s.now in let k = c.requires.spot in
+    subst (λ n. n < length c.as_slice-ys.result.now) k.row_is
+    (subst (λ (zs : List ℤ). row m s.node < length zs) (sym (c.as_slice-ys.ensures ∙ c.ys.ensures))
+    (row_below (length m.xs) (length m.ys) (length m.layers) s.node k.there))
+
+pub line_before-requires-in_default : goal.line_before-requires-in_default
+line_before-requires-in_default c =
+    let m = c.args.lat.now in let s = c.args.s.now in let k = c.requires.spot in
+    subst (λ n. n < length c.as_slice-ys.result.now) k.row_is
+    (subst (λ (zs : List ℤ). row m s.node < length zs) (sym (c.as_slice-ys.ensures ∙ c.ys.ensures))
+    (row_below (length m.xs) (length m.ys) (length m.layers) s.node k.there))
 
 pub returns-in-0 : goal.returns-in-0
 returns-in-0 c =

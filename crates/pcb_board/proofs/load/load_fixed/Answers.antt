@@ -1,11 +1,14 @@
-use Rattle.std.proofs.Common.{◌≡◌, ◌<◌, List, Some, length, take, refl, sym, ◌∙◌, ap, subst, arith}
+use Rattle.std.proofs.Common.{◌≡◌, ◌<◌, ◌++◌, ◌∷◌, [], List, Some, length, take, refl, sym, ◌∙◌, ap, subst, arith}
+use Rattle.std.proofs.Common.{rules}
 use Rattle.std.specs.Prelude.{All, slice_get}
 use Rattle.std.proofs.lemmas.List.{take_all}
 use Rattle.std.proofs.lemmas.Option.{slice_get_read}
 use Rattle.pcb_model.specs.declared.item.Item.{Item}
-use Rattle.pcb_model.specs.Bounds.{IsItemFit}
+use Rattle.pcb_model.specs.Bounds.{IsItemFit, HasClearancesWithin}
+use Rattle.pcb_tiles.specs.Tiling.{IsArea}
+use Rattle.pcb_tiles.specs.Spread.{Spread}
 use Rattle.pcb_board.proofs.Loading.{fixed_all}
-use Rattle.pcb_board.proofs.Opening.{fixed_below}
+use Rattle.pcb_board.proofs.Opening.{fixed_below, fixed_more}
 use Rattle.pcb_board.proofs.load.load_fixed.Goals as goal
 
 pub keep-requires-clause-above : goal.keep-requires-clause-above
@@ -32,6 +35,31 @@ keep-requires-clause-fits c =
     in
     subst IsItemFit (sym c.in_ok-copy_item.ensures)
     (c.requires.fixed c.loop-item.item-index c.item-item.result at).item.fits
+
+pub loop-item-init : goal.loop-item-init
+loop-item-init c = record {
+  tiles = c.in_ok-empty_tiles.ensures.empty;
+  given = search rules;
+  dropped = c.new-2.ensures;
+  area = c.in_ok-empty_tiles.ensures.area;
+  reach = c.in_ok-empty_tiles.ensures.reach;
+}
+
+pub loop-item-preserved : goal.loop-item-preserved
+loop-item-preserved c =
+    let i = c.loop-item.item-index in
+    let more = fixed_more c.args.d.now.fixed c.as_slice-item-items.result.now i c.item-item.result
+    c.in_ok-copy_item.field-0 c.as_slice-item-items.ensures c.loop-item-test.true c.item-item.is
+    c.in_ok-copy_item.ensures in
+    let is = c.in_ok-keep.ensures.tiles in record {
+      tiles = ap (λ (t : Spread). t.items) is
+          ∙ ap (λ (xs : List Item). xs ++ c.in_ok-copy_item.field-0 ∷ []) c.loop-item.invariant.tiles ∙ more;
+      given = c.in_ok-keep.ensures.given
+          ∙ ap (λ (xs : List Item). xs ++ c.in_ok-copy_item.field-0 ∷ []) c.loop-item.invariant.given ∙ more;
+      dropped = c.in_ok-keep.ensures.dropped ∙ c.loop-item.invariant.dropped;
+      area = subst (λ (t : Spread). IsArea t.area) (sym is) c.loop-item.invariant.area;
+      reach = subst (λ (t : Spread). HasClearancesWithin t.reach c.args.d.now) (sym is) c.loop-item.invariant.reach;
+    }
 
 pub returns : goal.returns
 returns c =

@@ -1,7 +1,7 @@
-use Rattle.std.proofs.Common.{◌≡◌, ◌<◌, ◌∷◌, [], ℕ, List, Some, get_or, length, take, refl, sym}
+use Rattle.std.proofs.Common.{◌≡◌, ◌<◌, ◌++◌, ◌∷◌, [], ℕ, List, Some, get_or, length, take, refl, sym}
 use Rattle.std.proofs.Common.{◌∙◌, ap, subst}
 use Rattle.std.specs.Prelude.{All, slice_get}
-use Rattle.std.proofs.lemmas.List.{take_more}
+use Rattle.std.proofs.lemmas.List.{append-nil, append_assoc, take_all, take_more}
 use Rattle.std.proofs.lemmas.Option.{slice_get_read}
 use Rattle.pcb_model.specs.declared.item.Item.{Item}
 use Rattle.pcb_model.specs.Bounds.{IsItemFit}
@@ -38,3 +38,29 @@ pub add_copy-requires-clause-fits : goal.add_copy-requires-clause-fits
 add_copy-requires-clause-fits c =
     subst IsItemFit (sym c.item-item.is)
     (c.requires.fit c.loop-item.item-index c.item-item.result c.loop-item-test.true)
+
+pub loop-item-init : goal.loop-item-init
+loop-item-init c =
+    let items = c.args.tiles.now.items in
+    c.loop-id.invariant
+    ∙ ap (λ (xs : List ℕ). holding c.args.tiles.now (without xs items))
+    (take_all c.loop-id.id-index c.args.gone.now c.loop-id-test.false)
+    ∙ ap (holding c.args.tiles.now) (sym (append-nil (without c.args.gone.now items)))
+
+pub loop-item-preserved : goal.loop-item-preserved
+loop-item-preserved c =
+    let stay = without c.args.gone.now c.args.tiles.now.items in
+    let front = take c.loop-item.item-index c.args.come.now in
+    c.in_ok-add_copy.ensures.ok
+    ∙ ap (λ (t : Spread). holding t (t.items ++ c.item-item.result ∷ [])) c.loop-item.invariant
+    ∙ ap (holding c.args.tiles.now) (append_assoc stay front (c.item-item.result ∷ []))
+    ∙ ap (λ (xs : List Item). holding c.args.tiles.now (stay ++ xs))
+    (ap (λ (a : Item). front ++ a ∷ []) c.item-item.is
+    ∙ sym (take_more c.args.come.now c.loop-item.item-index c.item-item.result c.loop-item-test.true))
+
+pub returns : goal.returns
+returns c =
+    let stay = without c.args.gone.now c.args.tiles.now.items in
+    c.loop-item.invariant
+    ∙ ap (λ (xs : List Item). holding c.args.tiles.now (stay ++ xs))
+    (take_all c.loop-item.item-index c.args.come.now c.loop-item-test.false)

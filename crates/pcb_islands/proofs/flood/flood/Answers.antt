@@ -15,8 +15,8 @@ loop-id-init g c = flood_begins _ _ _ _ c.requires.there
     (subst (λ (w : List ℕ). IsTakenIn c.new-reached.result w (c.args.start.now.id ∷ []) c.take_in.new.reached
     c.take_in.new.waiting.items) c.new-waiting.ensures.items c.in_ok-take_in.ensures))
 
-pub touched_by-requires-clause-fits : goal.touched_by-requires-clause-fits
-touched_by-requires-clause-fits g c =
+pub spread-requires-clause-fits : goal.spread-requires-clause-fits
+spread-requires-clause-fits g c =
     All-contains IsItemFit (g.C.Copper.items c.args.c.now) c.in-Some-item.a.now c.requires.fit c.in-Some-item.ensures.0
 
 pub loop-id-preserved : goal.loop-id-preserved
@@ -28,11 +28,9 @@ loop-id-preserved g c =
     c.in-Some.ensures.items ∙ ap (λ (q : ℕ). rest ++ q ∷ []) (sym c.in-Some-item.ensures.1) in
     let before = subst (λ (w : List ℕ). IsFlooded items c.args.start.now c.loop-id.reached w) popped
     c.loop-id.invariant in
-    let taken = subst
-    (λ (ids : List ℕ). IsTakenIn c.loop-id.reached rest ids c.take_in-in-Some.new.reached
-    c.take_in-in-Some.new.waiting.items) c.as_slice.ensures.value c.in_ok-take_in-2.ensures in
+    let s = c.in_ok-spread.ensures in
     flood_goes_on items c.args.start.now a _ _ _ _ _ c.requires.in_order c.in-Some-item.ensures.0 before
-    c.in_ok-touched.ensures taken
+    s.1 s.2
 
 pub loop-id-smaller : goal.loop-id-smaller
 loop-id-smaller g c =
@@ -43,13 +41,11 @@ loop-id-smaller g c =
     c.in-Some.ensures.items ∙ ap (λ (q : ℕ). rest ++ q ∷ []) (sym c.in-Some-item.ensures.1) in
     let before = subst (λ (w : List ℕ). IsFlooded items c.args.start.now c.loop-id.reached w) popped
     c.loop-id.invariant in
-    let taken = subst
-    (λ (ids : List ℕ). IsTakenIn c.loop-id.reached rest ids c.take_in-in-Some.new.reached
-    c.take_in-in-Some.new.waiting.items) c.as_slice.ensures.value c.in_ok-take_in-2.ensures in
-    subst (λ (w : List ℕ). work items c.take_in-in-Some.new.reached c.take_in-in-Some.new.waiting.items
+    let s = c.in_ok-spread.ensures in
+    subst (λ (w : List ℕ). work items c.spread.new.reached c.spread.new.waiting.items
     < work items c.loop-id.reached w) (sym popped)
     (less_work items c.args.start.now a _ _ _ _ _ c.requires.in_order c.in-Some-item.ensures.0 before
-    c.in_ok-touched.ensures taken)
+    s.1 s.2)
 
 pub returns : goal.returns
 returns g c =

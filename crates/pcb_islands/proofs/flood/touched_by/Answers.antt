@@ -1,7 +1,11 @@
 use Rattle.std.proofs.Common.{◌≡◌, ℕ, ◌+◌, ◌≤◌, ◌^◌, List, sym, subst, arith}
 use Rattle.pcb_islands.specs.Flooding.{AreTouchedBelow, AreTouched}
-use Rattle.pcb_islands.proofs.Touches.{one_touched, last_touched}
+use Rattle.pcb_islands.proofs.Touches.{none_touched, one_touched, all_touched, last_touched}
 use Rattle.pcb_islands.proofs.flood.touched_by.Goals as goal
+
+pub loop-id-init : goal.loop-id-init
+loop-id-init g c = subst (λ (ids : List ℕ). AreTouchedBelow (g.C.Copper.items c.args.c.now) c.args.a.now 0 ids)
+    (sym c.new-ids.ensures.items) (none_touched (g.C.Copper.items c.args.c.now) c.args.a.now)
 
 pub returns-in_default-checked_add : goal.returns-in_default-checked_add
 returns-in_default-checked_add g c =
@@ -18,3 +22,6 @@ loop-id-preserved g c =
     (subst (λ (ids : List ℕ). AreTouchedBelow (g.C.Copper.items c.args.c.now) c.args.a.now (c.in-Some.id + 1) ids)
     (sym c.in_ok-push.ensures.items)
     (one_touched _ _ _ _ _ c.loop-id.invariant c.in-Some.ensures.finds))
+
+pub returns : goal.returns
+returns g c = all_touched _ _ _ _ c.loop-id.invariant c.in_default.ensures.finds

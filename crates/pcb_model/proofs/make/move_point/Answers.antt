@@ -1,5 +1,6 @@
-use Rattle.std.proofs.Common.{arith}
+use Rattle.std.proofs.Common.{le_trans, lit≤, arith}
 use Rattle.std.proofs.lemmas.Int.{ints}
+use Rattle.geo_kernel.proofs.Bounds.{moved_value}
 use Rattle.pcb_model.proofs.make.move_point.Goals as goal
 
 pub overflow_add-result : goal.overflow_add-result
@@ -7,3 +8,8 @@ overflow_add-result c = omega (arith, ints, c.requires.p_within.0, c.requires.by
 
 pub overflow_add-result-2 : goal.overflow_add-result-2
 overflow_add-result-2 c = omega (arith, ints, c.requires.p_within.1, c.requires.by_within.1)
+
+pub returns : goal.returns
+returns c =
+    moved_value c.args.p c.args.by (le_trans c.requires.p_within.0 (lit≤ tt), le_trans c.requires.p_within.1 (lit≤ tt))
+    c.requires.by_within

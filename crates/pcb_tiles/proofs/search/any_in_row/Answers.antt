@@ -3,7 +3,7 @@ use Prim.Native.Nat.{suc}
 use Rattle.std.specs.List.{range_with_len, sum_by}
 use Rattle.pcb_tiles.specs.declared.cells.Entry.{Entry}
 use Rattle.pcb_tiles.specs.Cells.{cell_at}
-use Rattle.pcb_tiles.specs.Searches.{IsPassed}
+use Rattle.pcb_tiles.specs.Searches.{IsPassed, IsMetIn}
 use Rattle.pcb_tiles.proofs.Ranges.{sum_range_more, sum_range_none, sum_range_part}
 use Rattle.pcb_tiles.proofs.Best.{at_cell, row_passed}
 use Rattle.pcb_tiles.proofs.search.any_in_row.Goals as goal
@@ -13,6 +13,19 @@ loop-at-init g c = record {
   passed = record { each = λ i a b. absurd (omega (arith, a, b)) };
   cost = omega (arith, sum_range_none (λ column. length (cell_at c.args.row.now column)) c.args.b.now.first_column);
 }
+
+pub returns-then-any_in_cell-clause-yes : goal.returns-then-any_in_cell-clause-yes
+returns-then-any_in_cell-clause-yes g c =
+    let e : c.as_slice.result.now ≡ cell_at c.args.row.now c.loop-at.at =
+    c.as_slice.ensures
+    ∙ (c.get.ensures ∙ at_cell c.args.row.now c.loop-at.at c.index-row-at.result
+    (omega (arith, c.loop-at-test.true, c.requires.within)) c.index-row-at.is) in
+    record {
+      column = c.loop-at.at;
+      from_first = c.loop-at.auto.at;
+      to_end = omega (arith, c.loop-at-test.true);
+      met = subst (IsMetIn (g.S.Seeks.yes c.args.s.now)) e c.if-any_in_cell.ensures.yes;
+    }
 
 pub returns-then-any_in_cell-clause-cost : goal.returns-then-any_in_cell-clause-cost
 returns-then-any_in_cell-clause-cost g c =

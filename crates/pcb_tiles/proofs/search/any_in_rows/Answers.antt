@@ -4,7 +4,7 @@ use Rattle.std.specs.List.{range_with_len, sum_by}
 use Rattle.pcb_tiles.specs.declared.cells.Entry.{Entry}
 use Rattle.pcb_tiles.specs.Tiling.{columns_of}
 use Rattle.pcb_tiles.specs.Cells.{cell_at, row_in}
-use Rattle.pcb_tiles.specs.Searches.{IsRowPassed}
+use Rattle.pcb_tiles.specs.Searches.{IsRowPassed, IsMetInRow}
 use Rattle.pcb_tiles.proofs.Ranges.{sum_range_more, sum_range_none, sum_range_part}
 use Rattle.pcb_tiles.proofs.Best.{at_row, rows_passed}
 use Rattle.pcb_tiles.proofs.search.any_in_rows.Goals as goal
@@ -19,6 +19,22 @@ loop-at-init g c = record {
         c.args.b.now.first_row,
   );
 }
+
+pub returns-then-any_in_row-clause-yes : goal.returns-then-any_in_row-clause-yes
+returns-then-any_in_row-clause-yes g c =
+    let e : c.as_slice.result.now ≡ row_in c.args.rows.now c.loop-at.at =
+    c.as_slice.ensures
+    ∙ (c.get.ensures ∙ at_row c.args.rows.now c.loop-at.at c.index-rows-at.result
+    (omega (arith, c.loop-at-test.true, c.requires.within)) c.index-rows-at.is) in
+    let b = c.args.b.now in
+    let F : List (List Entry) → Type 0 =
+    λ es. IsMetInRow (g.S.Seeks.yes c.args.s.now) es b.first_column (suc b.last_column) in
+    record {
+      row = c.loop-at.at;
+      from_first = c.loop-at.auto.at;
+      to_end = omega (arith, c.loop-at-test.true);
+      met = subst F e c.if-any_in_row.ensures.yes;
+    }
 
 pub returns-then-any_in_row-clause-cost : goal.returns-then-any_in_row-clause-cost
 returns-then-any_in_row-clause-cost g c =

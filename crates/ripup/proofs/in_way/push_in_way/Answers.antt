@@ -1,4 +1,4 @@
-use Rattle.std.proofs.Common.{◌≡◌, ◌≤◌, ◌^◌, ℕ, ◌+◌, List, arith, subst, sym}
+use Rattle.std.proofs.Common.{◌≡◌, ◌≤◌, ◌^◌, ℕ, ◌+◌, List, arith, length, subst, sym}
 use Rattle.pcb_model.specs.Sound.{Serves}
 use Rattle.ripup.specs.Rips.{AreInWayBelow, AreInWayOfOne}
 use Rattle.ripup.proofs.Ripping.{id_pushed, last_pushed}
@@ -35,3 +35,33 @@ loop-id-preserved g c =
           (sym c.in_ok-push.ensures.items) more);
       behind = omega (arith, next_is, on, is, behind);
     }
+
+pub push_namesake-requires-clause-sound : goal.push_namesake-requires-clause-sound
+push_namesake-requires-clause-sound g c = c.requires.sound
+
+pub push_namesake-requires-clause-serves : goal.push_namesake-requires-clause-serves
+push_namesake-requires-clause-serves g c = c.requires.serves
+
+pub push_namesake-requires-clause-a_fits : goal.push_namesake-requires-clause-a_fits
+push_namesake-requires-clause-a_fits g c = c.requires.a_fits
+
+pub next_clash-requires-clause-serves : goal.next_clash-requires-clause-serves
+next_clash-requires-clause-serves g c = c.requires.serves
+
+pub next_clash-requires-clause-a_fits : goal.next_clash-requires-clause-a_fits
+next_clash-requires-clause-a_fits g c = c.requires.a_fits
+
+pub loop-id-init : goal.loop-id-init
+loop-id-init g c =
+    let is : c.len-from.result ≡ length c.args.d.now.fixed = c.len-from.ensures in
+    record {
+      below = subst (λ (n : ℕ). AreInWayBelow c.args.d.now (g.C.Copper.items c.args.c.now) c.args.a.now n
+          c.args.found.now.items c.push_namesake.new.found.items) (sym is) c.in_ok-push_namesake.ensures;
+      behind = omega (arith, is);
+    }
+
+pub loop-id-smaller : goal.loop-id-smaller
+loop-id-smaller g c =
+    let on = c.in-Some.ensures.finds.looked_at.0 in
+    let is = c.in-Some.ensures.finds.id_is in
+    omega (arith, c.in-Some-checked_add.ensures, on, is)

@@ -1,7 +1,7 @@
 use Rattle.std.proofs.Common.{◌≡◌, ℕ, true≢false, List, length, sym, ◌∙◌, subst, ap}
 use Rattle.pcb_model.specs.declared.item.Item.{Item}
 use Rattle.pcb_model.specs.Pairs.{Agrees}
-use Rattle.pcb_model.specs.Sound.{Serves}
+use Rattle.pcb_model.specs.Sound.{IsItemOf, Serves}
 use Rattle.std.proofs.lemmas.List.Elements.{All-contains}
 use Rattle.ripup.specs.Rips.{AreInWayBelow}
 use Rattle.ripup.proofs.Passing.{same_key}
@@ -52,3 +52,14 @@ returns g c =
     (one_pushed d items c.args.a.now c.args.found.now.items b c.requires.sound serves c.in_order.ensures.ascends
     c.in-Some.ensures.0 c.in-Some.ensures.1 c.if-b.false
     (λ h. true≢false (sym (c.pair_ok.ensures.says.1 h) ∙ c.if-pair_ok.false)))
+
+pub pair_ok-requires-clause-rules : goal.pair_ok-requires-clause-rules
+pair_ok-requires-clause-rules g c = c.requires.sound.fits.rules_within
+
+pub pair_ok-requires-clause-a_fits : goal.pair_ok-requires-clause-a_fits
+pair_ok-requires-clause-a_fits g c = c.requires.a_fits
+
+pub pair_ok-requires-clause-b_fits : goal.pair_ok-requires-clause-b_fits
+pair_ok-requires-clause-b_fits g c =
+    (All-contains (IsItemOf c.args.d.now) (g.C.Copper.items c.args.c.now) c.in-Some.b.now
+    (g.met.C.Copper.serving _ _ c.requires.serves).items_fit c.in-Some.ensures.0).fits

@@ -1,6 +1,13 @@
+use Rattle.std.proofs.lemmas.List.Elements.{All-contains}
+use Rattle.pcb_model.specs.Sound.{IsItemOf}
 use Rattle.route_lattice.proofs.Gaining.{gains_nothing, gains_less, on_ok}
 use Rattle.route_lattice.proofs.Among.{of_item, with_id, none_with_id}
 use Rattle.route_lattice.proofs.found.push_of_id.Goals as goal
+
+pub push_anchors-requires-clause-item : goal.push_anchors-requires-clause-item
+push_anchors-requires-clause-item g c =
+    All-contains (IsItemOf c.args.d.now) (g.C.Copper.items c.args.c.now) c.in-Some.item.now
+    (g.met.C.Copper.serving _ _ c.requires.serves).items_fit c.in-Some.ensures.0
 
 pub returns-in-Some : goal.returns-in-Some
 returns-in-Some g c =

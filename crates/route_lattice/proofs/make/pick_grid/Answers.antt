@@ -11,17 +11,18 @@ nodes_at-requires-clause-some c = grid_some _ c.loop.grid c.loop.invariant.sized
 pub nodes_at-requires-clause-fine : goal.nodes_at-requires-clause-fine
 nodes_at-requires-clause-fine c = let a = grid_small _ c.loop.grid c.loop.invariant.sized in omega (arith, a)
 
-pub returns-then-branch-clause-value : goal.returns-then-branch-clause-value
-returns-then-branch-clause-value c =
+pub returns-then-branch-le-DEFAULT_NODES-clause-value : goal.returns-then-branch-le-DEFAULT_NODES-clause-value
+returns-then-branch-le-DEFAULT_NODES-clause-value c =
     let e : 12 - c.loop.counter ≡ suc (12 - (c.loop.counter + 1)) = omega arith in
     left_found c.args.p.now _ _ c.loop.grid e c.loop.invariant c.in_ok-nodes_at.field-0 c.in_ok-nodes_at.ensures
     (omega arith)
 
-pub returns-then-branch-clause-some : goal.returns-then-branch-clause-some
-returns-then-branch-clause-some c = grid_some _ c.loop.grid c.loop.invariant.sized
+pub returns-then-branch-le-DEFAULT_NODES-clause-some : goal.returns-then-branch-le-DEFAULT_NODES-clause-some
+returns-then-branch-le-DEFAULT_NODES-clause-some c = grid_some _ c.loop.grid c.loop.invariant.sized
 
-pub returns-then-branch-clause-fine : goal.returns-then-branch-clause-fine
-returns-then-branch-clause-fine c = let a = grid_small _ c.loop.grid c.loop.invariant.sized in omega (arith, a)
+pub returns-then-branch-le-DEFAULT_NODES-clause-fine : goal.returns-then-branch-le-DEFAULT_NODES-clause-fine
+returns-then-branch-le-DEFAULT_NODES-clause-fine c =
+    let a = grid_small _ c.loop.grid c.loop.invariant.sized in omega (arith, a)
 
 pub overflow_mul-grid : goal.overflow_mul-grid
 overflow_mul-grid c = let a = grid_small _ c.loop.grid c.loop.invariant.sized in omega (arith, a)

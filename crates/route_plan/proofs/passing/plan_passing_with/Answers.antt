@@ -1,10 +1,45 @@
 use Rattle.std.proofs.Common.{◌<◌, length, Some, sym, subst, arith}
 use Rattle.cut_certificate.specs.Same.{SameMoves}
 use Rattle.ripup.specs.Rips.{rip_graph}
-use Rattle.route_plan.specs.Plans.{FindsPassing}
+use Rattle.route_plan.specs.Plans.{CanPlan, FindsPassing}
 use Rattle.route_plan.proofs.Clearing.{passing_first, shut_first}
-use Rattle.route_plan.proofs.Planning.{first_net}
+use Rattle.route_plan.proofs.Planning.{first_net, whole}
 use Rattle.route_plan.proofs.passing.plan_passing_with.Goals as goal
+
+pub islands-requires-clause-sound : goal.islands-requires-clause-sound
+islands-requires-clause-sound g c = c.requires.can_plan.sound
+
+pub islands-requires-clause-net : goal.islands-requires-clause-net
+islands-requires-clause-net g c = c.requires.can_plan.net_there
+
+pub islands-requires-clause-serves : goal.islands-requires-clause-serves
+islands-requires-clause-serves g c = (c.requires.can_plan.own, c.requires.can_plan.serves)
+
+pub returns-then-len-le1-clause-plan : goal.returns-then-len-le1-clause-plan
+returns-then-len-le1-clause-plan g c = λ b of.
+    whole c.args.d.now c.args.lat.now c.args.snap.now c.args.net c.args.via_cost b (Some c.args.penalty)
+    c.in_ok-others.others c.requires.can_plan of c.in_ok-others.ensures
+    (let few = c.if-len-le1.true in let count = c.len.ensures in omega (arith, few, count))
+
+pub remove-island-requires : goal.remove-island-requires
+remove-island-requires g c =
+    let many = c.if-len-le1.false in
+    let count = c.len.ensures in
+    omega (arith, many, count)
+
+-- so the plan of its first island may be made
+pub passing_route-requires-clause-can_plan : goal.passing_route-requires-clause-can_plan
+passing_route-requires-clause-can_plan g c =
+    let own = first_net c.args.d.now c.args.snap.now.items c.args.net c.in_ok-others.others c.remove-island.new.self
+    c.remove-island.result c.in_ok-others.ensures c.remove-island.ensures.value c.remove-island.ensures.rest in
+    subst (λ n. CanPlan c.args.d.now c.args.lat.now c.args.snap.now n c.args.via_cost (Some c.args.penalty)) (sym own)
+    c.requires.can_plan
+
+pub passing_route-requires-clause-ready : goal.passing_route-requires-clause-ready
+passing_route-requires-clause-ready g c = c.requires.ready
+
+pub passing_route-requires-clause-size : goal.passing_route-requires-clause-size
+passing_route-requires-clause-size g c = c.requires.size
 
 -- the moves of the net are those of its first island
 pub passing_route-requires-clause-moves : goal.passing_route-requires-clause-moves

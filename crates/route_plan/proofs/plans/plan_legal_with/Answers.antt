@@ -2,9 +2,44 @@ use Rattle.std.proofs.Common.{◌<◌, length, None, sym, subst, arith}
 use Rattle.pcb_islands.specs.Islands.{AreIslands}
 use Rattle.route_lattice.specs.Legal.{legal_graph}
 use Rattle.cut_certificate.specs.Same.{SameMoves}
-use Rattle.route_plan.specs.Plans.{LeadsFrom, IsOfferOf}
-use Rattle.route_plan.proofs.Planning.{on_board, first_net, first_leads, some_left, shut_first}
+use Rattle.route_plan.specs.Plans.{CanPlan, LeadsFrom, IsOfferOf}
+use Rattle.route_plan.proofs.Planning.{on_board, first_net, first_leads, some_left, shut_first, whole}
 use Rattle.route_plan.proofs.plans.plan_legal_with.Goals as goal
+
+pub islands-requires-clause-sound : goal.islands-requires-clause-sound
+islands-requires-clause-sound g c = c.requires.can_plan.sound
+
+pub islands-requires-clause-net : goal.islands-requires-clause-net
+islands-requires-clause-net g c = c.requires.can_plan.net_there
+
+pub islands-requires-clause-serves : goal.islands-requires-clause-serves
+islands-requires-clause-serves g c = (c.requires.can_plan.own, c.requires.can_plan.serves)
+
+pub returns-then-len-le1-clause-plan : goal.returns-then-len-le1-clause-plan
+returns-then-len-le1-clause-plan g c = λ b of.
+    whole c.args.d.now c.args.lat.now c.args.snap.now c.args.net c.args.via_cost b None
+    c.in_ok-others.others c.requires.can_plan of c.in_ok-others.ensures
+    (let few = c.if-len-le1.true in let count = c.len.ensures in omega (arith, few, count))
+
+pub remove-island-requires : goal.remove-island-requires
+remove-island-requires g c =
+    let many = c.if-len-le1.false in
+    let count = c.len.ensures in
+    omega (arith, many, count)
+
+-- so the plan of its first island may be made
+pub offer_with-requires-clause-can_plan : goal.offer_with-requires-clause-can_plan
+offer_with-requires-clause-can_plan g c =
+    let own = first_net c.args.d.now c.args.snap.now.items c.args.net c.in_ok-others.others c.remove-island.new.self
+    c.remove-island.result c.in_ok-others.ensures c.remove-island.ensures.value c.remove-island.ensures.rest in
+    subst (λ n. CanPlan c.args.d.now c.args.lat.now c.args.snap.now n c.args.via_cost None) (sym own)
+    c.requires.can_plan
+
+pub offer_with-requires-clause-ready : goal.offer_with-requires-clause-ready
+offer_with-requires-clause-ready g c = c.requires.ready
+
+pub offer_with-requires-clause-size : goal.offer_with-requires-clause-size
+offer_with-requires-clause-size g c = c.requires.size
 
 -- the legal moves of the net are those of its first island
 pub offer_with-requires-clause-legal : goal.offer_with-requires-clause-legal

@@ -1,12 +1,154 @@
-use Rattle.std.proofs.Common.{◌≡◌, ◌∙◌, ap, sym, subst, arith, ℕ, List, [], ◌∷◌, ◌++◌}
-use Rattle.std.specs.Prelude.{Vec}
+use Rattle.std.proofs.Common.{◌≡◌, ◌∙◌, ap, sym, subst, refl, arith, ℕ, List, [], ◌∷◌, ◌++◌, Some}
+use Rattle.std.specs.Prelude.{Vec, slice_get}
 use Rattle.std.specs.declared.alloc.Global.{Global}
 use Rattle.std.proofs.lemmas.Option.{slice_get-get_or}
+use Rattle.geo_kernel.proofs.Paths.{Any-append_second, Any-here}
 use Rattle.claim_counter.specs.declared.Hand.{Hand}
-use Rattle.claim_counter.specs.Claims.{Claim}
-use Rattle.searcher_pool.specs.Working.{EndsDrawn, pass_of}
+use Rattle.claim_counter.specs.Claims.{Claim, CounterOf, drew, saw}
+use Rattle.searcher_pool.specs.declared.worker.Worker.{Worker}
+use Rattle.searcher_pool.specs.Passes.{PassOf}
+use Rattle.searcher_pool.specs.Working.{EndsDrawn, IsDrawn, IsReady, IsSeated, Knows, pass_of}
+use Rattle.board_turn.specs.Turns.{TurnOf}
 use Rattle.searcher_pool.proofs.Ending.{drawn_later, drawn_more, knows_drawn}
 use Rattle.searcher_pool.proofs.worker.draw_all.Goals as goal
+
+-- a worker whose drawn places stand in other memory is ready still
+ready_moved : (p : PassOf) (t : TurnOf) (v w : Worker) → w.number ≡ v.number → w.search ≡ v.search → w.pass ≡ v.pass
+    → w.notes.items ≡ v.notes.items → w.drawn.items ≡ v.drawn.items → IsReady p t v → IsReady p t w
+ready_moved p t v w number search pass notes drawn ready = record {
+  number_is = number ∙ ready.number_is ∙ sym (ap (λ (x : _). x.name) pass);
+  size = search ∙ ready.size;
+  knows = subst (λ (x : _). Knows p t x w.drawn.items w.notes.items) (sym pass)
+      (subst (λ (xs : List ℕ). Knows p t v.pass xs w.notes.items) (sym drawn)
+      (subst (Knows p t v.pass v.drawn.items) (sym notes) ready.knows));
+}
+
+-- so it is with its seat
+seated_moved : (c : CounterOf) (v w : Worker) → w.seat ≡ v.seat → w.drawn.items ≡ v.drawn.items → IsSeated c v
+    → IsSeated c w
+seated_moved c v w seat drawn before = record {
+  table = ap (λ (x : Claim). x.table) seat ∙ before.table;
+  shares = ap (λ (x : Claim). x.hand.shares) seat ∙ before.shares;
+  drawn = ap (λ (x : Claim). x.hand.drawn) seat ∙ before.drawn ∙ sym drawn;
+}
+
+-- a seat that saw that no place is left
+seated_saw : (c : CounterOf) (v w : Worker) → IsSeated c v → w.seat.table ≡ v.seat.table
+    → w.seat.hand ≡ saw v.seat.hand w.seat.hand.floor → w.drawn.items ≡ v.drawn.items → IsSeated c w
+seated_saw c v w before table hand drawn = record {
+  table = table ∙ before.table;
+  shares = ap (λ (h : Hand). h.shares) hand ∙ before.shares;
+  drawn = ap (λ (h : Hand). h.drawn) hand ∙ before.drawn ∙ sym drawn;
+}
+
+-- a seat that drew one place more, which was noted
+seated_more : (c : CounterOf) (v w : Worker) (s : Claim) (n : ℕ) → IsSeated c v → s.table ≡ v.seat.table
+    → s.hand ≡ drew (saw v.seat.hand s.hand.floor) n → w.seat ≡ s → w.drawn.items ≡ v.drawn.items ++ n ∷ []
+    → IsSeated c w
+seated_more c v w s n before table hand seat drawn = record {
+  table = ap (λ (x : Claim). x.table) seat ∙ table ∙ before.table;
+  shares = ap (λ (x : Claim). x.hand.shares) seat ∙ ap (λ (h : Hand). h.shares) hand ∙ before.shares;
+  drawn = ap (λ (x : Claim). x.hand.drawn) seat ∙ ap (λ (h : Hand). h.drawn) hand
+      ∙ ap (λ (xs : List ℕ). xs ++ n ∷ []) before.drawn ∙ sym drawn;
+}
+
+-- the net of the last place is drawn
+drawn_last : (p : PassOf) (drawn after : List ℕ) (place net : ℕ) → after ≡ drawn ++ place ∷ []
+    → slice_get p.tasks place ≡ Some net → IsDrawn p after net
+drawn_last p drawn after place net is there =
+    subst (λ (xs : List ℕ). IsDrawn p xs net) (sym is)
+    (Any-append_second (λ place. slice_get p.tasks place ≡ Some net) drawn (place ∷ [])
+    (Any-here (λ place. slice_get p.tasks place ≡ Some net) place [] there))
+
+pub loop-init : goal.loop-init
+loop-init g c = record { may_work = c.requires.may_work; name = refl; sight = c.requires.sight }
+
+pub returns-in_err-reserve-clause-ready : goal.returns-in_err-reserve-clause-ready
+returns-in_err-reserve-clause-ready g c =
+    ready_moved (pass_of c.args.job) c.args.turn.now c.loop.w _ refl refl refl refl c.reserve.ensures.items
+    c.loop.invariant.may_work.ready
+
+pub returns-in_err-reserve-clause-seated : goal.returns-in_err-reserve-clause-seated
+returns-in_err-reserve-clause-seated g c =
+    seated_moved c.args.counter.now c.loop.w _ refl c.reserve.ensures.items c.loop.invariant.may_work.seated
+
+pub returns-in_err-reserve-clause-name : goal.returns-in_err-reserve-clause-name
+returns-in_err-reserve-clause-name g c = c.loop.invariant.name
+
+pub claim-requires-clause-table : goal.claim-requires-clause-table
+claim-requires-clause-table g c = c.loop.invariant.may_work.seated.table
+
+pub claim-requires-clause-share : goal.claim-requires-clause-share
+claim-requires-clause-share g c =
+    let shares = c.loop.invariant.may_work.seated.shares in
+    omega (arith, shares)
+
+pub returns-in_default-clause-ready : goal.returns-in_default-clause-ready
+returns-in_default-clause-ready g c =
+    ready_moved (pass_of c.args.job) c.args.turn.now c.loop.w _ refl refl refl refl c.in_ok-reserve.ensures.items
+    c.loop.invariant.may_work.ready
+
+pub returns-in_default-clause-seated : goal.returns-in_default-clause-seated
+returns-in_default-clause-seated g c =
+    seated_saw c.args.counter.now c.loop.w _ c.loop.invariant.may_work.seated c.claim.ensures.table
+    c.in_default.ensures.none.1 c.in_ok-reserve.ensures.items
+
+pub returns-in_default-clause-name : goal.returns-in_default-clause-name
+returns-in_default-clause-name g c = c.loop.invariant.name
+
+pub returns-in_default-clause-done : goal.returns-in_default-clause-done
+returns-in_default-clause-done g c = (
+  c.in_default.ensures.none.0,
+  subst (λ (xs : List ℕ). EndsDrawn (pass_of c.args.job) c.args.turn.now c.loop.w.pass xs c.loop.w.notes.items)
+      (sym c.in_ok-reserve.ensures.items) c.loop.invariant.may_work.ended,
+)
+
+pub overflow_cast-place : goal.overflow_cast-place
+overflow_cast-place g c =
+    let below = c.in-Some-claim.ensures.some.0 in
+    let tasks = c.requires.counter in
+    let few = c.requires.few in
+    omega (arith, below, tasks, few)
+
+pub push_reserved-requires : goal.push_reserved-requires
+push_reserved-requires g c =
+    let room = c.in_ok-reserve.ensures.ok in
+    omega (arith, room)
+
+pub offset_bounds-job-place : goal.offset_bounds-job-place
+offset_bounds-job-place g c =
+    let below = c.in-Some-claim.ensures.some.0 in
+    let tasks = c.requires.counter in
+    let few = c.requires.few in
+    omega (arith, below, tasks, few)
+
+pub bounds-job-place : goal.bounds-job-place
+bounds-job-place g c =
+    let below = c.in-Some-claim.ensures.some.0 in
+    let tasks = c.requires.counter in
+    omega (arith, below, tasks)
+
+pub work_off-requires-clause-turn : goal.work_off-requires-clause-turn
+work_off-requires-clause-turn g c = c.requires.turn
+
+pub work_off-requires-clause-fixed : goal.work_off-requires-clause-fixed
+work_off-requires-clause-fixed g c = c.requires.fixed
+
+pub work_off-requires-clause-drawn : goal.work_off-requires-clause-drawn
+work_off-requires-clause-drawn g c =
+    drawn_last (pass_of c.args.job) c.loop.w.drawn.items c.push_reserved.new.self.items c.in-Some-claim.place _
+    (c.push_reserved.ensures.items ∙ ap (λ (xs : List ℕ). xs ++ c.in-Some-claim.place ∷ [])
+    c.in_ok-reserve.ensures.items)
+    (slice_get-get_or c.args.job.tasks.now c.in-Some-claim.place 0
+    (let below = c.in-Some-claim.ensures.some.0 in let tasks = c.requires.counter in omega (arith, below, tasks)))
+
+pub work_off-requires-clause-net : goal.work_off-requires-clause-net
+work_off-requires-clause-net g c =
+    c.requires.turn.task.nets c.in-Some-claim.place 0
+    (let below = c.in-Some-claim.ensures.some.0 in let tasks = c.requires.counter in omega (arith, below, tasks))
+
+pub work_off-requires-clause-sight : goal.work_off-requires-clause-sight
+work_off-requires-clause-sight g c = c.loop.invariant.sight
 
 pub work_off-requires-clause-ready : goal.work_off-requires-clause-ready
 work_off-requires-clause-ready g c =
@@ -19,6 +161,20 @@ work_off-requires-clause-ready g c =
           (c.push_reserved.ensures.items ∙ ap (λ (xs : List ℕ). xs ++ c.in-Some-claim.place ∷ [])
           c.in_ok-reserve.ensures.items) before.knows;
     }
+
+pub returns-in_err-work_off-clause-ready : goal.returns-in_err-work_off-clause-ready
+returns-in_err-work_off-clause-ready g c = c.work_off.ensures.ready
+
+pub returns-in_err-work_off-clause-seated : goal.returns-in_err-work_off-clause-seated
+returns-in_err-work_off-clause-seated g c =
+    let after = c.work_off.ensures.after in
+    seated_more c.args.counter.now c.loop.w c.work_off.new.w c.claim.new.me c.in-Some-claim.place
+    c.loop.invariant.may_work.seated c.claim.ensures.table c.in-Some-claim.ensures.some.2 after.seat
+    (ap (λ (v : Vec ℕ Global). v.items) after.drawn ∙ c.push_reserved.ensures.items
+    ∙ ap (λ (xs : List ℕ). xs ++ c.in-Some-claim.place ∷ []) c.in_ok-reserve.ensures.items)
+
+pub returns-in_err-work_off-clause-name : goal.returns-in_err-work_off-clause-name
+returns-in_err-work_off-clause-name g c = c.work_off.ensures.after.name ∙ c.loop.invariant.name
 
 pub loop-preserved : goal.loop-preserved
 loop-preserved g c =
@@ -36,13 +192,8 @@ loop-preserved g c =
     record {
       may_work = record {
         ready = c.work_off.ensures.ready;
-        seated = record {
-          table = ap (λ (s : Claim). s.table) after.seat ∙ c.claim.ensures.table ∙ before.seated.table;
-          shares = ap (λ (s : Claim). s.hand.shares) after.seat ∙ ap (λ (h : Hand). h.shares) drew.2
-              ∙ before.seated.shares;
-          drawn = ap (λ (s : Claim). s.hand.drawn) after.seat ∙ ap (λ (h : Hand). h.drawn) drew.2
-              ∙ ap (λ (xs : List ℕ). xs ++ c.in-Some-claim.place ∷ []) before.seated.drawn ∙ sym drawn_is;
-        };
+        seated = seated_more c.args.counter.now c.loop.w w c.claim.new.me c.in-Some-claim.place before.seated
+            c.claim.ensures.table drew.2 after.seat drawn_is;
         ended = subst (λ (xs : List ℕ). EndsDrawn p t w.pass xs w.notes.items) (sym drawn_is)
             (drawn_more p t w.pass c.loop.w.drawn.items c.in-Some-claim.place _ w.notes.items
             (slice_get-get_or c.args.job.tasks.now c.in-Some-claim.place 0

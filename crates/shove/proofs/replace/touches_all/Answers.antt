@@ -1,6 +1,10 @@
 use Rattle.std.proofs.Common.{◌≡◌, ◌≤◌, ◌^◌, ℕ, ◌+◌, refl, subst, arith}
 use Rattle.shove.specs.Shoves.{TouchesBelow}
-use Rattle.shove.proofs.Touching.{touches_more, touches_end, touches_high, touches_not, refused, unless, one_of}
+use Rattle.shove.proofs.Touching.{touches_none, touches_more, touches_end, touches_high, touches_not, refused, unless}
+use Rattle.shove.proofs.Touching.{one_of}
+use Rattle.std.proofs.lemmas.List.Elements.{All-contains}
+use Rattle.pcb_model.specs.declared.item.Item.{Item}
+use Rattle.pcb_model.specs.Sound.{IsItemOf}
 use Rattle.shove.proofs.replace.touches_all.Goals as goal
 
 pub returns-then-not-touch : goal.returns-then-not-touch
@@ -40,3 +44,23 @@ returns g c =
           c.in_default.ensures.finds,
       λ h. refl,
     )
+
+pub loop-id-init : goal.loop-id-init
+loop-id-init g c = touches_none (g.C.Copper.items c.args.c.now) c.args.old.now c.args.new.now
+
+pub next_touch-requires : goal.next_touch-requires
+next_touch-requires g c = record { a_fits = c.requires.old_fits }
+
+pub unreachable-requires : goal.unreachable-requires
+unreachable-requires g c =
+    let f = c.in-Some.ensures.finds in
+    absurd (All-contains (λ (b : Item). b.id ≡ c.in-Some.id → ⊥) (g.C.Copper.items c.args.c.now) f.item
+    c.in_default-item.ensures f.there f.id_is)
+
+pub touch-requires-clause-a_fits : goal.touch-requires-clause-a_fits
+touch-requires-clause-a_fits g c = c.requires.new_fits
+
+pub touch-requires-clause-b_fits : goal.touch-requires-clause-b_fits
+touch-requires-clause-b_fits g c =
+    (All-contains (IsItemOf c.args.d.now) (g.C.Copper.items c.args.c.now) c.in-Some-item.b.now
+    (g.met.C.Copper.serving _ _ c.requires.serves).items_fit c.in-Some-item.ensures.0).fits

@@ -1,9 +1,10 @@
-use Rattle.std.proofs.Common.{◌≡◌, ◌<◌, ◌+◌, List, length, sym, ◌∙◌, ap, subst, pos}
+use Rattle.std.proofs.Common.{◌≡◌, ◌<◌, ◌+◌, List, length, sym, ◌∙◌, ap, subst, pos, arith}
 use Rattle.geo_kernel.specs.declared.point.Point.{Point}
 use Rattle.pcb_model.specs.declared.item.Metal.TheVariants.{Wire}
 use Rattle.shove.specs.Shoves.{chain_of}
 use Rattle.shove.proofs.Touching.{unless}
 use Rattle.shove.proofs.Running.{none, shoved_by, new_metal_fits, new_fits, fits_not, is_shove}
+use Rattle.pcb_model.specs.declared.item.Item.{Item}
 use Rattle.shove.proofs.run.shove_at.Goals as goal
 
 abbrev origin : Point
@@ -77,3 +78,36 @@ returns g c =
     origin c.in_ok-shoved.shoved shoved c.requires.fits c.requires.item.metal_fits c.in_ok-new.new
     c.in-Wire-metal.chain c.in-Wire-metal.layer c.in-Wire-metal.width c.in_ok-new.ensures c.in-Wire-metal.is
     (c.can_replace.ensures.0 c.if-not-can_replace.false)
+
+pub moved_run-requires-clause-xs : goal.moved_run-requires-clause-xs
+moved_run-requires-clause-xs g c = c.requires.fits.xs_ascend
+
+pub moved_run-requires-clause-ys : goal.moved_run-requires-clause-ys
+moved_run-requires-clause-ys g c = c.requires.fits.ys_ascend
+
+pub shoved_chain-requires : goal.shoved_chain-requires
+shoved_chain-requires g c =
+    let points = c.as_slice-points.result.now in
+    let metal_is : c.args.item.now.metal ≡ Wire c.in-Wire.layer c.in-Wire.width points = c.in-Wire.is
+    ∙ ap (λ (ps : List Point). Wire c.in-Wire.layer c.in-Wire.width ps) (sym c.as_slice-points.ensures) in
+    let run : c.args.run + 1 < length points = subst (λ (ps : List Point). c.args.run + 1 < length ps)
+    (ap chain_of metal_is) c.requires.run in
+    omega (arith, run)
+
+pub make_item-requires-clause-padstacks : goal.make_item-requires-clause-padstacks
+make_item-requires-clause-padstacks g c = c.requires.sound.fits.padstacks_fit
+
+pub can_replace-requires-clause-sound : goal.can_replace-requires-clause-sound
+can_replace-requires-clause-sound g c = c.requires.sound
+
+pub can_replace-requires-clause-serves : goal.can_replace-requires-clause-serves
+can_replace-requires-clause-serves g c = c.requires.serves
+
+pub can_replace-requires-clause-old_fits : goal.can_replace-requires-clause-old_fits
+can_replace-requires-clause-old_fits g c = c.requires.item.fits
+
+pub can_replace-requires-clause-one_net : goal.can_replace-requires-clause-one_net
+can_replace-requires-clause-one_net g c = ap (λ (a : Item). a.net) c.in_ok-new.ensures
+
+pub can_replace-requires-clause-one_id : goal.can_replace-requires-clause-one_id
+can_replace-requires-clause-one_id g c = ap (λ (a : Item). a.id) c.in_ok-new.ensures

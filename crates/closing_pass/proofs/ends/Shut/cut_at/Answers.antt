@@ -1,11 +1,72 @@
-use Rattle.std.proofs.Common.{◌∙◌, ap, List}
+use Rattle.std.proofs.Common.{◌∙◌, ◌<◌, ◌≤◌, ap, length, List, Option, Some, subst, sym}
 use Rattle.std.specs.List.{insert}
+use Rattle.std.specs.Prelude.{IfSome}
+use Rattle.std.proofs.lemmas.Option.{slice_get_within}
 use Rattle.pcb_islands.specs.declared.net.Island.{Island}
-use Rattle.closing_pass.proofs.Places.{put_again}
+use Rattle.pcb_islands.specs.Islands.{pins_of}
+use Rattle.pcb_islands.proofs.Gathering.{island_at}
+use Rattle.cut_certificate.specs.Cuts.{Cuts, LeadsOn}
+use Rattle.closing_pass.proofs.Joining.{net_at}
+use Rattle.closing_pass.proofs.Places.{place_within, put_again}
 use Rattle.closing_pass.proofs.ends.Shut.cut_at.Goals as goal
+
+pub remove-island-requires : goal.remove-island-requires
+remove-island-requires c = c.requires.place
+
+pub cut_of-requires-clause-can_move : goal.cut_of-requires-clause-can_move
+cut_of-requires-clause-can_move c =
+    let can = c.requires.can in
+    let d = c.args.self.now.d.now in
+    record {
+      sound = can.sound;
+      fits = can.fits;
+      net_there = subst (λ n. n < length d.nets) (sym (net_at d c.args.self.now.snap.now.items c.args.net c.args.found
+          c.args.place c.remove-island.result c.requires.islands c.remove-island.ensures.value)) c.requires.net;
+      small_cost = can.small_cost;
+    }
+
+-- an island has a first pin
+pub cut_of-requires-clause-pins : goal.cut_of-requires-clause-pins
+cut_of-requires-clause-pins c =
+    let d = c.args.self.now.d.now in
+    let is = island_at d c.args.self.now.snap.now.items c.args.net (pins_of d c.args.net) c.args.found c.args.place
+    c.remove-island.result c.requires.islands c.remove-island.ensures.value in
+    slice_get_within c.remove-island.result.pins 0 is.first is.first_is
+
+pub cut_of-requires-clause-serves : goal.cut_of-requires-clause-serves
+cut_of-requires-clause-serves c = (c.requires.can.own, c.requires.can.serves)
+
+pub cut_of-requires-clause-maps : goal.cut_of-requires-clause-maps
+cut_of-requires-clause-maps c = c.requires.maps
+
+-- no walk leads on from the island, so it has a cut
+pub unreachable-unreachable : goal.unreachable-unreachable
+unreachable-unreachable c =
+    let s = c.args.self.now in
+    c.requires.shut c.remove-island.result c.remove-island.ensures.value
+    (subst (λ (os : List Island). LeadsOn s.d.now s.lat.now s.snap.now.items s.via_cost c.remove-island.result os)
+    c.remove-island.ensures.rest
+    (subst (Cuts s.d.now s.lat.now s.snap.now.items s.via_cost c.remove-island.result c.remove-island.new.self)
+    c.in_default.is c.in_ok-made.ensures))
+
+pub put_back-requires : goal.put_back-requires
+put_back-requires c =
+    subst (λ (os : List Island). c.args.place ≤ length os) (sym c.remove-island.ensures.rest)
+    (place_within c.args.found c.args.place c.requires.place)
 
 pub returns-clause-found : goal.returns-clause-found
 returns-clause-found c =
     c.in_ok-found.ensures ∙ ap (λ (xs : List Island). insert xs c.args.place c.remove-island.result)
     c.remove-island.ensures.rest
     ∙ put_again c.args.found c.args.place c.remove-island.result c.remove-island.ensures.value
+
+-- the cut of what was taken out is that of the island at the place
+pub returns-clause-cut : goal.returns-clause-cut
+returns-clause-cut c = λ island there.
+    let s = c.args.self.now in
+    subst (λ (os : List Island). Cuts s.d.now s.lat.now s.snap.now.items s.via_cost island os (Some c.in-Some.cut))
+    c.remove-island.ensures.rest
+    (subst (λ (o : Option Island). IfSome o (λ i. Cuts s.d.now s.lat.now s.snap.now.items s.via_cost i
+    c.remove-island.new.self (Some c.in-Some.cut))) (sym c.remove-island.ensures.value ∙ there)
+    (subst (Cuts s.d.now s.lat.now s.snap.now.items s.via_cost c.remove-island.result c.remove-island.new.self)
+    c.in-Some.is c.in_ok-made.ensures))

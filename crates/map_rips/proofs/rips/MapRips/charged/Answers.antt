@@ -25,7 +25,7 @@ returns-clause-counted g c =
     let out : IsOutOfAll t.lat.now s.own c.args.node =
     subst (λ b. OnTrue b (IsOutOfAll t.lat.now s.own c.args.node)) c.if-not-is_off.false c.is_off.ensures in
     subst (IsCharged t.d.now items t.net (probe_at t.d.now t.lat.now t.net c.args.node c.args.i))
-    (sym (c.at_most_16.ensures ∙ ap (λ n. min n 16) c.saturating_sub.ensures))
+    (sym (c.at_most_charged.ensures ∙ ap (λ n. min n 16) c.saturating_sub.ensures))
     (off_here t.d.now t.lat.now items t.net s.by_map.map.now c.args.self.now.fixed.now s.own
     c.requires.maps c.requires.can_rip.can_move.sound
     (g.met.C.Copper.serving t.c.now t.d.now c.requires.serves) c.args.node c.args.i c.requires.node c.requires.index

@@ -1,11 +1,12 @@
-use Rattle.std.proofs.Common.{◌≡◌, ℕ, ◌+◌, ◌*◌, ◌≤◌, ◌<◌, length, ap, ◌∙◌, subst, arith}
-use Rattle.route_lattice.specs.Mesh.{level}
+use Rattle.std.proofs.Common.{◌≡◌, ℕ, ◌+◌, ◌*◌, ◌≤◌, ◌<◌, ◌^◌, length, sym, ap, ◌∙◌, subst, arith}
+use Rattle.route_lattice.specs.Mesh.{column, row, level}
 use Rattle.route_lattice.specs.Ways.{way_count}
+use Rattle.route_lattice.proofs.Places.{width_positive}
 use Rattle.move_maps.specs.Paint.{Paints}
 use Rattle.move_maps.proofs.Lines.{left_of, line_next, line_end, row_small, place_small}
 use Rattle.move_maps.proofs.Spanning.{line_sides}
 use Rattle.move_maps.proofs.Layered.{clear_at}
-use Rattle.move_maps.proofs.Plains.{level_is}
+use Rattle.move_maps.proofs.Plains.{level_is, row_is, column_is}
 use Rattle.move_maps.proofs.paint.Brush.paint_line.Goals as goal
 
 inside : (col right n : ℕ) → col < right → right ≤ n → col < n
@@ -13,6 +14,37 @@ inside col right n h k = omega (arith, h, k)
 
 equal : (i n : ℕ) → i ≤ n → n ≤ i → i ≡ n
 equal i n h k = omega (arith, h, k)
+
+-- a line's number and that of its first node, as they are computed
+begin_small : (layers h w level row y x : ℕ) → y ≡ h → x ≡ w → 0 < layers * h * w → layers * h * w ≤ 2 ^ 24
+    → level < layers → row < h → (level * y + row ≤ 2 ^ 24) × ((level * y + row) * x ≤ 2 ^ 24)
+begin_small layers h w level row y x ey ex p s l r =
+    let k = (place_small layers h w level row 0 y x ey ex p s l r (width_positive w (layers * h) 0 p)).1 in
+    (subst (λ n. level * n + row ≤ 2 ^ 24) (sym ey) (row_small layers h w level row p s l r).1, omega (arith, k))
+
+pub overflow_mul-start : goal.overflow_mul-start
+overflow_mul-start g c =
+    let m = c.args.self.now.moves.lat.now in let r = c.requires in
+    let k = (begin_small (length m.layers) (length m.ys) (length m.xs) c.args.level c.args.row c.len.result
+    c.len-width.result (c.len.ensures ∙ ap length c.ys.ensures) (c.len-width.ensures ∙ ap length c.xs.ensures) r.some
+    r.ready.can_move.fits.few_nodes r.level r.row).0 in
+    omega (arith, k)
+
+pub overflow_add-start : goal.overflow_add-start
+overflow_add-start g c =
+    let m = c.args.self.now.moves.lat.now in let r = c.requires in
+    let k = (begin_small (length m.layers) (length m.ys) (length m.xs) c.args.level c.args.row c.len.result
+    c.len-width.result (c.len.ensures ∙ ap length c.ys.ensures) (c.len-width.ensures ∙ ap length c.xs.ensures) r.some
+    r.ready.can_move.fits.few_nodes r.level r.row).0 in
+    omega (arith, k)
+
+pub overflow_mul-start-2 : goal.overflow_mul-start-2
+overflow_mul-start-2 g c =
+    let m = c.args.self.now.moves.lat.now in let r = c.requires in
+    let k = (begin_small (length m.layers) (length m.ys) (length m.xs) c.args.level c.args.row c.len.result
+    c.len-width.result (c.len.ensures ∙ ap length c.ys.ensures) (c.len-width.ensures ∙ ap length c.xs.ensures) r.some
+    r.ready.can_move.fits.few_nodes r.level r.row).1 in
+    omega (arith, k)
 
 pub loop-column-init : goal.loop-column-init
 loop-column-init g c =
@@ -85,6 +117,46 @@ paint_crossing-requires-clause-level g c =
     ∙ level_is (length m.ys) (length m.xs) c.args.level c.args.row col c.requires.row
     (inside col c.row_span-span.result.right (length m.xs) c.loop-column-test.true
     (subst (λ n. c.row_span-span.result.right ≤ n) ew c.row_span-span.ensures.span.within)))
+
+pub paint_crossing-requires-clause-row : goal.paint_crossing-requires-clause-row
+paint_crossing-requires-clause-row g c =
+    let m = c.args.self.now.moves.lat.now in
+    let eh = c.len.ensures ∙ ap length c.ys.ensures in
+    let ew = c.len-width.ensures ∙ ap length c.xs.ensures in
+    let col = c.loop-column.column in
+    ap (λ n. row m ((c.args.level * n + c.args.row) * c.len-width.result + col)) eh
+    ∙ (ap (λ n. row m ((c.args.level * length m.ys + c.args.row) * n + col)) ew
+    ∙ row_is (length m.ys) (length m.xs) c.args.level c.args.row col c.requires.row
+    (inside col c.row_span-span.result.right (length m.xs) c.loop-column-test.true
+    (subst (λ n. c.row_span-span.result.right ≤ n) ew c.row_span-span.ensures.span.within)))
+
+pub paint_crossing-requires-clause-column : goal.paint_crossing-requires-clause-column
+paint_crossing-requires-clause-column g c =
+    let m = c.args.self.now.moves.lat.now in
+    let eh = c.len.ensures ∙ ap length c.ys.ensures in
+    let ew = c.len-width.ensures ∙ ap length c.xs.ensures in
+    let col = c.loop-column.column in
+    ap (λ n. column m ((c.args.level * n + c.args.row) * c.len-width.result + col)) eh
+    ∙ (ap (λ n. column m ((c.args.level * length m.ys + c.args.row) * n + col)) ew
+    ∙ column_is (length m.ys) (length m.xs) c.args.level c.args.row col
+    (inside col c.row_span-span.result.right (length m.xs) c.loop-column-test.true
+    (subst (λ n. c.row_span-span.result.right ≤ n) ew c.row_span-span.ensures.span.within)))
+
+pub paint_crossing-requires-clause-ready : goal.paint_crossing-requires-clause-ready
+paint_crossing-requires-clause-ready g c = c.requires.ready
+
+pub paint_crossing-requires-clause-size : goal.paint_crossing-requires-clause-size
+paint_crossing-requires-clause-size g c = c.loop-column.invariant.size ∙ c.requires.size
+
+pub paint_crossing-requires-clause-node : goal.paint_crossing-requires-clause-node
+paint_crossing-requires-clause-node g c =
+    let m = c.args.self.now.moves.lat.now in let r = c.requires in
+    let ew = c.len-width.ensures ∙ ap length c.xs.ensures in
+    (place_small (length m.layers) (length m.ys) (length m.xs) c.args.level c.args.row c.loop-column.column
+    c.len.result c.len-width.result (c.len.ensures ∙ ap length c.ys.ensures) ew r.some
+    r.ready.can_move.fits.few_nodes r.level r.row
+    (inside c.loop-column.column c.row_span-span.result.right (length m.xs) c.loop-column-test.true
+    (subst (λ n. c.row_span-span.result.right ≤ n) ew c.row_span-span.ensures.span.within))).0
 
 pub returns : goal.returns
 returns g c =

@@ -1,5 +1,13 @@
-use Rattle.std.proofs.Common.{◌≡◌, ℕ, ◌+◌, ◌*◌, ◌≤◌, length, refl, ap, ◌∙◌, subst, arith}
+use Rattle.std.proofs.Common.{◌≡◌, ℕ, ◌+◌, ◌*◌, ◌≤◌, ◌<◌, ◌^◌, ◌↔◌, IsTrue, true, List, length}
+use Rattle.std.proofs.Common.{refl, sym, ap, ◌∙◌, subst, arith}
+use Rattle.std.specs.Prelude.{slice_index}
+use Rattle.geo_kernel.specs.Plane.{IsWithin}
+use Rattle.pcb_model.specs.declared.item.Probe.TheVariants as probe
+use Rattle.pcb_model.specs.Pieces.{padstack_pieces}
+use Rattle.route_lattice.specs.Near.{are_near_at}
 use Rattle.route_lattice.specs.Ways.{way_count}
+use Rattle.route_lattice.proofs.Fitting.{point_within}
+use Rattle.move_maps.specs.Clear.{IsClearOf}
 use Rattle.move_maps.proofs.Painting.{begins, goes_on, at_ends}
 use Rattle.move_maps.proofs.paint.Brush.paint_stack.Goals as goal
 
@@ -20,6 +28,34 @@ equal i n h k = omega (arith, h, k)
 
 next : (n k l i : ℕ) → i ≡ k → n + (4 + l * k + i) ≡ n + (4 + (l + 1) * k)
 next n k l i e = omega (arith, e)
+
+pub bounds-vias-number : goal.bounds-vias-number
+bounds-vias-number g c =
+    subst (λ (vs : List ℕ). c.args.number < length vs) (sym c.vias.ensures) c.requires.number
+
+pub is_stack_clear-clear-requires-clause-at : goal.is_stack_clear-clear-requires-clause-at
+is_stack_clear-clear-requires-clause-at g c =
+    let t = c.args.self.now.moves in let k = c.requires.spot in
+    subst (IsWithin (2 ^ 29)) (sym k.at_is)
+    (point_within t.d.now t.lat.now c.args.spot.now.node c.requires.ready.can_move.fits k.there)
+
+pub paint_via-requires-clause-spot : goal.paint_via-requires-clause-spot
+paint_via-requires-clause-spot g c = c.requires.spot
+
+pub paint_via-requires-clause-number : goal.paint_via-requires-clause-number
+paint_via-requires-clause-number g c = c.requires.number
+
+pub paint_via-requires-clause-level : goal.paint_via-requires-clause-level
+paint_via-requires-clause-level g c =
+    subst (λ n. c.loop-level.level < n) (c.len-level-end.ensures ∙ ap length c.layers.ensures) c.loop-level-test.true
+
+pub paint_via-requires-clause-clear : goal.paint_via-requires-clause-clear
+paint_via-requires-clause-clear g c =
+    let s = c.args.self.now in let d = s.moves.d.now in let at = c.args.spot.now.at in
+    subst (λ (vs : List ℕ). IsTrue c.is_stack_clear-clear.result
+    ↔ (are_near_at at (padstack_pieces d (slice_index vs c.args.number)) ≡ true
+    → IsClearOf d s.moves.net (probe.Via (slice_index vs c.args.number) at) s.item.now)) c.vias.ensures
+    c.is_stack_clear-clear.ensures
 
 pub loop-level-init : goal.loop-level-init
 loop-level-init g c =

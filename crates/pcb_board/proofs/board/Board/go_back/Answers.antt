@@ -7,7 +7,9 @@ use Rattle.board_offers.specs.Given.{AreGiven}
 use Rattle.pcb_board.specs.declared.answer.Entry.TheVariants.{Back}
 use Rattle.pcb_board.specs.declared.board.Board.TheInside.{Inside}
 use Rattle.pcb_board.specs.Turning.{AreTurned, is_marked}
-use Rattle.pcb_board.proofs.Returning.{IsReturned, returned_view, returned_indexed}
+use Rattle.pcb_model.specs.Sound.{IsSound}
+use Rattle.pcb_board.proofs.Opening.{copied_view, copied_indexed}
+use Rattle.pcb_board.proofs.Returning.{IsReturned, err_any, returned_view, returned_indexed}
 use Rattle.pcb_board.proofs.board.Board.go_back.Goals as goal
 
 pub marked_tiles-requires-clause-given : goal.marked_tiles-requires-clause-given
@@ -75,3 +77,37 @@ pub returns-clause-ok : goal.returns-clause-ok
 returns-clause-ok c =
     returned_view c.self.inside (after_parts c) c.args.self.now c.args.to c.in_ok-marks.marks.items c.self.view_is
     c.self.invariant c.requires c.in_ok-marks.ensures.long c.in_ok-marks.ensures.marks (parts c)
+
+abbrev unpushed : goal.After-drop-marks-in_err-push → Inside
+unpushed c = record {
+  alloc = c.self.inside.alloc;
+  design = c.self.inside.design;
+  cap = c.self.inside.cap;
+  history = c.push.new.self;
+  workers = c.self.inside.workers;
+  given = c.self.inside.given;
+  started = c.self.inside.started;
+  changed = c.self.inside.changed;
+  tiles = c.self.inside.tiles;
+}
+
+same_history : (c : goal.After-drop-marks-in_err-push) → c.push.new.self ≡ c.self.inside.history
+same_history c = search rules
+
+pub invariant_of-self : goal.invariant_of-self
+invariant_of-self c =
+    copied_indexed c.self.inside (unpushed c) refl refl (same_history c) refl refl refl refl refl c.self.invariant
+
+pub returns-in_err-marks-clause-err : goal.returns-in_err-marks-clause-err
+returns-in_err-marks-clause-err c = err_any _ refl
+
+pub returns-in_err-tiles-clause-err : goal.returns-in_err-tiles-clause-err
+returns-in_err-tiles-clause-err c = err_any _ refl
+
+pub returns-in_err-push-clause-err : goal.returns-in_err-push-clause-err
+returns-in_err-push-clause-err c =
+    err_any _
+    (copied_view c.self.inside (unpushed c) refl refl (same_history c) refl refl refl refl refl ∙ c.self.view_is)
+
+pub marked_tiles-requires-clause-sound : goal.marked_tiles-requires-clause-sound
+marked_tiles-requires-clause-sound c = subst IsSound (sym c.get.ensures) c.self.invariant.board.sound

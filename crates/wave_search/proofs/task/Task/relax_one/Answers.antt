@@ -2,7 +2,7 @@ use Rattle.std.proofs.Common.{arith, ◌≡◌, ◌+◌, Option, Some, refl, sym
 use Rattle.wave_search.specs.declared.rows.Label.{Label}
 use Rattle.wave_search.specs.State.{label_at, improves_on, is_done_by}
 use Rattle.wave_search.proofs.Steps.{price_room, relabel_keeps, relabelled, better_from, unchanged, done_before}
-use Rattle.wave_search.proofs.Steps.{cheap_from}
+use Rattle.wave_search.proofs.Steps.{cheap_from, nowhere, shut}
 use Rattle.wave_search.proofs.task.Task.relax_one.Goals as goal
 
 pub overflow_add-price : goal.overflow_add-price
@@ -120,3 +120,19 @@ let_wait-requires-clause-price g c =
 
 pub let_wait-requires-clause-origin : goal.let_wait-requires-clause-origin
 let_wait-requires-clause-origin g c = omega (arith, c.requires.node, c.requires.sound.nodes)
+
+pub returns-in_default-clause-state : goal.returns-in_default-clause-state
+returns-in_default-clause-state g c =
+    nowhere (g.M.Moves.graph c.args.self.now.m.now) c.args.self.now.starts.now c.args.self.now.goals.now
+    (g.B.Bound.low_of c.args.self.now.b.now) c.requires.sound c.requires.bound
+    c.args.table.now c.args.front.now
+    (c.args.label.price + g.B.Bound.low_of c.args.self.now.b.now c.args.node) c.args.label.rank c.args.node c.args.i
+    c.args.label c.requires.state c.requires.there (sym c.at.ensures ∙ c.in_default.is)
+
+pub returns-then-not-is_open-clause-state : goal.returns-then-not-is_open-clause-state
+returns-then-not-is_open-clause-state g c =
+    shut (g.M.Moves.graph c.args.self.now.m.now) c.args.self.now.starts.now c.args.self.now.goals.now
+    (g.B.Bound.low_of c.args.self.now.b.now) c.requires.sound c.requires.bound
+    c.args.table.now c.args.front.now
+    (c.args.label.price + g.B.Bound.low_of c.args.self.now.b.now c.args.node) c.args.label.rank c.args.node c.args.i
+    c.args.label c.requires.state c.requires.there c.if-not-is_open.ensures.shut

@@ -123,3 +123,9 @@ search-preserved-in_default-waiting g c = record {
       (taken_now c.search.front c.pop.new.self _ c.in-Some.entry c.in_ok-entry.ensures c.in-Some.is)
       c.in_default-waiting.ensures;
 }
+
+pub search-init : goal.search-init
+search-init g c = record { size = refl; state = (0, c.requires.state) }
+
+pub returns-clause-size : goal.returns-clause-size
+returns-clause-size g c = c.search.invariant.size

@@ -1,0 +1,23 @@
+use Rattle.std.proofs.Common.{◌≡◌, ◌∙◌, ap, sym, ℕ, ◌+◌, ◌<◌, List, [], ◌∷◌, ◌++◌, length, get_or, map, take}
+use Rattle.std.proofs.lemmas.List.{map_more, take_all}
+use Rattle.board_offers.specs.declared.offer.Shoved.{Shoved}
+use Rattle.board_offers.proofs.ids.shoved_ids.Goals as goal
+
+-- one more id behind those of the shoves that are seen
+id_more : (shoves : List Shoved) (i : ℕ) (s : Shoved) (old new : List ℕ) → i < length shoves → s ≡ get_or shoves i s
+    → old ≡ map (λ (s : Shoved). s.id) (take i shoves) → new ≡ old ++ (s.id ∷ [])
+    → new ≡ map (λ (s : Shoved). s.id) (take (i + 1) shoves)
+id_more shoves i s old new h e p q =
+    q ∙ ap (λ ids. ids ++ (s.id ∷ [])) p
+    ∙ ap (λ (s : Shoved). map (λ (s : Shoved). s.id) (take i shoves) ++ (s.id ∷ [])) e
+    ∙ sym (map_more (λ (s : Shoved). s.id) shoves i s h)
+
+pub loop-s-preserved : goal.loop-s-preserved
+loop-s-preserved c =
+    id_more c.args.shoves.now c.loop-s.s-index c.s-item.result c.loop-s.ids.items c.push.new.self.items
+    c.loop-s-test.true c.s-item.is c.loop-s.invariant c.in_ok-push.ensures.items
+
+pub returns : goal.returns
+returns c =
+    c.loop-s.invariant
+    ∙ ap (map (λ (s : Shoved). s.id)) (take_all c.loop-s.s-index c.args.shoves.now c.loop-s-test.false)

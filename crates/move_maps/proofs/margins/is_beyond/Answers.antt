@@ -1,0 +1,48 @@
+use Rattle.std.proofs.Common.{◌≡◌, ◌∙◌, ◌<◌, ◌^◌, ◌≤ℤ◌, ℤ, true, w64, inl, inr, sym, ap₂, arith}
+use Rattle.std.proofs.lemmas.Int.{ints, to_z-of_z}
+use lib.Signed.{le_z, mag}
+use Rattle.geo_kernel.proofs.Bounds.{seen}
+use Rattle.move_maps.proofs.margins.is_beyond.Goals as goal
+
+-- a comparison of two numbers that the code was passed, where it says yes
+at_most : (y z : ℤ) → mag y < 2 ^ 63 → mag z < 2 ^ 63 → le_z (seen y) (seen z) ≡ true → y ≤ℤ z
+at_most y z h k e =
+    by y z (sym (ap₂ le_z (to_z-of_z w64 y (record { sfits = h })) (to_z-of_z w64 z (record { sfits = k }))) ∙ e)
+  where
+    by : (y z : ℤ) → le_z y z ≡ true → y ≤ℤ z
+    by y z e = omega (arith, ints, e)
+
+pub returns-then-b-r : goal.returns-then-b-r
+returns-then-b-r c =
+    let r = c.struct_told-2-1.given.0.1 in
+    inl (inl (
+      at_most c.args.a.x c.args.r.x0 c.struct_told-1.given.0.1 r c.if-a-r.true,
+      at_most c.args.b.x c.args.r.x0 c.struct_told-then-a-r-1.given.0.1 r c.if-b-r.true,
+    ))
+
+pub returns-then-r-b : goal.returns-then-r-b
+returns-then-r-b c =
+    let r = c.struct_told-2-1.given.1.1.0.1 in
+    inl (inr (
+      at_most c.args.r.x1 c.args.a.x r c.struct_told-1.given.0.1 c.if-r-a.true,
+      at_most c.args.r.x1 c.args.b.x r c.struct_told-then-r-a-2-1.given.0.1 c.if-r-b.true,
+    ))
+
+pub returns-then-b-r-2 : goal.returns-then-b-r-2
+returns-then-b-r-2 c =
+    let r = c.struct_told-2-1.given.1.0.1 in
+    inr (inl (
+      at_most c.args.a.y c.args.r.y0 c.struct_told-1.given.1.0.1 r c.if-a-r-2.true,
+      at_most c.args.b.y c.args.r.y0 c.struct_told-then-a-r-2-2-1.given.1.0.1 r c.if-b-r-2.true,
+    ))
+
+pub returns-then-r-b-2 : goal.returns-then-r-b-2
+returns-then-r-b-2 c =
+    let r = c.struct_told-2-1.given.1.1.1.0.1 in
+    inr (inr (
+      at_most c.args.r.y1 c.args.a.y r c.struct_told-1.given.1.0.1 c.if-r-a-2.true,
+      at_most c.args.r.y1 c.args.b.y r c.struct_told-then-r-a-2-3-1.given.1.0.1 c.if-r-b-2.true,
+    ))
+
+pub returns : goal.returns
+returns c = tt

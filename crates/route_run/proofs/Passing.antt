@@ -1,7 +1,7 @@
 -- One pass more.
 use Rattle.std.proofs.Common.{◌≡◌, ◌∙◌, ◌+◌, ◌≤◌, ◌<◌, ℕ, sym, ap, subst, arith, List, []}
 use Rattle.std.proofs.Common.{◌∷◌, ◌++◌, length, Option, Some, inl, inr}
-use Rattle.std.specs.Prelude.{slice_get, sum_by}
+use Rattle.std.specs.Prelude.{Bool, IfSome, slice_get, sum_by}
 use Rattle.std.proofs.Math.Seq.{take-length}
 use Rattle.std.proofs.lemmas.Bool.{cases_lt}
 use Rattle.std.proofs.lemmas.List.{length-append, take-append-le}
@@ -9,6 +9,8 @@ use Rattle.std.proofs.lemmas.List.Elements.{All-contains}
 use Rattle.std.proofs.lemmas.List.Sums.{sum_by_push}
 use Rattle.std.proofs.lemmas.Option.{slice_get_within}
 use Rattle.pcb_islands.proofs.Elements.{look_cases as look_last}
+use Rattle.board_sight.specs.declared.sight.Sight.{Sight}
+use Rattle.board_sight.specs.Sights.{IsSeenOn}
 use Rattle.board_offers.specs.declared.offer.Offer.{Offer}
 use Rattle.board_offers.proofs.Lists.{look_cases, in_from}
 use Rattle.pcb_board.specs.declared.answer.Entry.{Entry}
@@ -27,7 +29,8 @@ use Rattle.route_report.specs.declared.facts.PassLine.{PassLine}
 use Rattle.route_run.specs.declared.passes.Made.{Made}
 use Rattle.route_run.specs.Runs.{AreLeast, ArePasses, AreTooLate, HasSeveral, IsOpenCount, IsPass}
 use Rattle.route_run.specs.Runs.{IsWorkedOff, RunOf, entries_after, pass_at}
-use Rattle.route_run.specs.Passing.{HasPassed, IsMade, MayFollow}
+use Rattle.route_run.specs.declared.passes.Stand.{Stand}
+use Rattle.route_run.specs.Passing.{AreOpenOn, HasPassed, IsMade, IsOneMore, IsReady, MayFollow}
 
 -- ---- what holds of a board holds when it has grown
 pub grown_by : (p : PassOf) (b c : BoardOf) → GrowsBy p b c → Grows b c
@@ -273,3 +276,28 @@ pub pass_more : (m : Mesh) (r : RunOf) (b : BoardOf) (lines : List PassLine) (ma
 pass_more m r b lines made number has follow count room is =
     more_passed m r b lines made has follow (omega (arith, count, room))
     (subst (λ (k : ℕ). IsMade (pass_at m r.via_cost r.workers (k + 1)) b made) (sym count) is)
+
+-- ---- where passes stand behind it
+module _ (p : PassOf) (number : ℕ) (old : BoardOf) (lines : List PassLine) (new : Stand) (more_lines : List PassLine)
+    (more : Bool) (one : IsOneMore p number old lines new more_lines more) where
+  abbrev pub made_by : Made
+  made_by = record { board = new.board; line = one.made.line; open_nets = new.open_nets; full = one.made.full }
+
+  pub made_on : IsMade p old made_by
+  made_on = subst (λ (b : BoardOf). IsMade p old (record made_by { board = b })) (sym one.stands.board_is) (record {
+    grows = one.is.grows;
+    board = one.is.board;
+    commits = one.is.commits;
+    worked = one.is.worked;
+    least = one.is.least;
+    leaves = one.is.leaves;
+    spent = one.is.spent;
+  })
+
+  pub ready_on : IsReady p.lattice new
+  ready_on = record {
+    open_nets = subst (λ (b : BoardOf). AreOpenOn b new.open_nets) (sym one.stands.board_is)
+        (subst (AreOpenOn one.made.board) (sym one.stands.open_nets_are) one.open_nets);
+    last = subst (λ (b : BoardOf). IfSome new.last (IsSeenOn p.lattice b)) (sym one.stands.board_is)
+        (subst (λ (o : Option Sight). IfSome o (IsSeenOn p.lattice one.made.board)) (sym one.stands.last_is) one.seen);
+  }

@@ -26,6 +26,9 @@ use Rattle.route_report.specs.declared.facts.Facts.{Facts}
 use Rattle.route_run.specs.Runs.{AreFacts, AreLeast, ClosesFrom, HaveEnded, IsBest, IsRun, RunOf, complete_from}
 use Rattle.route_run.specs.Runs.{entries_after}
 use Rattle.route_run.specs.Passing.{EndsBy, GoesBack, HasPassed, MayFollow, Stays}
+use Rattle.route_run.specs.Passing.{IsFinished, IsKept, IsTask, told_of}
+use Rattle.route_run.specs.declared.run.Kept.{Kept}
+use Rattle.route_run.specs.declared.run.Routed.{Routed}
 use Rattle.route_run.proofs.Best.{no_line}
 use Rattle.route_run.proofs.Passing.{least_on, passes_on}
 
@@ -249,3 +252,46 @@ module _ (d : Design) (m : Mesh) (r : RunOf) (first passed after : BoardOf) (clo
     least = least;
     facts_are = facts_are;
   }
+
+-- the run that is told
+pub run_told : (d : Design) (m : Mesh) (r : RunOf) (first : BoardOf) (kept : Kept) (dropped : List ℕ) (routed : Routed)
+    → IsStarted d (2 ^ 19) first dropped → IsKept m r first kept → IsBoard kept.board
+    → IsFinished m r.via_cost kept dropped routed → IsRun d m r routed.board routed.facts
+run_told d m r first kept dropped routed begun is board done =
+    subst (λ (x : Routed). IsRun d m r x.board x.facts) (sym done.told)
+    (is_run d m r first is.passed kept.board done.closed
+    (told_of m dropped kept.lines kept.kept done.closed).facts begun is.same is.has is.ended is.best is.gone board
+    done.out done.board refl refl refl refl refl)
+
+-- ---- what its parts ask for
+-- a board has few nets, and so few ends of them
+pub few_ends : (m : Mesh) (via_cost : ℕ) (b : BoardOf) (closed : Closed) → IsClosedOut m via_cost b closed
+    → IsBoard closed.board → length closed.ends ≤ 2 ^ 26
+few_ends m via_cost b closed out board =
+    let few = board.sound.parts.few_nets in omega (arith, few, out.ends.all)
+
+pub task_begun : (d : Design) (m : Mesh) (via_cost : ℕ) (first : BoardOf) (dropped : List ℕ)
+    → IsStarted d (2 ^ 19) first dropped → IsTask d m via_cost → IsTask first.design m via_cost
+task_begun d m via_cost first dropped begun task =
+    subst (λ (x : Design). IsTask x m via_cost) (sym (ap (λ (b : BoardOf). b.design) begun.board_is)) task
+
+pub new_begun : (d : Design) (first : BoardOf) (dropped : List ℕ) → IsStarted d (2 ^ 19) first dropped
+    → first.history ≡ []
+new_begun d first dropped begun = ap (λ (b : BoardOf). b.history) begun.board_is
+
+-- the board keeps its design
+pub task_kept : (m : Mesh) (r : RunOf) (first : BoardOf) (kept : Kept) → IsKept m r first kept
+    → IsTask first.design m r.via_cost → IsTask kept.board.design m r.via_cost
+task_kept m r first kept is task =
+    let back = grows_gone kept.lines kept.kept is.passed kept.board is.gone in
+    subst (λ (x : Design). IsTask x m r.via_cost) (sym (back.design_stays ∙ is.same.design_stays)) task
+
+-- where passes have ended there is one
+pub some_lines : (r : RunOf) (b : BoardOf) (lines : List PassLine) → HaveEnded r b lines → 0 < length lines
+some_lines r b lines ended =
+    let within = slice_get_within lines (length lines - 1) ended.last ended.last_is in omega (arith, within)
+
+-- the kept one is one of them
+pub kept_within : (lines : List PassLine) (kept : ℕ) → IsBest lines kept → kept ≤ length lines
+kept_within lines kept best =
+    let within = slice_get_within lines (kept - 1) best.line best.line_is in omega (arith, within, best.counted)

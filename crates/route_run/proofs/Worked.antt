@@ -22,7 +22,8 @@ use Rattle.searcher_pool.specs.Passes.{AreAmong, EndsPlace, EndsTask, IsFullAnsw
 use Rattle.searcher_pool.specs.Passes.{IsStaleOf, IsTold, PassOf, claimed, named}
 use Rattle.route_run.specs.declared.passes.Made.{Made}
 use Rattle.route_run.specs.Runs.{AreTooLate, IsOpenCount, IsTooLate, IsWorkedOff}
-use Rattle.route_run.specs.Passing.{AreOpenNets, IsMade}
+use Rattle.route_run.specs.Passing.{AreOpenNets, AreWorkedOff, IsMade, IsMadeAfter}
+use Rattle.route_run.proofs.Counting.{open_count}
 
 -- ---- places in logs
 -- what is there some times is there
@@ -174,16 +175,14 @@ worked_off p old new logs some kept passed place net is within =
     ]
 
 -- a pass over all nets with several islands
-pub made_from : (p : PassOf) (old : BoardOf) (made : Made) (logs : List WorkerLog) (count : ℕ) → 0 < p.workers
-    → IsBoard made.board → IsPassed p old made.board logs
+pub worked_from : (p : PassOf) (old new : BoardOf) (full : Bool) (logs : List WorkerLog) (count : ℕ) → 0 < p.workers
+    → IsBoard new → IsPassed p old new logs
     → ((n : ℕ) (o : Offer) (first after : ℕ) → length old.history ≤ n
-    → slice_get made.board.history n ≡ Some (Join o first after)
-    → (o.base ≤ n) × IsLeastOffer p.lattice p.via_cost (board_at made.board o.base) o)
-    → AreOpenNets old.design old.items (length old.design.nets) p.tasks count
-    → length old.history + made.line.commits ≡ length made.board.history
-    → IsOpenCount made.board.design made.board.items made.line.parted → (IsTrue made.full → IsSpent made.board)
-    → IsMade (record p { tasks = [] }) old made
-made_from p old made logs count some kept passed least open_nets commits leaves spent = record {
+    → slice_get new.history n ≡ Some (Join o first after)
+    → (o.base ≤ n) × IsLeastOffer p.lattice p.via_cost (board_at new o.base) o)
+    → AreOpenNets old.design old.items (length old.design.nets) p.tasks count → (IsTrue full → IsSpent new)
+    → AreWorkedOff (record p { tasks = [] }) old new full
+worked_from p old new full logs count some kept passed least open_nets spent = record {
   grows = record {
     design = passed.grows.design;
     start = passed.grows.start;
@@ -193,12 +192,29 @@ made_from p old made logs count some kept passed least open_nets commits leaves 
     joins = passed.grows.joins;
   };
   board = kept;
-  commits = commits;
   worked = λ net lt several.
       let task = open_nets.all net lt several in
-      worked_off p old made.board logs some kept passed task.0 net
+      worked_off p old new logs some kept passed task.0 net
       (slice_get-get_or p.tasks task.0 net task.1 ∙ ap (λ (x : ℕ). Some x) task.2) task.1;
   least = least;
-  leaves = leaves;
   spent = spent;
 }
+
+-- with its line that is a pass that was made
+pub made_from : (p : PassOf) (old new : BoardOf) (full : Bool) (made : Made) (before : ℕ) → before ≡ length old.history
+    → AreWorkedOff p old new full → IsMadeAfter new full before made → IsMade p old made
+made_from p old new full made before start are is =
+    let worked : AreWorkedOff p old made.board made.full =
+    subst (λ (f : Bool). AreWorkedOff p old made.board f) (sym is.full_is)
+    (subst (λ (b : BoardOf). AreWorkedOff p old b full) (sym is.board_is) are) in
+    let counted = open_count made.board.design made.board.items _ _ is.open_nets.are in
+    record {
+      grows = worked.grows;
+      board = worked.board;
+      commits = (let end = ap (λ (b : BoardOf). length b.history) is.board_is in
+          omega (arith, start, is.commits_are, end));
+      worked = worked.worked;
+      least = worked.least;
+      leaves = subst (IsOpenCount made.board.design made.board.items) (sym is.parted_is) counted;
+      spent = worked.spent;
+    }

@@ -1,23 +1,33 @@
 -- What the private functions of a run keep and answer.
-use Rattle.std.specs.Prelude.{◌≡◌, ◌⊎◌, ℕ, ◌+◌, ◌-◌, ◌<◌, ◌≤◌, ◌^◌, Bool, IsTrue, vec_len}
-use Rattle.std.specs.Prelude.{List, length, sum_by, slice_get, slice_index_or, All, Contains, Some}
+use Rattle.std.specs.Prelude.{◌≡◌, ◌⊎◌, ℕ, ◌+◌, ◌-◌, ◌<◌, ◌≤◌, ◌^◌, Bool, IfSome, IsTrue, not, vec_len}
+use Rattle.std.specs.Prelude.{List, [], ◌∷◌, ◌++◌, flat_map, length, sum_by, slice_get, slice_index_or}
+use Rattle.std.specs.Prelude.{All, Contains, Option, Some}
 use Rattle.pcb_model.specs.declared.item.Item.{Item}
 use Rattle.pcb_model.specs.declared.design.Design.{Design}
 use Rattle.pcb_islands.specs.declared.net.Island.{Island}
 use Rattle.pcb_islands.specs.Islands.{AreIslands}
-use Rattle.route_lattice.specs.Mesh.{Mesh}
+use Rattle.route_lattice.specs.Mesh.{Mesh, node_count}
 use Rattle.route_lattice.specs.Fits.{FitsDesign}
+use Rattle.board_sight.specs.declared.sight.Sight.{Sight}
+use Rattle.board_sight.specs.Sights.{IsSeenOn}
 use Rattle.board_offers.specs.declared.offer.Offer.{Offer}
 use Rattle.pcb_board.specs.declared.answer.Entry.TheVariants.{Join}
 use Rattle.pcb_board.specs.Boards.{BoardOf, board_at}
 use Rattle.pcb_board.specs.Answers.{taken_back}
 use Rattle.pcb_board.specs.Keeping.{IsBoard}
 use Rattle.least_offer.specs.Least.{IsLeastOffer}
+use Rattle.cut_certificate.specs.declared.cut.Cut.{Cut}
+use Rattle.closing_pass.specs.declared.closed.Closed.{Closed}
+use Rattle.closing_pass.specs.Closing.{IsClosedOut}
 use Rattle.searcher_pool.specs.Passes.{PassOf, Grows, IsSpent}
 use Rattle.route_report.specs.declared.facts.PassLine.{PassLine}
 use Rattle.route_run.specs.declared.connections.OpenNets.{OpenNets}
 use Rattle.route_run.specs.declared.passes.Made.{Made}
-use Rattle.route_run.specs.Runs.{RunOf, IsOpenCount, HasSeveral, IsWorkedOff, ArePasses, AreLeast, entries_after}
+use Rattle.route_run.specs.declared.run.Kept.{Kept}
+use Rattle.route_run.specs.declared.run.Routed.{Routed}
+use Rattle.route_run.specs.declared.passes.Stand.{Stand}
+use Rattle.route_run.specs.Runs.{RunOf, IsOpenCount, HasSeveral, IsWorkedOff, ArePasses, AreLeast, HaveEnded, IsBest}
+use Rattle.route_run.specs.Runs.{complete_from, entries_after}
 
 -- the lattice fits the design, and the price of a via is small
 pub record IsTask (d : Design) (m : Mesh) (via_cost : ℕ) : Type 0 where
@@ -60,9 +70,53 @@ pub record IsMade (p : PassOf) (old : BoardOf) (made : Made) : Type 0 where
   pub leaves : IsOpenCount made.board.design made.board.items made.line.parted
   pub spent : IsTrue made.full → IsSpent made.board
 
+-- the nets were worked off: what IsMade says but for the line, and where the board was full it takes no more
+pub record AreWorkedOff (p : PassOf) (old new : BoardOf) (full : Bool) : Type 0 where
+  pub grows : Grows p old new
+  pub board : IsBoard new
+  pub worked : (net : ℕ) → net < length old.design.nets → HasSeveral old.design old.items net
+      → IsWorkedOff p new (length old.history) (length new.history) net
+  pub least : (n : ℕ) (o : Offer) (first after : ℕ) → length old.history ≤ n
+      → slice_get new.history n ≡ Some (Join o first after)
+      → (o.base ≤ n) × IsLeastOffer p.lattice p.via_cost (board_at new o.base) o
+  pub spent : IsTrue full → IsSpent new
+
+-- the pass's line counts the entries behind those that stood before, and what is open
+pub record IsMadeAfter (board : BoardOf) (full : Bool) (before : ℕ) (made : Made) : Type 0 where
+  pub board_is : made.board ≡ board
+  pub full_is : made.full ≡ full
+  pub commits_are : before + made.line.commits ≡ length board.history
+  pub open_nets : AreOpenOn made.board made.open_nets
+  pub parted_is : made.line.parted ≡ made.open_nets.count
+
 -- why no pass follows the one of this number
 abbrev pub EndsBy : ℕ → PassLine → Bool → Type 0
 EndsBy number line full = (line.parted ≡ 0) ⊎ (((1 < number) × (line.commits ≡ 0)) ⊎ IsTrue full)
+
+-- what is open on the board is known, and what was seen before was of it
+pub record IsReady (m : Mesh) (stand : Stand) : Type 0 where
+  pub open_nets : AreOpenOn stand.board stand.open_nets
+  pub last : IfSome stand.last (IsSeenOn m stand.board)
+
+-- the line of the pass of this number is the last one, and it is told whether a further one may follow
+pub record StandsAfter (number : ℕ) (made : Made) (last : Option Sight) (lines : List PassLine) (new : Stand)
+    (more_lines : List PassLine) (more : Bool) : Type 0 where
+  pub board_is : new.board ≡ made.board
+  pub open_nets_are : new.open_nets ≡ made.open_nets
+  pub last_is : new.last ≡ last
+  pub lines_are : more_lines ≡ lines ++ made.line ∷ []
+  pub goes_on : IsTrue more → (0 < made.line.parted) × (1 < number → 0 < made.line.commits)
+  pub ended : IsTrue (not more) → EndsBy number made.line made.full
+
+-- so it stands after the pass of this number was made
+pub record IsOneMore (p : PassOf) (number : ℕ) (old : BoardOf) (lines : List PassLine) (new : Stand)
+    (more_lines : List PassLine) (more : Bool) : Type 0 where
+  pub made : Made
+  pub is : IsMade p old made
+  pub open_nets : AreOpenOn made.board made.open_nets
+  pub last : Option Sight
+  pub seen : IfSome last (IsSeenOn p.lattice made.board)
+  pub stands : StandsAfter number made last lines new more_lines more
 
 -- passes were made, by least offers, and nothing else stands in the history
 pub record HasPassed (m : Mesh) (r : RunOf) (b : BoardOf) (lines : List PassLine) : Type 0 where
@@ -97,3 +151,35 @@ GoesBack lines kept old new =
     ((kept ≡ length lines) × (new ≡ old))
     ⊎ ((kept < length lines) × (entries_after lines kept ≤ length old.history)
     × (new ≡ taken_back old (entries_after lines kept)))
+
+-- passes were made over the first board until they ended, and the board stands at the end of the kept one
+pub record IsKept (m : Mesh) (r : RunOf) (first : BoardOf) (kept : Kept) : Type 0 where
+  pub passed : BoardOf
+  pub same : Stays first passed
+  pub has : HasPassed m r passed kept.lines
+  pub ended : HaveEnded r passed kept.lines
+  pub best : IsBest kept.lines kept.kept
+  pub gone : GoesBack kept.lines kept.kept passed kept.board
+
+-- what is told of a run that the closing pass ended
+abbrev pub told_of : Mesh → List ℕ → List PassLine → ℕ → Closed → Routed
+told_of m dropped lines kept closed = record {
+  board = closed.board;
+  facts = record {
+    grid = m.grid;
+    nodes = node_count m;
+    dropped = dropped;
+    passes = lines;
+    kept = kept;
+    joins = closed.joins;
+    complete = complete_from 0 closed.ends;
+    cuts = flat_map (λ (cuts : List Cut). cuts) closed.ends;
+  };
+}
+
+-- the closing pass was made from the end of the kept pass, and is told
+pub record IsFinished (m : Mesh) (via_cost : ℕ) (kept : Kept) (dropped : List ℕ) (routed : Routed) : Type 0 where
+  pub closed : Closed
+  pub out : IsClosedOut m via_cost kept.board closed
+  pub board : IsBoard closed.board
+  pub told : routed ≡ told_of m dropped kept.lines kept.kept closed

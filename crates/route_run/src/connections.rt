@@ -1,8 +1,8 @@
 //! What is open on a board: the nets with several islands, and how many connections they lack.
 
-ghost use Rattle.std.specs.Prelude.{◌≡◌, ◌<◌, ◌≤◌, ◌^◌, IfOk, length};
+ghost use Rattle.std.specs.Prelude.{◌≡◌, ◌<◌, ◌≤◌, ◌^◌, [], IfOk, OnOk, length, vec_len};
 ghost use Rattle.pcb_model.specs.Sound.{IsSound, Serves};
-ghost use Rattle.route_run.specs.Passing.{IsOpenNet, AreOpenOn};
+ghost use Rattle.route_run.specs.Passing.{IsOpenNet, AreOpenNets, AreOpenOn};
 
 use pcb_board::{Board, Snap, boards_serve};
 use pcb_islands::{islands, islands_are_one};
@@ -27,22 +27,35 @@ fn open_connections(alloc: Global, snap: &Snap, net: u32) -> Result<u64, AllocEr
     Ok((found.len() as u64).saturating_sub(1))
 }
 
+// Gathers the nets of a snapshot that have several islands, and counts the connections that are open.
+fn gather(alloc: Global, snap: &Snap, nets: &mut Vec<u32>) -> Result<u64, AllocError>
+    requires sound { IsSound snap.now.design }
+    requires serves { Serves snap.now.items snap.now.design }
+    requires none { (vec_len nets.old ≡ 0) × (nets.old.items ≡ []) }
+    ensures few { OnOk result (vec_len nets.new ≤ length snap.now.design.nets) }
+    ensures are { IfOk result
+        (AreOpenNets snap.now.design snap.now.items (length snap.now.design.nets) nets.new.items) }
+{
+    islands_are_one();
+    let mut count = 0;
+    for net in 0..snap.design().nets.len() as u32 {
+        let open = open_connections(alloc, snap, net)?;
+        if 0 < open {
+            nets.push(net)?;
+            count += open;
+        }
+    }
+    Ok(count)
+}
+
 /// Looks over the nets of a board.
 pub(crate) fn look_over(alloc: Global, board: &Board) -> Result<OpenNets, AllocError>
     ensures { IfOk result (AreOpenOn board.now) }
 {
     board.keeps();
     boards_serve();
-    islands_are_one();
     let snap = board.snap()?;
     let mut nets = Vec::new(alloc);
-    let mut count = 0;
-    for net in 0..snap.design().nets.len() as u32 {
-        let open = open_connections(alloc, &snap, net)?;
-        if 0 < open {
-            nets.push(net)?;
-            count += open;
-        }
-    }
+    let count = gather(alloc, &snap, &mut nets)?;
     Ok(OpenNets { nets, count })
 }

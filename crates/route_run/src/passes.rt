@@ -4,8 +4,11 @@
 ghost use Rattle.std.specs.Prelude.{◌≡◌, ◌+◌, ◌<◌, ◌≤◌, [], IfOk, IfSome, IsTrue, not, length};
 ghost use Rattle.board_sight.specs.Sights.{IsSeenOn};
 ghost use Rattle.route_lattice.specs.Fits.{FitsDesign};
+ghost use Rattle.route_lattice.specs.Mesh.{Mesh};
 ghost use Rattle.route_run.specs.Runs.{run_from, pass_at, penalty_of as penalty_at, HaveEnded};
-ghost use Rattle.route_run.specs.Passing.{IsTask, AreOpenOn, IsMade, EndsBy, HasPassed, Stays};
+ghost use Rattle.route_run.specs.Passing.{IsTask, AreOpenOn, AreWorkedOff, IsMade, EndsBy, HasPassed, Stays};
+ghost use Rattle.pcb_board.specs.Keeping.{IsBoard};
+ghost use Rattle.route_run.specs.Passing.{IsMadeAfter, IsOneMore, IsReady, StandsAfter};
 ghost use Rattle.board_offers.specs.declared.offer.TheConstants.{CLOSER};
 
 use crate::connections::{OpenNets, look_over};
@@ -27,6 +30,14 @@ pub(crate) struct Made {
     pub line: PassLine,
     pub open_nets: OpenNets,
     pub full: bool,
+}
+
+/// Where passes stand: the board, what is open on it, and what was seen of it before the last pass.
+#[derive(Drop)]
+pub(crate) struct Stand {
+    pub board: Board,
+    pub open_nets: OpenNets,
+    pub last: Option<Sight>,
 }
 
 // The penalty of a pass.
@@ -59,6 +70,69 @@ fn look_before(
     Ok(Some(look(alloc, lat, last, board)?))
 }
 
+// Works off the open nets in the pass of a number, and tells whether the board was full for an offer.
+fn work_off<R: Threads + Wait + Sync, G: Gate + Sync>(
+    rt: &R,
+    alloc: Global,
+    lat: &Lattice,
+    via_cost: u64,
+    workers: u32,
+    number: u32,
+    board: Board,
+    open_nets: OpenNets,
+    base: Option<&Sight>,
+    gate: &G,
+) -> Result<(Board, bool), AllocError>
+    requires task { IsTask board.design lat.now via_cost }
+    requires kept { IsBoard board }
+    requires workers { (1 ≤ workers) × (workers ≤ CLOSER) }
+    requires number { number ≤ 99 }
+    requires open_nets { AreOpenOn board open_nets }
+    requires base { IfSome base (λ s. IsSeenOn lat.now board s.now) }
+    ensures { IfOk result (λ r. AreWorkedOff (pass_at lat.now via_cost workers number) board r.0 r.1) }
+{
+    passes_are_least();
+    full_passes_are_spent();
+    let penalty = penalty_of(number);
+    match run_pass_from(
+        rt,
+        alloc,
+        board,
+        lat,
+        via_cost,
+        workers,
+        open_nets.nets,
+        penalty,
+        base,
+        gate,
+    ) {
+        Ok((board, logs)) => {
+            board.keeps();
+            let full = is_full(logs.as_slice());
+            Ok((board, full))
+        }
+        Err(back) => Err(back.cause),
+    }
+}
+
+// What a pass leaves that was worked off, from its board and how many entries stood before it.
+fn made_after(alloc: Global, board: Board, full: bool, before: u64) -> Result<Made, AllocError>
+    requires { before ≤ length board.history }
+    ensures { IfOk result (IsMadeAfter board full before) }
+{
+    let open_nets = look_over(alloc, &board)?;
+    let line = PassLine {
+        commits: board.history().len() as u64 - before,
+        parted: open_nets.count,
+    };
+    Ok(Made {
+        board,
+        line,
+        open_nets,
+        full,
+    })
+}
+
 // Makes the pass of a number over the open nets.
 fn one_pass<R: Threads + Wait + Sync, G: Gate + Sync>(
     rt: &R,
@@ -82,37 +156,10 @@ fn one_pass<R: Threads + Wait + Sync, G: Gate + Sync>(
 {
     board.keeps();
     let before = board.history().len() as u64;
-    let penalty = penalty_of(number);
-    let (board, logs) = match run_pass_from(
-        rt,
-        alloc,
-        board,
-        lat,
-        via_cost,
-        workers,
-        open_nets.nets,
-        penalty,
-        base,
-        gate,
-    ) {
-        Ok(made) => made,
-        Err(back) => return Err(back.cause),
-    };
-    board.keeps();
-    passes_are_least();
-    full_passes_are_spent();
-    let full = is_full(logs.as_slice());
-    let open_nets = look_over(alloc, &board)?;
-    let line = PassLine {
-        commits: board.history().len() as u64 - before,
-        parted: open_nets.count,
-    };
-    Ok(Made {
-        board,
-        line,
-        open_nets,
-        full,
-    })
+    let (board, full) = work_off(
+        rt, alloc, lat, via_cost, workers, number, board, open_nets, base, gate,
+    )?;
+    made_after(alloc, board, full, before)
 }
 
 // Whether a pass may follow the one of this number.
@@ -121,6 +168,145 @@ fn may_follow(number: u32, line: PassLine, full: bool) -> bool
     ensures ended { IsTrue (not result) → EndsBy number line full }
 {
     0 < line.parted && (number <= 1 || 0 < line.commits) && !full
+}
+
+// Puts the line of the pass of a number behind the others, and tells whether a further one may follow.
+fn stand_after(
+    number: u32,
+    made: Made,
+    last: Option<Sight>,
+    lines: &mut List<PassLine>,
+) -> Result<(Stand, bool), AllocError>
+    ensures { IfOk result (λ r. StandsAfter number made last lines.old r.0 lines.new r.1) }
+{
+    lines.push(made.line)?;
+    let more = may_follow(number, made.line, made.full);
+    let stand = Stand {
+        board: made.board,
+        open_nets: made.open_nets,
+        last,
+    };
+    Ok((stand, more))
+}
+
+// Makes one pass more by what is seen before it.
+fn pass_by<R: Threads + Wait + Sync, G: Gate + Sync>(
+    rt: &R,
+    alloc: Global,
+    lat: &Lattice,
+    via_cost: u64,
+    workers: u32,
+    number: u32,
+    board: Board,
+    open_nets: OpenNets,
+    base: Option<Sight>,
+    lines: &mut List<PassLine>,
+    gate: &G,
+) -> Result<(Stand, bool), AllocError>
+    requires task { IsTask board.design lat.now via_cost }
+    requires workers { (1 ≤ workers) × (workers ≤ CLOSER) }
+    requires number { number ≤ 99 }
+    requires open_nets { AreOpenOn board open_nets }
+    requires base { IfSome base (IsSeenOn lat.now board) }
+    ensures { IfOk result
+        (λ r. IsOneMore (pass_at lat.now via_cost workers number) number board lines.old r.0 lines.new r.1) }
+{
+    let made = one_pass(
+        rt,
+        alloc,
+        lat,
+        via_cost,
+        workers,
+        number,
+        board,
+        open_nets,
+        base.as_ref(),
+        gate,
+    )?;
+    stand_after(number, made, base, lines)
+}
+
+// Makes one pass more, puts its line behind the others, and tells whether a further one may follow.
+fn next_pass<R: Threads + Wait + Sync, G: Gate + Sync>(
+    rt: &R,
+    alloc: Global,
+    lat: &Lattice,
+    via_cost: u64,
+    workers: u32,
+    number: u32,
+    stand: Stand,
+    lines: &mut List<PassLine>,
+    gate: &G,
+) -> Result<(Stand, bool), AllocError>
+    requires task { IsTask stand.board.design lat.now via_cost }
+    requires workers { (1 ≤ workers) × (workers ≤ CLOSER) }
+    requires number { number ≤ 99 }
+    requires stand { IsReady lat.now stand }
+    ensures { IfOk result
+        (λ r. IsOneMore (pass_at lat.now via_cost workers number) number stand.board lines.old r.0 lines.new r.1) }
+{
+    let Stand {
+        board,
+        open_nets,
+        last,
+    } = stand;
+    let base = look_before(alloc, lat, &board, &open_nets, last)?;
+    pass_by(
+        rt, alloc, lat, via_cost, workers, number, board, open_nets, base, lines, gate,
+    )
+}
+
+// Makes passes until they end, from where none was made.
+fn pass_on<R: Threads + Wait + Sync, G: Gate + Sync>(
+    rt: &R,
+    alloc: Global,
+    lat: &Lattice,
+    via_cost: u64,
+    workers: u32,
+    passes: u32,
+    stand: Stand,
+    lines: &mut List<PassLine>,
+    gate: &G,
+) -> Result<Stand, AllocError>
+    requires task { IsTask stand.board.design lat.now via_cost }
+    requires workers { (1 ≤ workers) × (workers ≤ CLOSER) }
+    requires passes { (1 ≤ passes) × (passes ≤ 99) }
+    requires new { HasPassed lat.now (run_from via_cost workers passes) stand.board lines.old }
+    requires none { lines.old ≡ [] }
+    requires stand { IsReady lat.now stand }
+    ensures passed { IfOk result (λ s. HasPassed lat.now (run_from via_cost workers passes) s.board lines.new) }
+    ensures ended { IfOk result (λ s. HaveEnded (run_from via_cost workers passes) s.board lines.new) }
+    ensures same { IfOk result (λ s. Stays stand.board s.board) }
+{
+    let mut stand = stand;
+    for k in 0..passes {
+        let (next, more) = next_pass(rt, alloc, lat, via_cost, workers, k + 1, stand, lines, gate)?;
+        if !more {
+            return Ok(next);
+        }
+        stand = next;
+    }
+    Ok(stand)
+}
+
+// Where passes stand before the first.
+fn begin(alloc: Global, board: Board) -> Result<Stand, AllocError>
+    ensures board { IfOk result (λ s. s.board ≡ board) }
+    ensures ready { (m : Mesh) → IfOk result (IsReady m) }
+{
+    let open_nets = look_over(alloc, &board)?;
+    Ok(Stand {
+        board,
+        open_nets,
+        last: None,
+    })
+}
+
+// The board alone.
+fn board_of(stand: Stand) -> Board
+    ensures { result ≡ stand.board }
+{
+    stand.board
 }
 
 /// Makes passes over the nets of a new board until they end, at most as many as `passes`, each of so many workers.
@@ -144,33 +330,10 @@ pub(crate) fn make_passes<R: Threads + Wait + Sync, G: Gate + Sync>(
     ensures same { IfOk result (λ r. Stays board r.0) }
 {
     board.keeps();
-    let mut board = board;
-    let mut open_nets = look_over(alloc, &board)?;
+    let stand = begin(alloc, board)?;
     let mut lines = List::new(alloc);
-    let mut last = None;
-    for k in 0..passes {
-        let number = k + 1;
-        let base = look_before(alloc, lat, &board, &open_nets, last)?;
-        let made = one_pass(
-            rt,
-            alloc,
-            lat,
-            via_cost,
-            workers,
-            number,
-            board,
-            open_nets,
-            base.as_ref(),
-            gate,
-        )?;
-        let line = made.line;
-        lines.push(line)?;
-        if !may_follow(number, line, made.full) {
-            return Ok((made.board, lines));
-        }
-        board = made.board;
-        open_nets = made.open_nets;
-        last = base;
-    }
-    Ok((board, lines))
+    let end = pass_on(
+        rt, alloc, lat, via_cost, workers, passes, stand, &mut lines, gate,
+    )?;
+    Ok((board_of(end), lines))
 }

@@ -1,40 +1,30 @@
-use Rattle.std.proofs.Common.{◌≡◌, ◌∙◌, ◌-◌, ℕ, List, [], Option, ap, subst, arith, length, rules}
-use Rattle.std.specs.Prelude.{IsTrue}
+use Rattle.std.proofs.Common.{◌≡◌, ◌∙◌, ap, arith, length, rules}
 use Rattle.std.proofs.lemmas.List.{length-append}
-use Rattle.searcher_pool.specs.declared.log.WorkerLog.{WorkerLog}
-use Rattle.searcher_pool.specs.Passes.{IsSpent, MetFull}
+use Rattle.std.proofs.lemmas.Result.{IfOk-weaker}
 use Rattle.route_run.specs.declared.passes.Made.{Made}
-use Rattle.route_run.specs.Passing.{IsMade}
-use Rattle.route_run.proofs.Counting.{open_count}
+use Rattle.route_run.specs.Runs.{pass_at}
+use Rattle.route_run.specs.Passing.{AreOpenOn, IsMade, IsMadeAfter}
 use Rattle.route_run.proofs.Worked.{made_from}
 use Rattle.route_run.proofs.passes.one_pass.Goals as goal
 
+pub made_after-requires : goal.made_after-requires
+made_after-requires g c =
+    let worked = c.in_ok-board.ensures in
+    let longer = ap length worked.grows.history ∙ length-append c.args.board.history worked.grows.entries in
+    let before : c.len-before.result ≡ length c.args.board.history = search rules in
+    omega (arith, before, longer)
+
 pub returns-clause-made : goal.returns-clause-made
 returns-clause-made g c =
-    let m = c.args.lat.now in
-    let cost = c.args.via_cost in
+    let p = pass_at c.args.lat.now c.args.via_cost c.args.workers c.args.number in
     let old = c.args.board in
-    let new = c.in-Ok.made.0 in
-    let made : Made = record {
-      board = new;
-      line = record { commits = c.len.result - c.len-before.result; parted = c.in_ok-open_nets.open_nets.count };
-      open_nets = c.in_ok-open_nets.open_nets;
-      full = c.is_full-full.result;
-    } in
-    let passed = c.in-Ok.ensures.ok in
-    let longer = ap length passed.grows.history ∙ length-append old.history passed.grows.entries in
     let before : c.len-before.result ≡ length old.history = search rules in
-    let after : c.len.result ≡ length new.history = search rules in
-    let spent : IsTrue c.is_full-full.result → IsSpent new =
-    λ full. c.full_passes_are_spent.ensures _ old new _ passed
-    (subst (λ (logs : List WorkerLog). MetFull logs) c.as_slice.ensures.value (c.is_full-full.ensures.0 full)) in
-    subst (λ (o : Option ℕ). IsMade (record {
-      lattice = m;
-      via_cost = cost;
-      workers = c.args.workers;
-      tasks = [];
-      penalty = o;
-    }) old made) c.penalty_of-penalty.ensures
-    (made_from _ old made _ c.args.open_nets.count (omega (arith, c.requires.workers.0)) c.keeps-2.ensures passed
-    (c.passes_are_least.ensures _ old new _ passed) c.requires.open_nets.are (omega (arith, before, after, longer))
-    (open_count new.design new.items _ _ c.in_ok-open_nets.ensures.are) spent)
+    IfOk-weaker c.made_after.result (IsMadeAfter c.in_ok-board.board c.in_ok-board.full c.len-before.result)
+    (IsMade p old)
+    (λ made is. made_from p old c.in_ok-board.board c.in_ok-board.full made c.len-before.result before
+    c.in_ok-board.ensures is) c.made_after.ensures
+
+pub returns-clause-open_nets : goal.returns-clause-open_nets
+returns-clause-open_nets g c =
+    IfOk-weaker c.made_after.result (IsMadeAfter c.in_ok-board.board c.in_ok-board.full c.len-before.result)
+    (λ (made : Made). AreOpenOn made.board made.open_nets) (λ made is. is.open_nets) c.made_after.ensures

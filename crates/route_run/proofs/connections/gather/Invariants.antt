@@ -1,11 +1,11 @@
 use Rattle.std.proofs.Common.{◌≤◌, ◌*◌, ◌^◌}
 use Rattle.std.specs.Prelude.{vec_len}
 use Rattle.route_run.specs.Passing.{AreOpenNets}
-use Rattle.route_run.proofs.connections.look_over.Given as goal
+use Rattle.route_run.proofs.connections.gather.Given as goal
 
 abbrev pub invariant-loop-net : goal.invariant-loop-net
 invariant-loop-net l = record {
   few : vec_len l.nets ≤ l.net;
   small : l.count ≤ l.net * 2 ^ 26;
-  are : AreOpenNets l.board.design l.board.items l.net l.nets.items l.count;
+  are : AreOpenNets l.snap.design l.snap.items l.net l.nets.items l.count;
 }

@@ -1,5 +1,6 @@
-//! The tests of plane geometry, desks, tokens, trees and numbers, and of words: those of the command line, of generated
-//! boards and of what standard error says.
+//! The tests of what lies below a board: plane geometry, desks, tokens, trees and numbers; words, which are those of
+//! the command line, of generated boards and of what standard error says; and what the readers of a design's sections
+//! hold, on boards that are worked out by hand. What is refused stands in the tables of `tests_tables`.
 //! They stand over public calls in a crate of their own, so that the crates below are proved without them.
 #![tactic(auto)]
 
@@ -18,4 +19,20 @@ mod of_fault_notes;
 #[cfg(test)]
 mod of_geo_kernel;
 #[cfg(test)]
+mod of_head;
+#[cfg(test)]
+mod of_library;
+#[cfg(test)]
+mod of_network;
+#[cfg(test)]
+mod of_placement;
+#[cfg(test)]
 mod of_route_words;
+#[cfg(test)]
+mod of_shapes;
+#[cfg(test)]
+mod of_structure;
+#[cfg(test)]
+mod of_wiring;
+#[cfg(test)]
+mod sections;

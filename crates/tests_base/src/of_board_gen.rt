@@ -2,7 +2,7 @@
 //! States, shuffles and sites were worked out by hand.
 
 use board_gen::design_text;
-use std::test::Fail;
+use std::alloc::Global;
 
 // The state becomes 1103527590, so the entries 0 and 1 change places; the square has two sites a side.
 const FIRST: &str = "(pcb gen
@@ -29,9 +29,14 @@ const FIRST: &str = "(pcb gen
 (wiring))
 ";
 
+fn is_first(alloc: Global) -> bool {
+    match design_text(alloc, 1) {
+        Ok(text) => text.as_slice() == FIRST.as_bytes(),
+        Err(_) => false,
+    }
+}
+
 #[test]
-fn gives_the_first_board(rt: HostRuntime) -> Result<(), Fail> {
-    let text = design_text(rt.alloc(), 1)?;
-    assert!(rt; text.as_slice() == FIRST.as_bytes());
-    Ok(())
+fn gives_the_first_board(rt: HostRuntime) {
+    assert!(rt; is_first(rt.alloc()));
 }

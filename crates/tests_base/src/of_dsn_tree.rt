@@ -3,7 +3,6 @@
 
 use dsn_tree::{Tree, TreeFault, child, children, is_headed, items, read_tree, word};
 use std::alloc::{AllocError, Global};
-use std::test::Fail;
 
 /// The tree of a text, with no contract, so that the proofs of its callers are short.
 fn read(alloc: Global, text: &[u8]) -> Result<Tree, TreeFault> {
@@ -239,9 +238,15 @@ fn has_both(tree: &Tree) -> bool {
         && word(tree, 2).is_none()
 }
 
+fn finds_both(alloc: Global, text: &str) -> bool {
+    match read(alloc, text.as_bytes()) {
+        Ok(tree) => has_both(&tree),
+        Err(_) => false,
+    }
+}
+
 #[test]
-fn a_group_is_found_by_its_head_in_any_case(rt: HostRuntime) -> Result<(), Fail> {
+fn a_group_is_found_by_its_head_in_any_case(rt: HostRuntime) {
     let text = "(pcb x (STRUCTURE 1) (parser (string_quote $)) (structure 2 $a b$))";
-    assert!(rt; has_both(&read(rt.alloc(), text.as_bytes())?));
-    Ok(())
+    assert!(rt; finds_both(rt.alloc(), text));
 }

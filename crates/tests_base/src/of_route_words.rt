@@ -3,7 +3,6 @@
 
 use route_words::{Command, Knobs, WordFault, read_words};
 use std::alloc::{AllocError, Global};
-use std::test::Fail;
 
 /// The knobs where no option is given.
 const DEFAULTS: Knobs = Knobs {
@@ -22,153 +21,170 @@ fn words_of(alloc: Global, all: &[&str]) -> Result<Vec<String>, AllocError> {
     Ok(words)
 }
 
+/// Whether a command routes these files with these knobs.
+fn is_route(command: &Command, input: &str, output: &str, knobs: Knobs) -> bool {
+    match command {
+        Command::Route {
+            input: from,
+            output: to,
+            knobs: given,
+        } => from.as_str() == input && to.as_str() == output && *given == knobs,
+        Command::Gen { n: _ } => false,
+    }
+}
+
+fn asks_to_route(alloc: Global, words: &[String], input: &str, output: &str, knobs: Knobs) -> bool {
+    match read_words(alloc, words) {
+        Ok(command) => is_route(&command, input, output, knobs),
+        Err(_) => false,
+    }
+}
+
 /// Whether the words ask to route these files with these knobs.
-fn routes(
-    alloc: Global,
-    words: &[&str],
-    input: &str,
-    output: &str,
-    knobs: Knobs,
-) -> Result<bool, AllocError> {
-    let words = words_of(alloc, words)?;
-    Ok(match read_words(alloc, words.as_slice()) {
-        Ok(
-            Command::Route {
-                input: from,
-                output: to,
-                knobs: given,
-            },
-        ) => from.as_str() == input && to.as_str() == output && given == knobs,
-        _ => false,
-    })
+fn routes(alloc: Global, words: &[&str], input: &str, output: &str, knobs: Knobs) -> bool {
+    match words_of(alloc, words) {
+        Ok(words) => asks_to_route(alloc, words.as_slice(), input, output, knobs),
+        Err(_) => false,
+    }
+}
+
+fn asks_for(alloc: Global, words: &[String], number: u32) -> bool {
+    matches!(read_words(alloc, words), Ok(Command::Gen { n }) if n == number)
 }
 
 /// Whether the words ask for the generated board of this number.
-fn generates(alloc: Global, words: &[&str], number: u32) -> Result<bool, AllocError> {
-    let words = words_of(alloc, words)?;
-    Ok(match read_words(alloc, words.as_slice()) {
-        Ok(Command::Gen { n }) => n == number,
-        _ => false,
-    })
+fn generates(alloc: Global, words: &[&str], number: u32) -> bool {
+    match words_of(alloc, words) {
+        Ok(words) => asks_for(alloc, words.as_slice(), number),
+        Err(_) => false,
+    }
+}
+
+fn are_refused(alloc: Global, words: &[String], fault: WordFault) -> bool {
+    match read_words(alloc, words) {
+        Ok(_) => false,
+        Err(given) => given == fault,
+    }
 }
 
 /// Whether the words are refused so.
-fn refuses(alloc: Global, words: &[&str], fault: WordFault) -> Result<bool, AllocError> {
-    let words = words_of(alloc, words)?;
-    Ok(match read_words(alloc, words.as_slice()) {
-        Ok(_) => false,
-        Err(given) => given == fault,
-    })
+fn refuses(alloc: Global, words: &[&str], fault: WordFault) -> bool {
+    match words_of(alloc, words) {
+        Ok(words) => are_refused(alloc, words.as_slice(), fault),
+        Err(_) => false,
+    }
+}
+
+const OMITS: Knobs = Knobs {
+    grid: None,
+    workers: 4,
+    passes: 10,
+    via_cost: 2_000_000,
+    omit_fixed: true,
+};
+
+type Routed = (&'static [&'static str], &'static str, &'static str, Knobs);
+
+const NAMES: [Routed; 4] = [
+    (&["route", "t.dsn", "t.ses"], "t.dsn", "t.ses", DEFAULTS),
+    (&["route", "--", "-a", "-b"], "-a", "-b", DEFAULTS),
+    (&["route", "a", "--", "--grid"], "a", "--grid", DEFAULTS),
+    (&["route", "-", "--omit-fixed", "b=c"], "-", "b=c", OMITS),
+];
+
+#[test]
+fn reads_names(rt: HostRuntime) {
+    for &(words, input, output, knobs) in &NAMES {
+        assert!(rt; routes(rt.alloc(), words, input, output, knobs), "{input}");
+    }
+}
+
+const ALL: [&str; 10] = [
+    "route",
+    "--workers",
+    "16",
+    "a",
+    "--grid=1",
+    "b",
+    "--passes",
+    "0099",
+    "--omit-fixed",
+    "--via-cost=0",
+];
+
+const GIVEN: Knobs = Knobs {
+    grid: Some(1_000),
+    workers: 16,
+    passes: 99,
+    via_cost: 0,
+    omit_fixed: true,
+};
+
+const GREATEST: [&str; 7] = [
+    "route",
+    "a",
+    "b",
+    "--grid",
+    "100000",
+    "--via-cost",
+    "1000000",
+];
+
+const LONG: Knobs = Knobs {
+    grid: Some(100_000_000),
+    workers: 4,
+    passes: 10,
+    via_cost: 1_000_000_000,
+    omit_fixed: false,
+};
+
+#[test]
+fn reads_knobs(rt: HostRuntime) {
+    assert!(rt; routes(rt.alloc(), &ALL, "a", "b", GIVEN));
+    assert!(rt; routes(rt.alloc(), &GREATEST, "a", "b", LONG));
 }
 
 #[test]
-fn reads_names(rt: HostRuntime) -> Result<(), Fail> {
-    let alloc = rt.alloc();
-    let plain = ["route", "t.dsn", "t.ses"];
-    assert!(rt; routes(alloc, &plain, "t.dsn", "t.ses", DEFAULTS)?);
-    let hyphens = ["route", "--", "-a", "-b"];
-    assert!(rt; routes(alloc, &hyphens, "-a", "-b", DEFAULTS)?);
-    let between = ["route", "a", "--", "--grid"];
-    assert!(rt; routes(alloc, &between, "a", "--grid", DEFAULTS)?);
-    let alone = ["route", "-", "--omit-fixed", "b=c"];
-    let omits = Knobs {
-        omit_fixed: true,
-        ..DEFAULTS
-    };
-    assert!(rt; routes(alloc, &alone, "-", "b=c", omits)?);
-    Ok(())
+fn reads_numbers_of_boards(rt: HostRuntime) {
+    assert!(rt; generates(rt.alloc(), &["gen", "1"], 1));
+    assert!(rt; generates(rt.alloc(), &["gen", "--", "0000400"], 400));
 }
 
 #[test]
-fn reads_knobs(rt: HostRuntime) -> Result<(), Fail> {
-    let alloc = rt.alloc();
-    let all = [
-        "route",
-        "--workers",
-        "16",
-        "a",
-        "--grid=1",
-        "b",
-        "--passes",
-        "0099",
-        "--omit-fixed",
-        "--via-cost=0",
-    ];
-    let given = Knobs {
-        grid: Some(1_000),
-        workers: 16,
-        passes: 99,
-        via_cost: 0,
-        omit_fixed: true,
-    };
-    assert!(rt; routes(alloc, &all, "a", "b", given)?);
-    let greatest = [
-        "route",
-        "a",
-        "b",
-        "--grid",
-        "100000",
-        "--via-cost",
-        "1000000",
-    ];
-    let long = Knobs {
-        grid: Some(100_000_000),
-        via_cost: 1_000_000_000,
-        ..DEFAULTS
-    };
-    assert!(rt; routes(alloc, &greatest, "a", "b", long)?);
-    Ok(())
-}
-
-#[test]
-fn reads_numbers_of_boards(rt: HostRuntime) -> Result<(), Fail> {
-    let alloc = rt.alloc();
-    assert!(rt; generates(alloc, &["gen", "1"], 1)?);
-    assert!(rt; generates(alloc, &["gen", "--", "0000400"], 400)?);
-    Ok(())
-}
-
-#[test]
-fn refuses_commands(rt: HostRuntime) -> Result<(), Fail> {
-    let alloc = rt.alloc();
-    assert!(rt; refuses(alloc, &[], WordFault::NoCommand)?);
-    for command in ["draw", "", "--", "Route", "--grid"] {
+fn refuses_commands(rt: HostRuntime) {
+    assert!(rt; refuses(rt.alloc(), &[], WordFault::NoCommand));
+    for &command in &["draw", "", "--", "Route", "--grid"] {
         assert!(rt;
-            refuses(alloc, &[command], WordFault::UnknownCommand)?,
+            refuses(rt.alloc(), &[command], WordFault::UnknownCommand),
             "{command}"
         );
     }
-    Ok(())
+}
+
+const USES_OF_ROUTE: [&[&str]; 6] = [
+    &["route", "t.dsn"],
+    &["route", "a", ""],
+    &["route", "a", "b", "c"],
+    &["route", "a", "b", "--grid", "5", "--grid", "5"],
+    &["route", "a", "b", "--omit-fixed", "--omit-fixed"],
+    &["route", "a", "--grid", "--", "5"],
+];
+
+#[test]
+fn refuses_uses_of_route(rt: HostRuntime) {
+    for &words in &USES_OF_ROUTE {
+        assert!(rt; refuses(rt.alloc(), words, WordFault::Usage));
+    }
+}
+
+/// Whether a call that routes is refused with this option.
+fn refuses_option(alloc: Global, option: &str) -> bool {
+    refuses(alloc, &["route", "a", "b", option], WordFault::Usage)
 }
 
 #[test]
-fn refuses_uses_of_route(rt: HostRuntime) -> Result<(), Fail> {
-    let alloc = rt.alloc();
-    assert!(rt; refuses(alloc, &["route", "t.dsn"], WordFault::Usage)?);
-    assert!(rt; refuses(alloc, &["route", "a", ""], WordFault::Usage)?);
-    assert!(rt; refuses(alloc, &["route", "a", "b", "c"], WordFault::Usage)?);
-    assert!(rt;
-        refuses(
-            alloc,
-            &["route", "a", "b", "--grid", "5", "--grid", "5"],
-            WordFault::Usage
-        )?
-    );
-    assert!(rt;
-        refuses(
-            alloc,
-            &["route", "a", "b", "--omit-fixed", "--omit-fixed"],
-            WordFault::Usage
-        )?
-    );
-    assert!(rt;
-        refuses(
-            alloc,
-            &["route", "a", "--grid", "--", "5"],
-            WordFault::Usage
-        )?
-    );
-    for option in [
+fn refuses_options_of_route(rt: HostRuntime) {
+    for &option in &[
         "--grid=0",
         "--grid=100001",
         "--grid=",
@@ -188,24 +204,29 @@ fn refuses_uses_of_route(rt: HostRuntime) -> Result<(), Fail> {
         "-h",
         "-g",
     ] {
-        assert!(rt;
-            refuses(alloc, &["route", "a", "b", option], WordFault::Usage)?,
-            "{option}"
-        );
+        assert!(rt; refuses_option(rt.alloc(), option), "{option}");
     }
-    Ok(())
 }
 
+const USES_OF_GEN: [&[&str]; 13] = [
+    &["gen", "0"],
+    &["gen", "401"],
+    &["gen", ""],
+    &["gen", "-1"],
+    &["gen", "+1"],
+    &["gen", "1.0"],
+    &["gen", "00000001"],
+    &["gen", "--grid"],
+    &["gen", "--help"],
+    &["gen", "-"],
+    &["gen"],
+    &["gen", "1", "2"],
+    &["gen", "1", "--grid=5"],
+];
+
 #[test]
-fn refuses_uses_of_gen(rt: HostRuntime) -> Result<(), Fail> {
-    let alloc = rt.alloc();
-    for word in [
-        "0", "401", "", "-1", "+1", "1.0", "00000001", "--grid", "--help", "-",
-    ] {
-        assert!(rt; refuses(alloc, &["gen", word], WordFault::Usage)?, "{word}");
+fn refuses_uses_of_gen(rt: HostRuntime) {
+    for &words in &USES_OF_GEN {
+        assert!(rt; refuses(rt.alloc(), words, WordFault::Usage));
     }
-    assert!(rt; refuses(alloc, &["gen"], WordFault::Usage)?);
-    assert!(rt; refuses(alloc, &["gen", "1", "2"], WordFault::Usage)?);
-    assert!(rt; refuses(alloc, &["gen", "1", "--grid=5"], WordFault::Usage)?);
-    Ok(())
 }

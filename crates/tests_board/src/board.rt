@@ -1,15 +1,18 @@
 //! Boards from short texts, and what stands at a place in their lists.
 //! The free wiring of a text is the copper that a test lays; its fixed items are what it meets.
 
-ghost use Rattle.std.specs.Prelude.{IfSome};
+ghost use Rattle.std.specs.Prelude.{◌≡◌, ◌≤◌, ◌^◌, false, IfOk, IfSome, Some};
 ghost use Rattle.std.specs.Option.{option_copied};
 ghost use Rattle.pcb_model.specs.Bounds.{IsItemFit, IsProbeFit};
+ghost use Rattle.pcb_model.specs.Board.{IsRouted};
 ghost use Rattle.pcb_model.specs.Plain.{IsPlainCopper};
-ghost use Rattle.pcb_model.specs.Sound.{IsSound};
+ghost use Rattle.pcb_model.specs.Sound.{IsSound, IsFreeSound, IsItemOf};
 
 use dsn_design::read_design;
-use pcb_model::{Design, Item, Metal, Probe, copy_metal, make_item};
-use std::alloc::Global;
+use geo_kernel::List;
+use pcb_board::Board;
+use pcb_model::{Design, FreeWire, Item, Metal, Probe, copy_metal, make_item};
+use std::alloc::{AllocError, Global};
 
 /// What a test says of a board.
 pub(crate) trait Says {
@@ -61,6 +64,23 @@ pub(crate) fn board(alloc: Global, text: &str) -> Option<Design>
     design_of(alloc, text)
 }
 
+/// The board of a short text and the places of what was dropped, or None where it is refused or memory is wanting.
+pub(crate) fn start(alloc: Global, text: &str, cap: u64) -> Option<(Board, List<u64>)>
+    requires { cap ≤ 2 ^ 19 }
+{
+    let design = design_of(alloc, text)?;
+    Board::start(alloc, design, cap).ok()
+}
+
+/// The board of a short text with room for as many ids as there can be, or None where it is refused or memory is
+/// wanting.
+pub(crate) fn opened(alloc: Global, text: &str) -> Option<Board> {
+    match start(alloc, text, 524_288) {
+        Some((board, _)) => Some(board),
+        None => None,
+    }
+}
+
 /// A fixed item.
 pub(crate) fn fixed(d: &Design, at: usize) -> Option<&Item>
     requires { IsSound d.now }
@@ -69,14 +89,31 @@ pub(crate) fn fixed(d: &Design, at: usize) -> Option<&Item>
     d.fixed.get(at)
 }
 
-/// The routed item that free wiring makes.
-pub(crate) fn routed(alloc: Global, d: &Design, at: usize) -> Option<Item>
+/// The routed item of this id that this free wiring makes.
+pub(crate) fn made(alloc: Global, d: &Design, free: &FreeWire, id: u64) -> Result<Item, AllocError>
+    requires sound { IsSound d.now }
+    requires free { IsFreeSound d.now free.now }
+    ensures of { IfOk result (IsItemOf d.now) }
+    ensures routed { IfOk result IsRouted }
+    ensures id { IfOk result (λ a. a.id ≡ id) }
+{
+    let metal = copy_metal(alloc, &free.metal)?;
+    let item = make_item(alloc, d, id, Some(free.net), false, metal)?;
+    Ok(item)
+}
+
+/// The routed item of this id that the free wiring at a place makes.
+pub(crate) fn routed(alloc: Global, d: &Design, at: usize, id: u64) -> Option<Item>
     requires { IsSound d.now }
-    ensures { IfSome result IsItemFit }
+    ensures of { IfSome result (IsItemOf d.now) }
+    ensures routed { IfSome result IsRouted }
+    ensures id { IfSome result (λ a. a.id ≡ id) }
 {
     let free = d.free.get(at)?;
-    let metal = copy_metal(alloc, &free.metal).ok()?;
-    make_item(alloc, d, 1_000, Some(free.net), false, metal).ok()
+    match made(alloc, d, free, id) {
+        Ok(item) => Some(item),
+        Err(_) => None,
+    }
 }
 
 /// The probe that stands for free wiring: a via, or a wire of two points.

@@ -1,21 +1,70 @@
 //! The tests of boards that short texts give: their designs, what the rules, pairs and searches answer, and what is
 //! written of them: their sessions, the report of facts that are set by hand, and a whole picture, which was looked at.
+//! Of what stands on them: copper in tiles answers as a plain list of the same items does, with a worked row; the moves
+//! by the maps of moves are the legal moves, in each answer, and those past routed items are those that ask the copper;
+//! lattices, searches over moves, islands and a walk's copper. And of offers to them and of plans: what is answered,
+//! what stands afterwards, what passes of a turn see of one another's offers, what a plan offers and takes out for it,
+//! and what moves past copper cost.
 //! They stand over public calls in a crate of their own, so that the crates below are proved without them.
 #![tactic(auto)]
 
 #[cfg(test)]
+mod answers;
+#[cfg(test)]
 mod board;
+#[cfg(test)]
+mod cell_walks;
+#[cfg(test)]
+mod cells;
+#[cfg(test)]
+mod changes;
 #[cfg(test)]
 mod clearances;
 #[cfg(test)]
+mod copper;
+#[cfg(test)]
+mod lattices;
+#[cfg(test)]
+mod laying;
+#[cfg(test)]
+mod numbers;
+#[cfg(test)]
 mod of_dsn_design;
+#[cfg(test)]
+mod of_lattices;
+#[cfg(test)]
+mod of_maps;
+#[cfg(test)]
+mod of_nets;
+#[cfg(test)]
+mod of_rips;
+#[cfg(test)]
+mod of_tiles;
+#[cfg(test)]
+mod offer_board;
 #[cfg(test)]
 mod pairs;
 #[cfg(test)]
 mod pictures;
 #[cfg(test)]
+mod plan_board;
+#[cfg(test)]
+mod plans;
+#[cfg(test)]
+mod random_boards;
+#[cfg(test)]
+mod refusals;
+#[cfg(test)]
 mod reports;
+#[cfg(test)]
+mod row;
+#[cfg(test)]
+mod same;
 #[cfg(test)]
 mod searches;
 #[cfg(test)]
 mod sessions;
+#[cfg(test)]
+mod turns;
+#[cfg(test)]
+mod ways;

@@ -110,7 +110,7 @@ fn meet_at(alloc: Global, d: &Design, free: usize, item: usize) -> Option<Meetin
 {
     let p = probe(d, free)?;
     let b = fixed(d, item)?;
-    let a = routed(alloc, d, free)?;
+    let a = routed(alloc, d, free, 1_000)?;
     meet(alloc, d, &a, &p, b)
 }
 

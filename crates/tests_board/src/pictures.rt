@@ -1,9 +1,12 @@
 //! The picture of a small board, byte for byte: two layers, three pins of which one is open, a keepout, and names
 //! with marks that XML reads as its own. Lengths in the design are in um.
 
-use crate::board::design_of;
-use board_picture::{open_lines, picture_text};
-use pcb_board::{Board, boards_serve};
+ghost use Rattle.pcb_model.specs.Sound.{IsSound, Serves};
+
+use crate::board::opened;
+use board_picture::{OpenLine, open_lines, picture_text};
+use pcb_board::{Board, Snap, boards_serve};
+use pcb_model::Design;
 use std::alloc::Global;
 
 /// The wires and the via are fixed, so that the board's items are the design's.
@@ -89,33 +92,42 @@ const PICTURE: &str =
 </svg>
 "##;
 
-fn start(alloc: Global) -> Option<Board> {
-    let design = design_of(alloc, DESIGN)?;
-    match Board::start(alloc, design, 524_288) {
-        Ok((board, _)) => Some(board),
-        Err(_) => None,
+/// Whether the picture is the text where these lines are open.
+fn is_picture(alloc: Global, d: &Design, lines: &[OpenLine]) -> bool {
+    match picture_text(alloc, d, d.fixed.as_slice(), lines) {
+        Ok(text) => text.as_slice() == PICTURE.as_bytes(),
+        Err(_) => false,
     }
 }
 
-fn draws(alloc: Global) -> Option<bool> {
-    let board = start(alloc)?;
+fn is_drawn(alloc: Global, snap: &Snap) -> bool
+    requires sound { IsSound snap.now.design }
+    requires serves { Serves snap.now.items snap.now.design }
+{
+    let d = snap.design();
+    match open_lines(alloc, d, snap) {
+        Ok(lines) => is_picture(alloc, d, lines.as_slice()),
+        Err(_) => false,
+    }
+}
+
+fn is_drawn_on(alloc: Global, board: &Board) -> bool {
     board.keeps();
     boards_serve();
-    let Ok(snap) = board.snap() else {
-        return None;
-    };
-    let d = snap.design();
-    let Ok(lines) = open_lines(alloc, d, &snap) else {
-        return None;
-    };
-    match picture_text(alloc, d, d.fixed.as_slice(), lines.as_slice()) {
-        Ok(text) => Some(text.as_slice() == PICTURE.as_bytes()),
-        Err(_) => None,
+    match board.snap() {
+        Ok(snap) => is_drawn(alloc, &snap),
+        Err(_) => false,
+    }
+}
+
+fn draws(alloc: Global) -> bool {
+    match opened(alloc, DESIGN) {
+        Some(board) => is_drawn_on(alloc, &board),
+        None => false,
     }
 }
 
 #[test]
 fn a_picture_shows_all(rt: HostRuntime) {
-    let is = draws(rt.alloc());
-    assert_eq!(rt; is, Some(true));
+    assert!(rt; draws(rt.alloc()));
 }

@@ -1,39 +1,16 @@
 //! What searches among the fixed items of a board answer.
 //! Lengths in the texts are in um.
 
-ghost use Rattle.std.specs.Prelude.{◌≡◌, ◌<◌, ◌++◌, ◌∷◌, [], All, IfOk, OnOk};
+ghost use Rattle.std.specs.Prelude.{◌≡◌, ◌<◌};
 ghost use Rattle.pcb_model.specs.Bounds.{IsItemFit, IsProbeFit};
 ghost use Rattle.pcb_model.specs.Sound.{IsSound, Serves};
 
 use crate::board::{Says, fixed, held, probe};
-use pcb_model::{Copper, Design, Item, PlainCopper, Probe, Steps, copy_item};
-use std::alloc::{AllocError, Global};
+use crate::copper::fixed_plain;
+use pcb_model::{Copper, Design, Item, PlainCopper, Probe, Steps};
+use std::alloc::Global;
 use std::marker::Brand;
 use std::sync::ledger::{Blank, Ledger};
-
-fn add_item(copper: &mut PlainCopper, item: Item) -> Result<(), AllocError>
-    requires above { All (λ b. b.id < item.id) copper.old }
-    requires fits { IsItemFit item }
-    ensures { OnOk result (copper.new ≡ copper.old ++ item ∷ []) }
-{
-    match copper.add(item) {
-        Ok(()) => Ok(()),
-        Err((_, e)) => Err(e),
-    }
-}
-
-/// The copper of the fixed items.
-fn fixed_copper(alloc: Global, d: &Design) -> Result<PlainCopper, AllocError>
-    requires { IsSound d.now }
-    ensures { IfOk result (λ copper. Serves copper d.now) }
-{
-    let mut copper = PlainCopper::new(alloc);
-    for item in d.fixed.as_slice() {
-        let copy = copy_item(alloc, item)?;
-        add_item(&mut copper, copy)?;
-    }
-    Ok(copper)
-}
 
 /// The least ids from `from` that clash with the item, that block the probe of net 0, and that touch the item.
 fn search_counting<L: Ledger>(
@@ -88,7 +65,7 @@ fn search_at(alloc: Global, d: &Design, item: usize, from: u64) -> Option<[Optio
 {
     let a = fixed(d, item)?;
     let p = probe(d, 0)?;
-    let copper = fixed_copper(alloc, d).ok()?;
+    let copper = fixed_plain(alloc, d).ok()?;
     Some(search(&copper, d, a, &p, from))
 }
 
@@ -136,7 +113,7 @@ fn takes_out(copper: &mut PlainCopper, id: u64) -> bool {
 fn take_twice(alloc: Global, d: &Design, id: u64) -> Option<([bool; 4], usize)>
     requires { IsSound d.now }
 {
-    let mut copper = fixed_copper(alloc, d).ok()?;
+    let mut copper = fixed_plain(alloc, d).ok()?;
     copper.in_order();
     let before = is_held(&copper, id);
     let first = takes_out(&mut copper, id);

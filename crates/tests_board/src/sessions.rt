@@ -47,7 +47,7 @@ impl Says for Session {
 fn has_routed_session(alloc: Global, d: &Design, want: &str) -> Option<bool>
     requires { IsSound d.now }
 {
-    let item = routed(alloc, d, 0)?;
+    let item = routed(alloc, d, 0, 1_000)?;
     is_text(alloc, d, std::slice::from_ref(&item), true, want)
 }
 

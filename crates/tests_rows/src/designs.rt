@@ -1,10 +1,10 @@
 //! The designs of the examples, and their edits.
 //! An edit replaces a piece of a text, which must stand in it.
 
-use std::alloc::Global;
-use std::test::Fail;
+use std::alloc::{AllocError, Global};
 
-/// Two pairs of pins that must cross, on one layer.
+/// Two pairs of pins that must cross, on one layer: the boundary is item 0, the pins are 1 and 2 of net 0, 3 and 4 of
+/// net 1.
 pub(crate) const CROSSING: &str = "(pcb T
   (parser (string_quote \") (host_cad KiCad) (host_version 8))
   (resolution um 10)
@@ -91,23 +91,30 @@ pub(crate) const KICAD: &str = "(pcb \"K board.dsn\"
 /// Pads on the front alone.
 pub(crate) const ON_FRONT: (&str, &str) = (" (shape (circle B.Cu 1000))", "");
 
-/// The text with its first old piece replaced by the new one.
-fn swapped_once(alloc: Global, text: &str, old: &str, new: &str) -> Result<String, Fail> {
-    let Some((before, after)) = text.split_once(old) else {
-        return Err("a piece is missing".into());
-    };
-    let mut next = String::from_str(alloc, before)?;
-    next.push_str(new)?;
-    next.push_str(after)?;
-    Ok(next)
+fn put_all(text: &mut String, parts: &[&str]) -> Result<(), AllocError> {
+    for part in parts {
+        text.push_str(part)?;
+    }
+    Ok(())
 }
 
-/// The text with each old piece replaced by the new one, in order.
-pub(crate) fn swapped(alloc: Global, text: &str, pairs: &[(&str, &str)]) -> Result<String, Fail> {
-    let mut now = String::from_str(alloc, text)?;
-    for pair in pairs {
-        let (old, new) = *pair;
+fn joined(alloc: Global, parts: &[&str]) -> Result<String, AllocError> {
+    let mut text = String::new(alloc);
+    put_all(&mut text, parts)?;
+    Ok(text)
+}
+
+/// The text with its first old piece replaced by the new one, or None where it is missing or memory is wanting.
+fn swapped_once(alloc: Global, text: &str, old: &str, new: &str) -> Option<String> {
+    let (before, after) = text.split_once(old)?;
+    joined(alloc, &[before, new, after]).ok()
+}
+
+/// The text with each old piece replaced by the new one, in order, or None where one is missing or memory is wanting.
+pub(crate) fn swapped(alloc: Global, text: &str, pairs: &[(&str, &str)]) -> Option<String> {
+    let mut now = String::from_str(alloc, text).ok()?;
+    for &(old, new) in pairs {
         now = swapped_once(alloc, now.as_str(), old, new)?;
     }
-    Ok(now)
+    Some(now)
 }

@@ -1,10 +1,9 @@
 //! Calls that stop before they route, and the one line that they put.
 //! No session is written then.
 
-use crate::calls::{ROUTE, called, routed};
-use crate::designs::{CROSSING, ON_FRONT, TWO_LAYERS, swapped};
+use crate::calls::{Left, Says, leaves, routes};
+use crate::designs::{CROSSING, ON_FRONT, TWO_LAYERS};
 use dsn_route::Status;
-use std::test::Fail;
 
 /// A text that ends within quotes.
 const CUT_IN_QUOTES: &str =
@@ -32,10 +31,19 @@ const MANY_LAYERS: &str =
     (layer L18)(layer L19)(layer L20)(layer L21)(layer L22)(layer L23)(layer L24)(layer L25)(layer L26)\
     (layer L27)(layer L28)(layer L29)(layer L30) (boundary";
 
+/// The call ends so, puts this line, writes no session and routes nothing.
+#[derive(Clone, Copy)]
+struct Stops(Status, &'static str);
+
+impl Says for Stops {
+    fn holds(&self, left: &Left) -> bool {
+        left.stopped(self.0, self.1)
+    }
+}
+
 #[test]
-fn texts_without_a_design_are_refused(rt: HostRuntime) -> Result<(), Fail> {
-    let alloc = rt.alloc();
-    for (text, line) in [
+fn texts_without_a_design_are_refused(rt: HostRuntime) {
+    for &(text, line) in &[
         ("", "refused 6 at 0\n"),
         (")", "refused 4 at 0\n"),
         (DEEP, "refused 5 at 64\n"),
@@ -49,118 +57,120 @@ fn texts_without_a_design_are_refused(rt: HostRuntime) -> Result<(), Fail> {
         (CUT_IN_PLACEMENT, "refused 3 at 284\n"),
         ("(pcb T\n  (parser (string_quote %", "refused 2 at 31\n"),
     ] {
-        let left = called(&rt, alloc, text, &ROUTE, 0, 0)?;
-        assert!(rt; left.stopped(Status::Refused, line), "{line}");
+        let stops = Stops(Status::Refused, line);
+        assert!(rt; routes(&rt, rt.alloc(), text, &[], &stops), "{line}");
     }
-    Ok(())
 }
 
-#[test]
-fn designs_that_break_a_rule_are_refused_and_a_passed_limit_is_said(
-    rt: HostRuntime,
-) -> Result<(), Fail> {
-    let alloc = rt.alloc();
-    let cases: [(&[(&str, &str)], Status, &str); 5] = [
-        (
-            &[("(wiring))\n", "(wiring")],
-            Status::Refused,
-            "refused 3 at 588\n",
-        ),
-        (
-            &[("    (boundary (rect pcb 0 0 10000 10000))\n", "")],
-            Status::Refused,
-            "refused 24 at 104\n",
-        ),
-        (
-            &[("    (boundary", MANY_LAYERS)],
-            Status::Limit,
-            "limit layers 32\n",
-        ),
-        (
-            &[
-                ON_FRONT,
-                (
-                    "(wiring)",
-                    "(wiring (wire (path F.Cu 200 0 0 1 1) (net Z)))",
-                ),
-            ],
-            Status::Refused,
-            "refused 20 at 604\n",
-        ),
-        (
-            &[
-                (
-                    "(component P\n    (place C1 2000 5000 front 0)\n    (place C2 8000 5000 front 0))",
-                    "(component Q (place J 1000 1000 front 0)) (component P2 (place J-1 3000 1000 front 0))",
-                ),
-                (
-                    "(image P (pin PAD 1 0 0))",
-                    "(image Q (pin PAD 1-2 0 0)) (image P2 (pin PAD 2 0 0))",
-                ),
-                ("(pins C1-1 C2-1)", "(pins J-1-2)"),
-            ],
-            Status::Refused,
-            "refused 17 at 609\n",
-        ),
-    ];
-    for (edits, status, line) in cases {
-        let left = routed(&rt, alloc, TWO_LAYERS, edits)?;
-        assert!(rt; left.stopped(status, line), "{line}");
-    }
-    Ok(())
-}
+const BROKEN: [(&[(&str, &str)], Status, &str); 5] = [
+    (
+        &[("(wiring))\n", "(wiring")],
+        Status::Refused,
+        "refused 3 at 588\n",
+    ),
+    (
+        &[("    (boundary (rect pcb 0 0 10000 10000))\n", "")],
+        Status::Refused,
+        "refused 24 at 104\n",
+    ),
+    (
+        &[("    (boundary", MANY_LAYERS)],
+        Status::Limit,
+        "limit layers 32\n",
+    ),
+    (
+        &[
+            ON_FRONT,
+            (
+                "(wiring)",
+                "(wiring (wire (path F.Cu 200 0 0 1 1) (net Z)))",
+            ),
+        ],
+        Status::Refused,
+        "refused 20 at 604\n",
+    ),
+    (
+        &[
+            (
+                "(component P\n    (place C1 2000 5000 front 0)\n    (place C2 8000 5000 front 0))",
+                "(component Q (place J 1000 1000 front 0)) (component P2 (place J-1 3000 1000 front 0))",
+            ),
+            (
+                "(image P (pin PAD 1 0 0))",
+                "(image Q (pin PAD 1-2 0 0)) (image P2 (pin PAD 2 0 0))",
+            ),
+            ("(pins C1-1 C2-1)", "(pins J-1-2)"),
+        ],
+        Status::Refused,
+        "refused 17 at 609\n",
+    ),
+];
 
 #[test]
-fn calls_that_stop_say_why(rt: HostRuntime) -> Result<(), Fail> {
-    let alloc = rt.alloc();
-    let cases: [(&[&str], Status, &str); 14] = [
-        (&[], Status::Usage, "usage 1\n"),
-        (&["draw"], Status::Usage, "usage 2\n"),
-        (&["gen", "401"], Status::Usage, "usage 3\n"),
-        (&["route", "u.dsn"], Status::Usage, "usage 3\n"),
-        (&["route", "a", "-b"], Status::Usage, "usage 3\n"),
-        (&["route", "a", "b", "--grid"], Status::Usage, "usage 3\n"),
-        (&["route", "a", "b", "--grid=0"], Status::Usage, "usage 3\n"),
-        (
-            &["route", "a", "b", "--grid", "5", "--grid", "5"],
-            Status::Usage,
-            "usage 3\n",
-        ),
-        (
-            &["route", "a", "b", "--grid", "100001"],
-            Status::Usage,
-            "usage 3\n",
-        ),
-        (
-            &["route", "a", "b", "--omit-fixed=1"],
-            Status::Usage,
-            "usage 3\n",
-        ),
-        (
-            &["route", "a", "b", "--passes", "100"],
-            Status::Usage,
-            "usage 3\n",
-        ),
-        (
-            &["route", "--", "-a", "-b"],
-            Status::ReadFault,
-            "read fault\n",
-        ),
-        (
-            &["route", "v.dsn", "u.ses", "--grid", "100000"],
-            Status::ReadFault,
-            "read fault\n",
-        ),
-        (
-            &["route", "u.dsn", "u.ses", "--grid", "1"],
-            Status::Limit,
-            "limit nodes 39999600001\n",
-        ),
-    ];
-    let wide = swapped(alloc, CROSSING, &[("0 0 10000 10000", "0 0 200000 200000")])?;
-    for (words, status, line) in cases {
-        let left = called(&rt, alloc, wide.as_str(), words, 0, 0)?;
-        assert!(rt; left.stopped(status, line), "{line}");
+fn designs_that_break_a_rule_are_refused_and_a_passed_limit_is_said(rt: HostRuntime) {
+    for &(edits, status, line) in &BROKEN {
+        let stops = Stops(status, line);
+        assert!(rt;
+            routes(&rt, rt.alloc(), TWO_LAYERS, edits, &stops),
+            "{line}"
+        );
     }
-    Ok(())
+}
+
+const WIDE: [(&str, &str); 1] = [("0 0 10000 10000", "0 0 200000 200000")];
+
+const STOPPED: [(&[&str], Status, &str); 14] = [
+    (&[], Status::Usage, "usage 1\n"),
+    (&["draw"], Status::Usage, "usage 2\n"),
+    (&["gen", "401"], Status::Usage, "usage 3\n"),
+    (&["route", "u.dsn"], Status::Usage, "usage 3\n"),
+    (&["route", "a", "-b"], Status::Usage, "usage 3\n"),
+    (&["route", "a", "b", "--grid"], Status::Usage, "usage 3\n"),
+    (&["route", "a", "b", "--grid=0"], Status::Usage, "usage 3\n"),
+    (
+        &["route", "a", "b", "--grid", "5", "--grid", "5"],
+        Status::Usage,
+        "usage 3\n",
+    ),
+    (
+        &["route", "a", "b", "--grid", "100001"],
+        Status::Usage,
+        "usage 3\n",
+    ),
+    (
+        &["route", "a", "b", "--omit-fixed=1"],
+        Status::Usage,
+        "usage 3\n",
+    ),
+    (
+        &["route", "a", "b", "--passes", "100"],
+        Status::Usage,
+        "usage 3\n",
+    ),
+    (
+        &["route", "--", "-a", "-b"],
+        Status::ReadFault,
+        "read fault\n",
+    ),
+    (
+        &["route", "v.dsn", "u.ses", "--grid", "100000"],
+        Status::ReadFault,
+        "read fault\n",
+    ),
+    (
+        &["route", "u.dsn", "u.ses", "--grid", "1"],
+        Status::Limit,
+        "limit nodes 39999600001\n",
+    ),
+];
+
+#[test]
+fn calls_that_stop_say_why(rt: HostRuntime) {
+    for &(words, status, line) in &STOPPED {
+        let stops = Stops(status, line);
+        assert!(rt;
+            leaves(&rt, rt.alloc(), CROSSING, &WIDE, words, &stops),
+            "{line}"
+        );
+    }
 }

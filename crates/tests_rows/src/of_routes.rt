@@ -1,11 +1,10 @@
 //! Designs that are routed: their sessions and reports.
 //! Each net gets least walks, or a cut for each of its islands.
 
-use crate::calls::{Made, ROUTE, ROUTE_THRICE, called, routed};
-use crate::designs::{CROSSING, KICAD, ON_FRONT, TWO_LAYERS, swapped};
+use crate::calls::{Left, Made, ROUTE, ROUTE_THRICE, Says, leaves, leaves_between, routes};
+use crate::designs::{CROSSING, KICAD, ON_FRONT, TWO_LAYERS};
+use desk_io::NoGate;
 use dsn_route::Status;
-use std::alloc::{AllocError, Global};
-use std::test::Fail;
 
 const CROSSING_SESSION: &str = "(session T
   (base_design T)
@@ -142,8 +141,8 @@ const LAID: (&str, &str) = (
     "(wiring (wire (path F.Cu 200 1000 5000 9000 5000) (net A)))",
 );
 
-/// The pins stand so that a wire of net A and walls part those of net B.
-const APART: [(&str, &str); 4] = [
+/// The pins stand so that a wire of net A, which is there already, and walls part those of net B.
+const APART: [(&str, &str); 5] = [
     (
         "(place C1 1000 5000 front 0)",
         "(place C1 1000 8000 front 0)",
@@ -160,63 +159,86 @@ const APART: [(&str, &str); 4] = [
         "    (rule (width",
         "    (keepout (rect F.Cu 4000 0 6000 4700))\n    (keepout (rect F.Cu 4000 6300 6000 10000))\n    (rule (width",
     ),
+    (
+        "(wiring)",
+        "(wiring (wire (path F.Cu 200 1000 8000 1000 5000 9000 5000 9000 8000) (net A) (type route)))",
+    ),
 ];
 
-fn joined(alloc: Global, parts: &[&str]) -> Result<String, AllocError> {
-    let mut text = String::new(alloc);
-    for part in parts {
-        text.push_str(part)?;
+/// The call ends so, with a report of these parts, and leaves a session and a run.
+#[derive(Clone, Copy)]
+struct Routed(Status, [&'static str; 2]);
+
+impl Says for Routed {
+    fn holds(&self, left: &Left) -> bool {
+        left.says(self.0, &self.1) && left.session().is_some() && left.made().is_some()
     }
-    Ok(text)
 }
 
-#[test]
-fn nets_get_least_walks_or_a_cut_for_each_island(rt: HostRuntime) -> Result<(), Fail> {
-    let alloc = rt.alloc();
-    let cases: [(&[(&str, &str)], Status, &str); 2] = [
-        (&[], Status::SomeOpen, ACROSS),
-        (
-            &[NO_B_LAST, B_FIRST],
-            Status::Complete,
-            "pass 1 commits 2 open 0\nkept 1\njoins 0\nnet B complete\nnet A complete\ncomplete 2 open 0\n",
-        ),
-    ];
-    for (edits, status, rest) in cases {
-        let left = routed(&rt, alloc, CROSSING, edits)?;
-        let report = joined(alloc, &[CROSSING_HEAD, rest])?;
-        assert!(rt; left.says(status, report.as_str()), "{rest}");
-        assert!(rt; left.session().is_some() && left.made().is_some(), "{rest}");
-    }
-    Ok(())
-}
+const IN_ONE_PASS: &str = "pass 1 commits 2 open 0
+kept 1
+joins 0
+net B complete
+net A complete
+complete 2 open 0
+";
+
+const LEAST: [(&[(&str, &str)], Status, &str); 2] = [
+    (&[], Status::SomeOpen, ACROSS),
+    (&[NO_B_LAST, B_FIRST], Status::Complete, IN_ONE_PASS),
+];
 
 #[test]
-fn a_wire_and_a_wall_part_a_net_and_each_island_has_its_cut(rt: HostRuntime) -> Result<(), Fail> {
-    let alloc = rt.alloc();
-    let apart = swapped(alloc, CROSSING, &APART)?;
-    let wire =
-        "(wiring (wire (path F.Cu 200 1000 8000 1000 5000 9000 5000 9000 8000) (net A) (type route)))";
-    let left = routed(&rt, alloc, apart.as_str(), &[("(wiring)", wire)])?;
-    let report = joined(alloc, &[CROSSING_HEAD, WALLED])?;
-    assert!(rt; left.says(Status::SomeOpen, report.as_str()));
-    Ok(())
+fn nets_get_least_walks_or_a_cut_for_each_island(rt: HostRuntime) {
+    for &(edits, status, rest) in &LEAST {
+        let routed = Routed(status, [CROSSING_HEAD, rest]);
+        assert!(rt; routes(&rt, rt.alloc(), CROSSING, edits, &routed), "{rest}");
+    }
 }
 
-#[test]
-fn a_later_pass_rips_what_is_in_the_way(rt: HostRuntime) -> Result<(), Fail> {
-    let alloc = rt.alloc();
-    let cases: [(&[(&str, &str)], &str, usize); 2] = [
-        (&[], "pass 1 commits 1 open 1\n", 3),
-        (&[LAID], "pass 1 commits 0 open 1\n", 2),
-    ];
-    for (edits, first, entries) in cases {
-        let text = swapped(alloc, CROSSING, edits)?;
-        let left = called(&rt, alloc, text.as_str(), &ROUTE_THRICE, 0, 0)?;
-        let report = joined(alloc, &[CROSSING_HEAD, first, RIPPED])?;
-        assert!(rt; left.says(Status::Complete, report.as_str()), "{first}");
-        assert!(rt; left.made() == Some(Made { entries, kept: 3 }), "{first}");
+/// The call ends so, with a report of these parts.
+struct Reports(Status, &'static [&'static str]);
+
+impl Says for Reports {
+    fn holds(&self, left: &Left) -> bool {
+        left.says(self.0, self.1)
     }
-    Ok(())
+}
+
+const OPEN: Reports = Reports(Status::SomeOpen, &[CROSSING_HEAD, WALLED]);
+
+#[test]
+fn a_wire_and_a_wall_part_a_net_and_each_island_has_its_cut(rt: HostRuntime) {
+    assert!(rt; routes(&rt, rt.alloc(), CROSSING, &APART, &OPEN));
+}
+
+/// Net A is ripped in the second pass and comes back in the third, after a first pass of this line, by so many entries.
+struct Rips(&'static str, usize);
+
+impl Says for Rips {
+    fn holds(&self, left: &Left) -> bool {
+        let made = Made {
+            entries: self.1,
+            kept: 3,
+        };
+        left.says(Status::Complete, &[CROSSING_HEAD, self.0, RIPPED]) && left.made() == Some(made)
+    }
+}
+
+const RIPPED_TWICE: [(&[(&str, &str)], Rips); 2] = [
+    (&[], Rips("pass 1 commits 1 open 1\n", 3)),
+    (&[LAID], Rips("pass 1 commits 0 open 1\n", 2)),
+];
+
+#[test]
+fn a_later_pass_rips_what_is_in_the_way(rt: HostRuntime) {
+    for (edits, rips) in &RIPPED_TWICE {
+        assert!(rt;
+            leaves(&rt, rt.alloc(), CROSSING, edits, &ROUTE_THRICE, rips),
+            "{}",
+            rips.0
+        );
+    }
 }
 
 /// The path of the wire of net A in a session.
@@ -230,65 +252,68 @@ fn path_of(session: &str) -> &str {
     }
 }
 
-/// The numbers of a path, two for each point.
-fn numbers_of(alloc: Global, path: &str) -> Result<Vec<i64>, AllocError> {
-    let mut numbers = Vec::new(alloc);
+/// The way along the axes from point to point of a path, which has two numbers for each.
+fn length_of(path: &str) -> u64 {
+    let mut length = 0u64;
+    let (mut before, mut last) = (None, None);
     for word in path.split(' ') {
         if let Ok(number) = word.parse::<i64>() {
-            numbers.push(number)?;
+            length = length.wrapping_add(way(before, number));
+            before = last;
+            last = Some(number);
         }
-    }
-    Ok(numbers)
-}
-
-/// The way along the axes from point to point.
-fn length_of(numbers: &[i64]) -> u64 {
-    let mut length = 0u64;
-    for i in 2..numbers.len() {
-        length = length.wrapping_add(numbers[i].abs_diff(numbers[i - 2]));
     }
     length
 }
 
-#[test]
-fn a_net_whose_straight_way_is_shut_takes_a_way_of_sixteen_mm(rt: HostRuntime) -> Result<(), Fail> {
-    let left = routed(&rt, rt.alloc(), CROSSING, &[NO_B_LAST, B_FIRST])?;
-    let session = std::str::from_utf8(left.session().unwrap_or_default()).unwrap_or_default();
-    let numbers = numbers_of(rt.alloc(), path_of(session))?;
-    assert_eq!(rt; length_of(&numbers), 160_000);
-    Ok(())
+/// How far a number is from the one of the point before, if there is one.
+fn way(before: Option<i64>, number: i64) -> u64 {
+    match before {
+        Some(before) => number.abs_diff(before),
+        None => 0,
+    }
+}
+
+/// The session's text, empty where there is none.
+fn session_of(left: &Left) -> &str {
+    std::str::from_utf8(left.session().unwrap_or_default()).unwrap_or_default()
+}
+
+/// Net A's way has this length in the session's numbers.
+#[derive(Clone, Copy)]
+struct GoesSoFar(u64);
+
+impl Says for GoesSoFar {
+    fn holds(&self, left: &Left) -> bool {
+        length_of(path_of(session_of(left))) == self.0
+    }
 }
 
 #[test]
-fn a_net_that_has_no_walk_is_left_out_of_the_session(rt: HostRuntime) -> Result<(), Fail> {
-    let alloc = rt.alloc();
-    let left = routed(&rt, alloc, CROSSING, &[])?;
-    assert!(rt; left.wrote(CROSSING_SESSION));
-    Ok(())
+fn a_net_whose_straight_way_is_shut_takes_a_way_of_sixteen_mm(rt: HostRuntime) {
+    let edits = [NO_B_LAST, B_FIRST];
+    assert!(rt; routes(&rt, rt.alloc(), CROSSING, &edits, &GoesSoFar(160_000)));
 }
 
-/// The report of the two pins with so many nets and dropped wires, whose lines are these.
-fn report_of(alloc: Global, nets: &str, dropped: &str, rest: &str) -> Result<String, AllocError> {
+/// The call writes a session of these parts.
+struct Writes(&'static [&'static str]);
+
+impl Says for Writes {
+    fn holds(&self, left: &Left) -> bool {
+        left.wrote(self.0)
+    }
+}
+
+#[test]
+fn a_net_that_has_no_walk_is_left_out_of_the_session(rt: HostRuntime) {
+    assert!(rt; routes(&rt, rt.alloc(), CROSSING, &[], &Writes(&[CROSSING_SESSION])));
+}
+
+/// Whether the report of the two pins has so many nets and dropped wires, and ends so.
+fn has_report(left: &Left, status: Status, nets: &str, dropped: &str, rest: &str) -> bool {
     let head = "board T\nlayers 2 nets ";
-    joined(
-        alloc,
-        &[
-            head,
-            nets,
-            " pins 2\ngrid 1000000 nodes 162\ndropped ",
-            dropped,
-            "\nnotes 0\n",
-            rest,
-        ],
-    )
-}
-
-/// The session of the two pins with these nets.
-fn session_of(alloc: Global, nets: &str) -> Result<String, AllocError> {
-    let mut session = String::from_str(alloc, PAIR_SESSION)?;
-    session.push_str(nets)?;
-    session.push_str(SESSION_END)?;
-    Ok(session)
+    let nodes = " pins 2\ngrid 1000000 nodes 162\ndropped ";
+    left.says(status, &[head, nets, nodes, dropped, "\nnotes 0\n", rest])
 }
 
 /// The rest of the report where a wall parts the two pins on all layers.
@@ -345,188 +370,230 @@ const STRAIGHT: &str = "      (net A
       )
 ";
 
-#[test]
-fn walks_keep_clear_of_keepouts_on_all_layers(rt: HostRuntime) -> Result<(), Fail> {
-    let alloc = rt.alloc();
-    let joined_in_one =
-        "pass 1 commits 1 open 0\nkept 1\njoins 0\nnet A complete\ncomplete 1 open 0\n";
-    let cases: [(&[(&str, &str)], Status, &str, &str); 3] = [
-        (&[ON_FRONT], Status::Complete, STRAIGHT, joined_in_one),
-        (
-            &[(
-                "    (via V)\n",
-                "    (keepout W (rect F.Cu 4900 0 5100 10000))\n    (via V)\n",
-            )],
-            Status::Complete,
-            "      (net A\n        (wire (path B.Cu 2000 20000 50000 80000 50000))\n      )\n",
-            joined_in_one,
-        ),
-        (
-            &[(
-                "    (via V)\n",
-                "    (keepout W (rect signal 4900 0 5100 10000))\n    (via V)\n",
-            )],
-            Status::SomeOpen,
-            "",
-            PARTED,
-        ),
-    ];
-    for (edits, status, nets, rest) in cases {
-        let session = session_of(alloc, nets)?;
-        let report = report_of(alloc, "1", "0", rest)?;
-        let left = routed(&rt, alloc, TWO_LAYERS, edits)?;
-        assert!(rt; left.says(status, report.as_str()), "{rest}");
-        assert!(rt; left.wrote(session.as_str()), "{nets}");
+const JOINED: &str = "pass 1 commits 1 open 0
+kept 1
+joins 0
+net A complete
+complete 1 open 0
+";
+
+const ON_BACK: &str = "      (net A
+        (wire (path B.Cu 2000 20000 50000 80000 50000))
+      )
+";
+
+/// The two pins end so: with these nets in the session, and this at the end of the report.
+struct Pair(Status, &'static str, &'static str);
+
+impl Says for Pair {
+    fn holds(&self, left: &Left) -> bool {
+        has_report(left, self.0, "1", "0", self.2)
+            && left.wrote(&[PAIR_SESSION, self.1, SESSION_END])
     }
-    Ok(())
 }
 
-/// The two pins, nets without pins, and this wiring.
-fn wired(alloc: Global, nets: &str, wires: &str) -> Result<String, Fail> {
-    let with_nets = joined(alloc, &["(pins C1-1 C2-1)) ", nets, ")"])?;
-    let with_wires = joined(alloc, &["(wiring ", wires, ")"])?;
-    let edits = [
-        ON_FRONT,
-        ("(pins C1-1 C2-1)))", with_nets.as_str()),
-        ("(wiring)", with_wires.as_str()),
-    ];
-    swapped(alloc, TWO_LAYERS, &edits)
-}
+const WALL_ON_FRONT: (&str, &str) = (
+    "    (via V)\n",
+    "    (keepout W (rect F.Cu 4900 0 5100 10000))\n    (via V)\n",
+);
+
+const WALL: (&str, &str) = (
+    "    (via V)\n",
+    "    (keepout W (rect signal 4900 0 5100 10000))\n    (via V)\n",
+);
+
+const PAIRS: [((&str, &str), Pair); 3] = [
+    (ON_FRONT, Pair(Status::Complete, STRAIGHT, JOINED)),
+    (WALL_ON_FRONT, Pair(Status::Complete, ON_BACK, JOINED)),
+    (WALL, Pair(Status::SomeOpen, "", PARTED)),
+];
 
 #[test]
-fn fixed_wires_stay_and_are_kept_clear_of(rt: HostRuntime) -> Result<(), Fail> {
-    let alloc = rt.alloc();
-    let cases = [
-        (
-            "(wire (path F.Cu 200 3000 9000 3000 5400 7000 5400) (net B) (type fix))",
-            "      (net A
+fn walks_keep_clear_of_keepouts_on_all_layers(rt: HostRuntime) {
+    for (edit, pair) in &PAIRS {
+        assert!(rt;
+            routes(&rt, rt.alloc(), TWO_LAYERS, &[*edit], pair),
+            "{}",
+            pair.1
+        );
+    }
+}
+
+/// One net, and two nets, without pins beside net A.
+const NET_B: (&str, &str) = ("(pins C1-1 C2-1)))", "(pins C1-1 C2-1)) (net B))");
+
+const NETS_B_AND_C: (&str, &str) = ("(pins C1-1 C2-1)))", "(pins C1-1 C2-1)) (net B) (net C))");
+
+/// A fixed wire of net B just far enough from net A's straight way, and one that is too near.
+const BESIDE: (&str, &str) = (
+    "(wiring)",
+    "(wiring (wire (path F.Cu 200 3000 9000 3000 5400 7000 5400) (net B) (type fix)))",
+);
+
+const TOO_NEAR: (&str, &str) = (
+    "(wiring)",
+    "(wiring (wire (path F.Cu 200 3000 9000 3000 5399.9 7000 5399.9) (net B) (type fix)))",
+);
+
+const WITH_BESIDE: &str = "      (net A
         (wire (path F.Cu 2000 20000 50000 80000 50000))
       )
       (net B
         (wire (path F.Cu 2000 30000 90000 30000 54000 70000 54000))
       )
-",
-        ),
-        (
-            "(wire (path F.Cu 200 3000 9000 3000 5399.9 7000 5399.9) (net B) (type fix))",
-            "      (net A
+";
+
+const WITH_TOO_NEAR: &str = "      (net A
         (wire (path F.Cu 2000 20000 50000 20000 40000 80000 40000 80000 50000))
       )
       (net B
         (wire (path F.Cu 2000 30000 90000 30000 53999 70000 53999))
       )
-",
-        ),
-    ];
-    for (wires, nets) in cases {
-        let text = wired(alloc, "(net B)", wires)?;
-        let session = session_of(alloc, nets)?;
-        let left = called(&rt, alloc, text.as_str(), &ROUTE, 0, 0)?;
-        assert!(rt; left.wrote(session.as_str()), "{nets}");
-    }
-    Ok(())
-}
+";
+
+const AROUND_FIXED: [([(&str, &str); 3], Writes); 2] = [
+    (
+        [ON_FRONT, NET_B, BESIDE],
+        Writes(&[PAIR_SESSION, WITH_BESIDE, SESSION_END]),
+    ),
+    (
+        [ON_FRONT, NET_B, TOO_NEAR],
+        Writes(&[PAIR_SESSION, WITH_TOO_NEAR, SESSION_END]),
+    ),
+];
 
 #[test]
-fn fixed_wiring_is_printed_unless_it_is_omitted(rt: HostRuntime) -> Result<(), Fail> {
-    let alloc = rt.alloc();
-    let text = wired(
-        alloc,
-        "(net B) (net C)",
-        "(wire (path F.Cu 200 2000 8000 4000 8000) (net B) (type fix)) \
-         (wire (path F.Cu 200 3000 8000 5000 8000) (net C) (type fix))",
-    )?;
-    let fixed = "      (net B
+fn fixed_wires_stay_and_are_kept_clear_of(rt: HostRuntime) {
+    for (edits, writes) in &AROUND_FIXED {
+        assert!(rt;
+            routes(&rt, rt.alloc(), TWO_LAYERS, edits, writes),
+            "{}",
+            edits[2].1
+        );
+    }
+}
+
+/// Fixed wires of both nets, and what they are in a session.
+const FIXED: [(&str, &str); 3] = [
+    ON_FRONT,
+    NETS_B_AND_C,
+    (
+        "(wiring)",
+        "(wiring (wire (path F.Cu 200 2000 8000 4000 8000) (net B) (type fix)) \
+         (wire (path F.Cu 200 3000 8000 5000 8000) (net C) (type fix)))",
+    ),
+];
+
+const FIXED_NETS: &str = "      (net B
         (wire (path F.Cu 2000 20000 80000 40000 80000))
       )
       (net C
         (wire (path F.Cu 2000 30000 80000 50000 80000))
       )
 ";
-    let nets = joined(alloc, &[STRAIGHT, fixed])?;
-    let whole = session_of(alloc, nets.as_str())?;
-    let left = called(&rt, alloc, text.as_str(), &ROUTE, 0, 0)?;
-    assert!(rt; left.wrote(whole.as_str()));
-    let short = session_of(alloc, STRAIGHT)?;
-    let omitting = [
-        "route",
-        "--omit-fixed",
-        "u.dsn",
-        "--passes=1",
-        "--grid",
-        "1000",
-        "u.ses",
-    ];
-    let left = called(&rt, alloc, text.as_str(), &omitting, 0, 0)?;
-    assert!(rt; left.wrote(short.as_str()));
-    Ok(())
-}
+
+const OMITTING: [&str; 7] = [
+    "route",
+    "--omit-fixed",
+    "u.dsn",
+    "--passes=1",
+    "--grid",
+    "1000",
+    "u.ses",
+];
+
+const WHOLE: Writes = Writes(&[PAIR_SESSION, STRAIGHT, FIXED_NETS, SESSION_END]);
+
+const SHORT: Writes = Writes(&[PAIR_SESSION, STRAIGHT, SESSION_END]);
 
 #[test]
-fn free_wiring_that_is_not_legal_is_dropped_and_its_place_is_told(
-    rt: HostRuntime,
-) -> Result<(), Fail> {
-    let alloc = rt.alloc();
-    let text = wired(
-        alloc,
-        "(net B)",
-        "(wire (path F.Cu 200 2000 5500 3000 5500) (net B)) \
-         (wire (path F.Cu 200 2000 7000 3000 7000) (net B))",
-    )?;
-    let rest = "pass 1 commits 1 open 0
+fn fixed_wiring_is_printed_unless_it_is_omitted(rt: HostRuntime) {
+    assert!(rt; routes(&rt, rt.alloc(), TWO_LAYERS, &FIXED, &WHOLE));
+    assert!(rt; leaves(&rt, rt.alloc(), TWO_LAYERS, &FIXED, &OMITTING, &SHORT));
+}
+
+/// Free wires of net B: one too near a pad, and one that keeps from all.
+const FREE: [(&str, &str); 3] = [
+    ON_FRONT,
+    NET_B,
+    (
+        "(wiring)",
+        "(wiring (wire (path F.Cu 200 2000 5500 3000 5500) (net B)) \
+         (wire (path F.Cu 200 2000 7000 3000 7000) (net B)))",
+    ),
+];
+
+const KEPT: &str = "      (net B
+        (wire (path F.Cu 2000 20000 70000 30000 70000))
+      )
+";
+
+const BOTH_COMPLETE: &str = "pass 1 commits 1 open 0
 kept 1
 joins 0
 net A complete
 net B complete
 complete 2 open 0
 ";
-    let report = report_of(alloc, "2", "1\ndrop 577", rest)?;
-    let kept = "      (net B
-        (wire (path F.Cu 2000 20000 70000 30000 70000))
-      )
-";
-    let nets = joined(alloc, &[STRAIGHT, kept])?;
-    let session = session_of(alloc, nets.as_str())?;
-    let left = called(&rt, alloc, text.as_str(), &ROUTE, 0, 0)?;
-    assert!(rt; left.says(Status::Complete, report.as_str()));
-    assert!(rt; left.wrote(session.as_str()));
-    Ok(())
+
+/// One wire is dropped, whose place is told, and the other is kept.
+struct DropsOne;
+
+impl Says for DropsOne {
+    fn holds(&self, left: &Left) -> bool {
+        has_report(left, Status::Complete, "2", "1\ndrop 577", BOTH_COMPLETE)
+            && left.wrote(&[PAIR_SESSION, STRAIGHT, KEPT, SESSION_END])
+    }
 }
 
 #[test]
-fn a_pin_of_a_turned_component_is_reached_to_a_tenth_of_a_um(rt: HostRuntime) -> Result<(), Fail> {
-    let alloc = rt.alloc();
-    let edits = [
-        ("0 0 10000 10000", "-10000 -10000 20000 20000"),
-        ("(place C1 2000 5000 front 0)", "(place C1 0 0 front 30)"),
-        (
-            "(place C2 8000 5000 front 0)",
-            "(place C2 2000 5000 front 0)",
-        ),
-        ("(pin PAD 1 0 0)", "(pin PAD 1 10000 0)"),
-    ];
-    let left = routed(&rt, alloc, TWO_LAYERS, &edits)?;
-    let session = std::str::from_utf8(left.session().unwrap_or_default()).unwrap_or_default();
-    assert!(rt; session.contains("(wire (path F.Cu 2000 86603 50000 120000 50000))"));
-    Ok(())
+fn free_wiring_that_is_not_legal_is_dropped_and_its_place_is_told(rt: HostRuntime) {
+    assert!(rt; routes(&rt, rt.alloc(), TWO_LAYERS, &FREE, &DropsOne));
+}
+
+const TURNED: [(&str, &str); 4] = [
+    ("0 0 10000 10000", "-10000 -10000 20000 20000"),
+    ("(place C1 2000 5000 front 0)", "(place C1 0 0 front 30)"),
+    (
+        "(place C2 8000 5000 front 0)",
+        "(place C2 2000 5000 front 0)",
+    ),
+    ("(pin PAD 1 0 0)", "(pin PAD 1 10000 0)"),
+];
+
+/// The session has this piece.
+#[derive(Clone, Copy)]
+struct Has(&'static str);
+
+impl Says for Has {
+    fn holds(&self, left: &Left) -> bool {
+        session_of(left).contains(self.0)
+    }
 }
 
 #[test]
-fn a_design_without_nets_is_complete(rt: HostRuntime) -> Result<(), Fail> {
-    let alloc = rt.alloc();
+fn a_pin_of_a_turned_component_is_reached_to_a_tenth_of_a_um(rt: HostRuntime) {
+    let wire = Has("(wire (path F.Cu 2000 86603 50000 120000 50000))");
+    assert!(rt; routes(&rt, rt.alloc(), TWO_LAYERS, &TURNED, &wire));
+}
+
+/// The report of the two pins has no net.
+struct HasNoNets;
+
+impl Says for HasNoNets {
+    fn holds(&self, left: &Left) -> bool {
+        let rest = "pass 1 commits 0 open 0\nkept 1\njoins 0\ncomplete 0 open 0\n";
+        has_report(left, Status::Complete, "0", "0", rest)
+    }
+}
+
+#[test]
+fn a_design_without_nets_is_complete(rt: HostRuntime) {
     let none = [("(network (net A (pins C1-1 C2-1)))", "(network)")];
-    let left = routed(&rt, alloc, TWO_LAYERS, &none)?;
-    let rest = "pass 1 commits 0 open 0\nkept 1\njoins 0\ncomplete 0 open 0\n";
-    let report = report_of(alloc, "0", "0", rest)?;
-    assert!(rt; left.says(Status::Complete, report.as_str()));
-    Ok(())
+    assert!(rt; routes(&rt, rt.alloc(), TWO_LAYERS, &none, &HasNoNets));
 }
 
-#[test]
-fn a_generated_board_gets_the_short_report(rt: HostRuntime) -> Result<(), Fail> {
-    let alloc = rt.alloc();
-    let left = called(&rt, alloc, "", &["gen", "1"], 0, 0)?;
-    let report = "board gen
+const GENERATED: &str = "board gen
 layers 2 nets 1 pins 2
 grid 100000 nodes 44402
 dropped 0
@@ -537,16 +604,22 @@ joins 0
 net N0 complete
 complete 1 open 0
 ";
-    assert!(rt; left.says(Status::Complete, report));
-    assert!(rt; left.session().is_none());
-    Ok(())
+
+/// The call completes the generated board with its report, and writes no session.
+struct Generates;
+
+impl Says for Generates {
+    fn holds(&self, left: &Left) -> bool {
+        left.says(Status::Complete, &[GENERATED]) && left.session().is_none()
+    }
 }
 
 #[test]
-fn a_board_as_kicad_writes_it_is_complete_in_one_pass(rt: HostRuntime) -> Result<(), Fail> {
-    let alloc = rt.alloc();
-    let left = called(&rt, alloc, KICAD, &["route", "u.dsn", "u.ses"], 0, 0)?;
-    let report = "board \"K board.dsn\"
+fn a_generated_board_gets_the_short_report(rt: HostRuntime) {
+    assert!(rt; leaves(&rt, rt.alloc(), "", &[], &["gen", "1"], &Generates));
+}
+
+const OF_KICAD: &str = "board \"K board.dsn\"
 layers 2 nets 4 pins 8
 grid 100000 nodes 298402
 dropped 0
@@ -560,26 +633,57 @@ net SIG complete
 net OUT complete
 complete 4 open 0
 ";
-    assert!(rt; left.says(Status::Complete, report));
-    Ok(())
+
+const COMPLETE: Reports = Reports(Status::Complete, &[OF_KICAD]);
+
+#[test]
+fn a_board_as_kicad_writes_it_is_complete_in_one_pass(rt: HostRuntime) {
+    let words = ["route", "u.dsn", "u.ses"];
+    assert!(rt; leaves(&rt, rt.alloc(), KICAD, &[], &words, &COMPLETE));
+}
+
+/// What follows the head in the first half of the report.
+fn half_of_report() -> &'static str {
+    let half = (CROSSING_HEAD.len() + ACROSS.len()) / 2;
+    ACROSS
+        .get(..half.saturating_sub(CROSSING_HEAD.len()))
+        .unwrap_or_default()
+}
+
+/// The call ends so, leaves so many bytes of a session, or none, and a report of these parts.
+#[derive(Clone, Copy)]
+struct LeavesFront(Status, Option<usize>, [&'static str; 2]);
+
+impl Says for LeavesFront {
+    fn holds(&self, left: &Left) -> bool {
+        left.says(self.0, &self.2) && left.session_len() == self.1
+    }
 }
 
 #[test]
-fn faults_leave_a_front_of_what_was_due(rt: HostRuntime) -> Result<(), Fail> {
-    let alloc = rt.alloc();
+fn faults_leave_a_front_of_what_was_due(rt: HostRuntime) {
+    let bytes = CROSSING.as_bytes();
     let whole = CROSSING_SESSION.len();
-    let report = joined(alloc, &[CROSSING_HEAD, ACROSS])?;
-    let front = report.get(..report.len() / 2).unwrap_or_default();
-    let cases: [(u64, u64, Status, Option<usize>, &str); 4] = [
-        (1, 0, Status::ReadFault, None, "read fault\n"),
-        (1, 1, Status::WriteFault, None, "read "),
-        (2, 0, Status::WriteFault, Some(whole / 2), ""),
-        (0, 1, Status::WriteFault, Some(whole), front),
-    ];
-    for (desk_fails, sink_fails, status, kept, report) in cases {
-        let left = called(&rt, alloc, CROSSING, &ROUTE, desk_fails, sink_fails)?;
-        assert!(rt; left.says(status, report), "{report}");
-        assert_eq!(rt; left.session_len(), kept, "{report}");
+    let front = [CROSSING_HEAD, half_of_report()];
+    for &(fails, status, kept, report) in &[
+        ((1, 0), Status::ReadFault, None, ["read fault\n", ""]),
+        ((1, 1), Status::WriteFault, None, ["read ", ""]),
+        ((2, 0), Status::WriteFault, Some(whole / 2), ["", ""]),
+        ((0, 1), Status::WriteFault, Some(whole), front),
+    ] {
+        let leaves_front = LeavesFront(status, kept, report);
+        assert!(rt;
+            leaves_between(
+                &rt,
+                rt.alloc(),
+                bytes,
+                &ROUTE,
+                fails,
+                &NoGate,
+                &leaves_front
+            ),
+            "{}",
+            report[0]
+        );
     }
-    Ok(())
 }

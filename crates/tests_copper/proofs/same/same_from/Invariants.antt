@@ -1,4 +1,0 @@
-use Rattle.tests_copper.proofs.same.same_from.Given as goal
-
-abbrev pub ghosts-same_counting : goal.ghosts-same_counting
-ghosts-same_counting a = record { name = a.blank.name; parts = a.blank.parts }

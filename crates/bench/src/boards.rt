@@ -90,8 +90,16 @@ fn tell_searches<R: Runtime>(rt: &R, alloc: Global, board: &Board, plan: Plan) -
     board.keeps();
     boards_serve();
     let snap = board.snap()?;
-    let plain = fixed_copper(alloc, snap.design())?;
-    time_searches(rt, &snap, &plain, snap.design(), plan)
+    let told = match fixed_copper(alloc, snap.design()) {
+        Ok(plain) => {
+            let told = time_searches(rt, &snap, &plain, snap.design(), plan);
+            drop(plain);
+            told
+        }
+        Err(error) => Err(error.into()),
+    };
+    drop(snap);
+    told
 }
 
 fn tell_offers<R: Runtime>(rt: &R, alloc: Global, board: &mut Board, plan: Plan) -> io::Result<()> {
@@ -116,7 +124,11 @@ fn tell_all<R: Runtime>(rt: &R, alloc: Global, board: &mut Board, plan: Plan) ->
 
 fn run<R: Runtime>(rt: &R, alloc: Global, plan: Plan) -> io::Result<()> {
     match board_of(alloc, plan.nets) {
-        Some(mut board) => tell_all(rt, alloc, &mut board, plan),
+        Some(mut board) => {
+            let told = tell_all(rt, alloc, &mut board, plan);
+            drop(board);
+            told
+        }
         None => println!(rt; "no board"),
     }
 }

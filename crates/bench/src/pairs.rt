@@ -97,17 +97,19 @@ fn a_second(tests: u64, nanos: u128) -> u128 {
     }
 }
 
-fn round<R: Runtime>(rt: &R, alloc: Global, kind: Kind, span: u32, plan: Plan) -> io::Result<()>
-    requires some { 0 < span }
-    requires small { span ≤ 2 ^ 27 }
-{
-    let mut numbers = Numbers::new(1);
-    let firsts = make_all(alloc, kind, &mut numbers, span, plan.figures)?;
-    let seconds = make_all(alloc, Kind::Segment, &mut numbers, span, plan.figures)?;
+/// Tests each pair of a first and a second figure, and tells how many keep the distance, or how fast it is.
+fn tell_round<R: Runtime>(
+    rt: &R,
+    kind: Kind,
+    span: u32,
+    plan: Plan,
+    firsts: &[Figure],
+    seconds: &[Figure],
+) -> io::Result<()> {
     let start = Instant::now(rt)?;
     let mut kept = 0u64;
     for _ in 0..plan.rounds {
-        kept = kept.wrapping_add(count(firsts.as_slice(), seconds.as_slice()));
+        kept = kept.wrapping_add(count(firsts, seconds));
     }
     let nanos = start.elapsed(rt)?.as_nanos();
     let tests = plan
@@ -122,6 +124,16 @@ fn round<R: Runtime>(rt: &R, alloc: Global, kind: Kind, span: u32, plan: Plan) -
     } else {
         println!(rt; "{name} against segments in {span} nm: {tests} tests, {kept} keep")
     }
+}
+
+fn round<R: Runtime>(rt: &R, alloc: Global, kind: Kind, span: u32, plan: Plan) -> io::Result<()>
+    requires some { 0 < span }
+    requires small { span ≤ 2 ^ 27 }
+{
+    let mut numbers = Numbers::new(1);
+    let firsts = make_all(alloc, kind, &mut numbers, span, plan.figures)?;
+    let seconds = make_all(alloc, Kind::Segment, &mut numbers, span, plan.figures)?;
+    tell_round(rt, kind, span, plan, firsts.as_slice(), seconds.as_slice())
 }
 
 /// Makes the tests of each kind, near and far.

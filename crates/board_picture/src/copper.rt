@@ -112,7 +112,8 @@ fn put_layer_group(
     put(out, b">\n")?;
     put_wires(out, layer, items)?;
     put_lands(out, layer, items)?;
-    put(out, b"</g>\n")
+    put(out, b"</g>\n")?;
+    Ok(())
 }
 
 // From the last layer up to the first.

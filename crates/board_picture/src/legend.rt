@@ -60,7 +60,8 @@ fn put_layer_row(out: &mut Vec<u8>, row: usize, layer: &BoardLayer) -> Result<()
     put(out, b"/>")?;
     put_row_head(out, row as u128)?;
     put_escaped(out, layer.name.as_slice())?;
-    put(out, b"</text>\n")
+    put(out, b"</text>\n")?;
+    Ok(())
 }
 
 fn put_layer_rows(out: &mut Vec<u8>, d: &Design) -> Result<(), AllocError>

@@ -61,15 +61,29 @@ pub fn see(
     ensures { IfOk result (IsSightOf lat.now snap) }
 {
     match last {
-        Some(Sight { snap: before, maps }) => {
-            let mut maps = maps;
-            follow(lat, &before, &snap, &mut maps)?;
-            Ok(Sight { snap, maps })
+        Some(
+            Sight {
+                snap: before,
+                mut maps,
+            },
+        ) => {
+            let followed = follow(lat, &before, &snap, &mut maps);
+            drop(before);
+            match followed {
+                Ok(()) => Ok(Sight { snap, maps }),
+                Err(error) => {
+                    drop((snap, maps));
+                    Err(error)
+                }
+            }
         }
-        None => {
-            let maps = MoveMaps::of(alloc, lat, snap.design(), &snap)?;
-            Ok(Sight { snap, maps })
-        }
+        None => match MoveMaps::of(alloc, lat, snap.design(), &snap) {
+            Ok(maps) => Ok(Sight { snap, maps }),
+            Err(error) => {
+                drop(snap);
+                Err(error)
+            }
+        },
     }
 }
 

@@ -1,7 +1,7 @@
 -- What a seat that has all passes knows at the end.
-use Rattle.std.proofs.Common.{◌≡◌, ◌≢◌, ◌⊎◌, ℕ, zero, suc, ◌+◌, ◌-◌, ◌<◌, ◌≤◌, Bool, true, false, cond, eqb, List, []}
+use Rattle.std.proofs.Common.{◌≡◌, ◌≢◌, ◌⊎◌, ℕ, zero, suc, ◌+◌, ◌-◌, ◌<◌, ◌≤◌, Bool, cond, eqb, List, []}
 use Rattle.std.proofs.Common.{◌∷◌, ◌++◌, map, length, All, refl, sym, ap, ◌∙◌, subst, inl, inr, ⊎_elim, arith, Option}
-use Rattle.std.proofs.Common.{Some, None, length-append, append_assoc, eq-eqb}
+use Rattle.std.proofs.Common.{Some, length-append, append_assoc, eq-eqb}
 use Rattle.std.proofs.lemmas.Bool.{cases_eq, le-ltb, lt-ltb, cases_order, ne_eqb}
 use Rattle.std.proofs.lemmas.List.{append-nil, length-map}
 use mathlib.Core.Option as maybe

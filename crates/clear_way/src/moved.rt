@@ -80,15 +80,28 @@ pub(crate) fn moved_items<C: Copper>(
     let mut moved: List<Item> = List::new(alloc);
     for id in ids {
         let Some(item) = c.item(*id) else {
+            drop(moved);
             return Ok(None);
         };
-        let Some(fitting) = first_fit(alloc, lat, d, c, new, item)? else {
-            return Ok(None);
+        let fitting = match first_fit(alloc, lat, d, c, new, item) {
+            Ok(Some(fitting)) => fitting,
+            Ok(None) => {
+                drop(moved);
+                return Ok(None);
+            }
+            Err(error) => {
+                drop(moved);
+                return Err(error);
+            }
         };
         if !all_stand_with(d, c, moved.as_slice(), &fitting) {
+            drop((fitting, moved));
             return Ok(None);
         }
-        moved.push(fitting)?;
+        if let Err(error) = moved.push(fitting) {
+            drop(moved);
+            return Err(error.into());
+        }
     }
     Ok(Some(moved))
 }

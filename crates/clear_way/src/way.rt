@@ -41,15 +41,33 @@ pub fn make_way<C: Copper>(
     ensures { IfOk result (MakesWayOn d.now lat.now (C.items c.now) (added_from d.now net 0 metals.now)) }
 {
     let new = added_items(alloc, d, net, metals.as_slice())?;
-    let ids = to_rip(alloc, d, c, &new)?;
-    match moved_items(alloc, lat, d, c, new.as_slice(), ids.as_slice())? {
-        Some(moved) => Ok(Way {
-            rip: List::new(alloc),
-            shoves: shoves_of(alloc, moved.as_slice())?,
-        }),
-        None => Ok(Way {
+    let ids = match to_rip(alloc, d, c, &new) {
+        Ok(ids) => ids,
+        Err(error) => {
+            drop(new);
+            return Err(error);
+        }
+    };
+    let found = moved_items(alloc, lat, d, c, new.as_slice(), ids.as_slice());
+    drop(new);
+    match found {
+        Ok(Some(moved)) => {
+            drop(ids);
+            let shoves = shoves_of(alloc, moved.as_slice());
+            drop(moved);
+            let shoves = shoves?;
+            Ok(Way {
+                rip: List::new(alloc),
+                shoves,
+            })
+        }
+        Ok(None) => Ok(Way {
             rip: ids,
             shoves: List::new(alloc),
         }),
+        Err(error) => {
+            drop(ids);
+            Err(error)
+        }
     }
 }

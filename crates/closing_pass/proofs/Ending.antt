@@ -1,6 +1,6 @@
 -- How nets end, one after another, and island by island.
 use Rattle.std.proofs.Common.{◌≡◌, ℕ, ◌+◌, ◌≤◌, List, [], ◌∷◌, ◌++◌, length, Some, sym, ap, ◌∙◌, subst, inl, inr}
-use Rattle.std.proofs.Common.{◌<◌, Result, refl, arith, length-append}
+use Rattle.std.proofs.Common.{◌<◌, Result, refl, rules, arith, length-append}
 use Rattle.std.specs.Prelude.{slice_get, remove, IfOk}
 use Rattle.pcb_model.specs.declared.item.Item.{Item}
 use Rattle.pcb_model.specs.declared.design.Design.{Design}
@@ -24,6 +24,11 @@ pub record HaveCutsTo (d : Design) (m : Mesh) (via_cost : ℕ) (items : List Ite
   pub each : (place : ℕ) (island : Island) (cut : Cut) → slice_get found place ≡ Some island
       → slice_get cuts place ≡ Some cut
       → Cuts d m items via_cost island (remove found place) (Some cut)
+
+-- before the first island
+pub cuts_none : (d : Design) (m : Mesh) (via_cost : ℕ) (items : List Item) (found : List Island)
+    → HaveCutsTo d m via_cost items found 0 []
+cuts_none d m via_cost items found = record { count = refl; each = search rules }
 
 pub cuts_more : (d : Design) (m : Mesh) (via_cost : ℕ) (items : List Item) (found : List Island) (n : ℕ)
     (cuts more : List Cut) (cut : Cut)
@@ -54,6 +59,10 @@ shut_of d m via_cost net items found closed same several = elim closed.shut [
 ]
 
 -- ---- nets
+-- before the first net
+pub ends_none : (d : Design) (m : Mesh) (via_cost : ℕ) (items : List Item) → AreEnds d m via_cost items 0 []
+ends_none d m via_cost items = record { all = refl; each = search rules }
+
 -- one net's end more
 pub ends_more : (d : Design) (m : Mesh) (via_cost : ℕ) (items : List Item) (n : ℕ) (ends more : List (List Cut))
     (cuts : List Cut)

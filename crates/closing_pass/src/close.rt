@@ -20,7 +20,9 @@ fn islands_on(alloc: Global, board: &Board, net: u32) -> Result<List<Island>, Al
     board.keeps();
     boards_serve();
     let snap = board.snap()?;
-    islands(alloc, snap.design(), &snap, net)
+    let found = islands(alloc, snap.design(), &snap, net);
+    drop(snap);
+    found
 }
 
 impl Task<'_> {

@@ -71,12 +71,24 @@ fn ends_of(
     board.keeps();
     boards_serve();
     ids_stay();
-    let snap = board.snap()?;
+    let snap = match board.snap() {
+        Ok(snap) => snap,
+        Err(error) => {
+            drop(sight);
+            return Err(error);
+        }
+    };
     match sight {
-        None => ends_on(alloc, lat, via_cost, &snap, None),
+        None => {
+            let ends = ends_on(alloc, lat, via_cost, &snap, None);
+            drop(snap);
+            ends
+        }
         Some(last) => {
             let seen = see(alloc, lat, Some(last), snap)?;
-            ends_on(alloc, lat, via_cost, &seen.snap, Some(&seen.maps))
+            let ends = ends_on(alloc, lat, via_cost, &seen.snap, Some(&seen.maps));
+            drop(seen);
+            ends
         }
     }
 }
@@ -99,8 +111,17 @@ fn close_board(
         search,
         sight: None,
     };
-    task.close_all(alloc, &mut means, board)?;
-    ends_of(alloc, board, lat, via_cost, means.sight.take())
+    match task.close_all(alloc, &mut means, board) {
+        Ok(()) => {
+            let sight = means.sight.take();
+            drop(means);
+            ends_of(alloc, board, lat, via_cost, sight)
+        }
+        Err(error) => {
+            drop(means);
+            Err(error)
+        }
+    }
 }
 
 /// Joins islands by least legal walks, as the worker of the closing pass, until no legal walk leads from any island of

@@ -55,26 +55,31 @@ impl Shut<'_> {
             self.snap,
             island.net,
             self.via_cost,
-        )? {
-            Some(legal) => make_cut_with(
+        ) {
+            Ok(Some(legal)) => {
+                let cut = make_cut_with(
+                    alloc,
+                    self.lat,
+                    self.d,
+                    self.snap,
+                    &legal,
+                    island,
+                    others,
+                    self.via_cost,
+                );
+                drop(legal);
+                cut
+            }
+            Ok(None) => make_cut_among(
                 alloc,
                 self.lat,
                 self.d,
                 self.snap,
-                &legal,
                 island,
                 others,
                 self.via_cost,
             ),
-            None => make_cut_among(
-                alloc,
-                self.lat,
-                self.d,
-                self.snap,
-                island,
-                others,
-                self.via_cost,
-            ),
+            Err(error) => Err(error),
         }
     }
 
@@ -129,12 +134,21 @@ impl Shut<'_> {
     {
         let mut others = found;
         let island = others.remove(place);
-        let made = self.cut_of(alloc, &island, &others)?;
-        let Some(cut) = made else {
-            unreachable!();
+        let cut = match self.cut_of(alloc, &island, &others) {
+            Ok(Some(cut)) => cut,
+            Ok(None) => unreachable!(),
+            Err(error) => {
+                drop((others, island));
+                return Err(error);
+            }
         };
-        let found = put_back(others, place, island)?;
-        Ok((found, cut))
+        match put_back(others, place, island) {
+            Ok(found) => Ok((found, cut)),
+            Err(error) => {
+                drop(cut);
+                Err(error)
+            }
+        }
     }
 
     /// The cuts of all islands of a net.

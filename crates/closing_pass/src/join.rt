@@ -95,7 +95,7 @@ impl Task<'_> {
             island,
             others,
         );
-        means.sight = Some(seen);
+        drop(means.sight.replace(seen));
         led
     }
 
@@ -129,14 +129,32 @@ impl Task<'_> {
         islands_are_one();
         let mut others = found;
         let island = others.remove(place);
-        let led = self.led_at(alloc, means, board, &island, &others)?;
-        let found = put_back(others, place, island)?;
-        match led {
-            Led::Shut(_) => Ok((found, false)),
-            Led::Offer(offer) => {
-                take(board, offer)?;
-                Ok((found, true))
+        let led = match self.led_at(alloc, means, board, &island, &others) {
+            Ok(led) => led,
+            Err(error) => {
+                drop((others, island));
+                return Err(error);
             }
+        };
+        let found = match put_back(others, place, island) {
+            Ok(found) => found,
+            Err(error) => {
+                drop(led);
+                return Err(error);
+            }
+        };
+        match led {
+            Led::Shut(reach) => {
+                drop(reach);
+                Ok((found, false))
+            }
+            Led::Offer(offer) => match take(board, offer) {
+                Ok(()) => Ok((found, true)),
+                Err(error) => {
+                    drop(found);
+                    Err(error)
+                }
+            },
         }
     }
 }

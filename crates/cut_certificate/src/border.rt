@@ -285,12 +285,18 @@ pub(crate) fn close<M: Shuts, L: Moves>(
     let reach = flood(alloc, legal, starts)?;
     reach_tells_goals(m);
     if meets(reach.nodes.as_slice(), goals.as_slice()) {
+        drop(reach);
         return Ok(None);
     }
     m.has_prices();
-    let blocked = blocks_of(alloc, m, reach.nodes.as_slice())?;
-    Ok(Some(Border {
-        reach,
-        blocked: List::from_vec(blocked),
-    }))
+    match blocks_of(alloc, m, reach.nodes.as_slice()) {
+        Ok(blocked) => Ok(Some(Border {
+            reach,
+            blocked: List::from_vec(blocked),
+        })),
+        Err(error) => {
+            drop(reach);
+            Err(error)
+        }
+    }
 }

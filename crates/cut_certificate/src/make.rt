@@ -1,8 +1,9 @@
 //! Cuts, made by a search that closed.
 //! No cut is made where legal moves lead on.
 
-ghost use Rattle.std.specs.Prelude.{◌≡◌, ◌<◌, ◌==◌, length, All, IfOk, slice_index};
+ghost use Rattle.std.specs.Prelude.{◌≡◌, ◌<◌, ◌==◌, length, List as Seq, All, IfOk, slice_index};
 ghost use Rattle.std.specs.List.{list_any};
+ghost use Rattle.pcb_islands.specs.declared.net.Island.{Island as OneIsland};
 ghost use Rattle.pcb_model.specs.Sound.{IsSound};
 ghost use Rattle.route_lattice.specs.Mesh.{node_count};
 ghost use Rattle.route_lattice.specs.Fits.{FitsDesign};
@@ -104,6 +105,41 @@ fn first_pin(island: &Island) -> u32
     }
 }
 
+/// A cut that holds the starts of an island, or None where legal moves lead from one of them to a goal; whichever
+/// islands the goals are of.
+fn cut_between<C: Copper, M: Moves>(
+    alloc: Global,
+    lat: &Lattice,
+    d: &Design,
+    c: &C,
+    legal: &M,
+    island: &Island,
+    via_cost: u64,
+    starts: &List<u32>,
+    goals: &List<u32>,
+) -> Result<Option<Cut>, AllocError>
+    requires can_move { CanMove d.now lat.now island.now.net via_cost }
+    requires pins { 0 < length island.now.pins }
+    requires serves { C.serves c.now d.now }
+    requires ready { M.ready legal.now }
+    requires legal { SameMoves (M.graph legal.now) (legal_graph d.now lat.now (C.items c.now) island.now.net via_cost) }
+    requires starts { AreStarts d.now lat.now (C.items c.now) island.now starts.now }
+    ensures { IfOk result (λ cut. (others : Seq OneIsland) → AreGoals d.now lat.now (C.items c.now) others goals.now
+        → Cuts d.now lat.now (C.items c.now) via_cost island.now others cut) }
+{
+    let net = island.net;
+    legal_graph_sound();
+    match close_legal(alloc, lat, d, c, legal, net, via_cost, starts, goals)? {
+        None => Ok(None),
+        Some(Border { reach, blocked }) => Ok(Some(Cut {
+            net,
+            pin: first_pin(island),
+            reach,
+            blocked,
+        })),
+    }
+}
+
 /// `make_cut_among` by moves that are the legal ones: the flood goes over them, and the copper is asked only what
 /// shuts the moves that lead out.
 pub fn make_cut_with<C: Copper, M: Moves>(
@@ -125,17 +161,7 @@ pub fn make_cut_with<C: Copper, M: Moves>(
 {
     let starts = starts_of(alloc, lat, d, c, island)?;
     let goals = goals_of(alloc, lat, d, c, others)?;
-    let net = island.net;
-    legal_graph_sound();
-    match close_legal(alloc, lat, d, c, legal, net, via_cost, &starts, &goals)? {
-        None => Ok(None),
-        Some(Border { reach, blocked }) => Ok(Some(Cut {
-            net,
-            pin: first_pin(island),
-            reach,
-            blocked,
-        })),
-    }
+    cut_between(alloc, lat, d, c, legal, island, via_cost, &starts, &goals)
 }
 
 /// A cut between an island and the others, or None exactly where legal moves lead from a legal anchor of the island to

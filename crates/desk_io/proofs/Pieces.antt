@@ -1,6 +1,6 @@
 -- A list that is written piece by piece.
 use Rattle.std.proofs.Common.{ℕ, ◌+◌, ◌-◌, List, ◌++◌, length, take, drop, Option, sym, ap, subst, ◌∙◌, arith}
-use Rattle.std.proofs.Common.{length-drop, ◌≡◌, ◌<◌, ◌≤◌, [], Bool, true, if◌then◌else◌, None, Some, IfSome, ap₂}
+use Rattle.std.proofs.Common.{length-drop, ◌≡◌, ◌<◌, ◌≤◌, Bool, true, if◌then◌else◌, None, Some, IfSome, ap₂}
 use Rattle.std.proofs.Common.{append-nil}
 use Rattle.std.proofs.lemmas.List.{take_all, take-append-le, length-append, length-take}
 use Rattle.std.proofs.Math.Seq.{take-add}

@@ -134,10 +134,24 @@ fn place_all(alloc: Global, parts: &Parts, stacks: &List<Padstack>) -> Result<Pl
         (λ v. v.components ≡ counted_components parts.now.library parts.now.placing.places) }
     ensures pins { IfOk result (λ v. v.pins ≡ counted_pins parts.now stacks.now) }
 {
-    let components = components_of(alloc, &parts.library, parts.placing.places.as_slice())?;
     let board = board_of(alloc, parts, stacks)?;
-    let pins = all_pins(alloc, &board)?;
-    Ok(Placed { components, pins })
+    let pins = match all_pins(alloc, &board) {
+        Ok(pins) => {
+            drop(board);
+            pins
+        }
+        Err(error) => {
+            drop(board);
+            return Err(error);
+        }
+    };
+    match components_of(alloc, &parts.library, parts.placing.places.as_slice()) {
+        Ok(components) => Ok(Placed { components, pins }),
+        Err(error) => {
+            drop(pins);
+            Err(error)
+        }
+    }
 }
 
 fn board_of<'a>(
@@ -207,28 +221,68 @@ fn frame_of(
     requires { ArePartsFit parts.now }
     ensures { IfOk result (λ d. d ≡ counted_with parts.now stacks [] free) }
 {
-    let placed = place_all(alloc, parts, &stacks)?;
-    let netlist = make_netlist(alloc, parts, &stacks)?;
-    let outline = outline_of(alloc, &parts.structure)?;
-    let labels = labels_of(alloc, &parts.head)?;
+    let placed = match place_all(alloc, parts, &stacks) {
+        Ok(placed) => placed,
+        Err(error) => {
+            drop((stacks, free));
+            return Err(error);
+        }
+    };
+    let netlist = match make_netlist(alloc, parts, &stacks) {
+        Ok(netlist) => netlist,
+        Err(error) => {
+            drop((stacks, free, placed));
+            return Err(error);
+        }
+    };
+    let outline = match outline_of(alloc, &parts.structure) {
+        Ok(outline) => outline,
+        Err(error) => {
+            drop((stacks, free, placed, netlist));
+            return Err(error);
+        }
+    };
+    let labels = match labels_of(alloc, &parts.head) {
+        Ok(labels) => labels,
+        Err(error) => {
+            drop((stacks, free, placed, netlist, outline));
+            return Err(error);
+        }
+    };
+    let Placed { components, pins } = placed;
+    let Netlist {
+        nets,
+        classes,
+        notes,
+    } = netlist;
+    let Outline {
+        layers,
+        bounds,
+        rules,
+    } = outline;
+    let Labels {
+        name,
+        host_cad,
+        host_version,
+    } = labels;
     Ok(Design {
-        name: labels.name,
+        name,
         unit: parts.head.unit,
         per: parts.head.per,
-        host_cad: labels.host_cad,
-        host_version: labels.host_version,
-        layers: outline.layers,
-        bounds: outline.bounds,
+        host_cad,
+        host_version,
+        layers,
+        bounds,
         padstacks: stacks,
-        components: placed.components,
-        pins: placed.pins,
-        nets: netlist.nets,
-        classes: netlist.classes,
-        rules: outline.rules,
+        components,
+        pins,
+        nets,
+        classes,
+        rules,
         via_at_smd: parts.structure.via_at_smd,
         fixed: List::new(alloc),
         free,
-        notes: netlist.notes,
+        notes,
     })
 }
 
@@ -244,7 +298,9 @@ fn fixed_items(alloc: Global, parts: &Parts, frame: &Design) -> Result<List<Item
     push_edges(alloc, &mut items, n, parts.structure.bounds.as_slice())?;
     push_bans(alloc, &mut items, n, parts.structure.bans.as_slice())?;
     let board = board_of(alloc, parts, &frame.padstacks)?;
-    push_places(alloc, &mut items, &board, parts.placing.places.as_slice())?;
+    let pushed = push_places(alloc, &mut items, &board, parts.placing.places.as_slice());
+    drop(board);
+    pushed?;
     push_fixed(alloc, &mut items, frame, parts.wiring.wires.as_slice())?;
     numbered(alloc, items)
 }
@@ -255,9 +311,16 @@ fn with_fixed(alloc: Global, parts: &Parts, mut design: Design) -> Result<Design
     requires stacks_fit { All (λ (s : TheStack). All IsFit s.pieces) design.padstacks }
     ensures { IfOk result (λ d. d ≡ record design { fixed = counted_items parts.now design.padstacks }) }
 {
-    let fixed = fixed_items(alloc, parts, &design)?;
-    design.fixed = fixed;
-    Ok(design)
+    match fixed_items(alloc, parts, &design) {
+        Ok(fixed) => {
+            design.fixed = fixed;
+            Ok(design)
+        }
+        Err(error) => {
+            drop(design);
+            Err(error)
+        }
+    }
 }
 
 /// The design that the sections of a text make together.

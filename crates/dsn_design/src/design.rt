@@ -34,23 +34,38 @@ fn read_parts(alloc: Global, pcb: &Tree) -> Result<Parts, ReadFault>
     let s = head.scale;
     let structure = match read_structure(alloc, pcb, s) {
         Ok(structure) => structure,
-        Err(fault) => return Err(fault),
+        Err(fault) => {
+            drop(head);
+            return Err(fault);
+        }
     };
     let library = match read_library(alloc, pcb, s, &structure.layers) {
         Ok(library) => library,
-        Err(fault) => return Err(fault),
+        Err(fault) => {
+            drop((head, structure));
+            return Err(fault);
+        }
     };
     let placing = match read_placement(alloc, pcb, s, &structure, &library) {
         Ok(placing) => placing,
-        Err(fault) => return Err(fault),
+        Err(fault) => {
+            drop((head, structure, library));
+            return Err(fault);
+        }
     };
     let network = match read_network(alloc, pcb, s, &library, &placing) {
         Ok(network) => network,
-        Err(fault) => return Err(fault),
+        Err(fault) => {
+            drop((head, structure, library, placing));
+            return Err(fault);
+        }
     };
     let wiring = match read_wiring(alloc, pcb, s, &structure, &library, &placing, &network) {
         Ok(wiring) => wiring,
-        Err(fault) => return Err(fault),
+        Err(fault) => {
+            drop((head, structure, library, placing, network));
+            return Err(fault);
+        }
     };
     Ok(Parts {
         head,
@@ -84,11 +99,24 @@ pub fn read_design(alloc: Global, text: &[u8]) -> Result<Design, DesignFault>
     };
     let parts = match read_parts(alloc, &tree) {
         Ok(parts) => parts,
-        Err(ReadFault::Refused(refusal)) => return Err(DesignFault::Refused(refusal)),
-        Err(ReadFault::Memory(error)) => return Err(DesignFault::Memory(error)),
+        Err(ReadFault::Refused(refusal)) => {
+            drop(tree);
+            return Err(DesignFault::Refused(refusal));
+        }
+        Err(ReadFault::Memory(error)) => {
+            drop(tree);
+            return Err(DesignFault::Memory(error));
+        }
     };
+    drop(tree);
     match make_design(alloc, &parts) {
-        Ok(design) => Ok(design),
-        Err(error) => Err(DesignFault::Memory(error)),
+        Ok(design) => {
+            drop(parts);
+            Ok(design)
+        }
+        Err(error) => {
+            drop(parts);
+            Err(DesignFault::Memory(error))
+        }
     }
 }

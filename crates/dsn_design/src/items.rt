@@ -83,7 +83,9 @@ fn placed_ban(
     let stand = stand_of(parts.structure.flip_last, place);
     let mut pieces = List::new(alloc);
     if let Some(shape) = ban_copper(alloc, n as u32, stand, ban)? {
-        add_pieces(alloc, &mut pieces, n, &shape)?;
+        let added = add_pieces(alloc, &mut pieces, n, &shape);
+        drop(shape);
+        added?;
     }
     let metal = Metal::Ban {
         wires: ban.wires,

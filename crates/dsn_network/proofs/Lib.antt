@@ -1,5 +1,7 @@
 pub mod Fitting
+pub mod Found
 pub mod Owning
 pub mod Naming
+pub mod Noting
 pub mod Sound
 pub mod Tabled

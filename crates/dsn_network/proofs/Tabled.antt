@@ -1,5 +1,5 @@
 -- Each refusal of a network is one of the table.
-use Rattle.std.proofs.Common.{◌+◌, ℕ, List, [], ◌∷◌, Option, Some, None, map, refl}
+use Rattle.std.proofs.Common.{◌+◌, ℕ, List, [], ◌∷◌, map, refl}
 use Rattle.std.specs.Prelude.{is_some}
 use Rattle.dsn_tree.specs.declared.tree.Tree.{Tree}
 use Rattle.dsn_shapes.specs.declared.refusal.What.TheVariants.{Nets}

@@ -1,5 +1,5 @@
 -- Nets: their pins, each of which one net alone may name, and their rules.
-use Rattle.std.specs.Prelude.{◌==◌, ◌&&◌, ◌+◌, ℕ, Bool, false, List, [], ◌∷◌, ◌++◌, Option, Some, None, is_some, codes}
+use Rattle.std.specs.Prelude.{◌==◌, ◌&&◌, ◌+◌, ℕ, Bool, false, List, [], ◌∷◌, ◌++◌, Option, is_some, codes}
 use Rattle.std.specs.Prelude.{map, fold, slice_get, if◌then◌else◌}
 use Rattle.std.specs.List.{flat_map, list_any, position_from}
 use Rattle.std.specs.Option.{option_map_or}

@@ -11,10 +11,10 @@ ghost use Rattle.dsn_network.specs.Whole.{rules_passed};
 ghost use Rattle.dsn_network.specs.Classes.{class_refusals, read_class_of, unknown_via, via_lists, via_refusals};
 ghost use Rattle.dsn_network.specs.Classes.{via_stack, vias_of};
 
-use crate::words::words_in;
+use crate::words::{rules_of, words_in};
 use dsn_shapes::table::NO_PADSTACK;
 use dsn_shapes::{
-    NameIndex, ReadClass, Refusal, Trees, at_of, note, place_index, read_rules, refused, text_of,
+    NameIndex, ReadClass, Refusal, Rules, Trees, at_of, note, place_index, refused, text_of,
 };
 use dsn_tree::Tree;
 use dsn_units::Scale;
@@ -98,16 +98,26 @@ fn read_class(
     ensures notes { IfOk result (λ v. v.notes ≡ capped (rule_notes (rules_in (tree.now ∷ [])))) }
 {
     let lists = via_lists(alloc, tree)?;
-    let rules = Trees::in_list(alloc, tree, b"rule")?;
-    let vias = vias_of(alloc, first, &lists, stacks)?;
-    let read = read_rules(alloc, first, &rules, scale)?;
-    Ok(Counted {
-        class: ReadClass {
-            vias,
-            rules: read.set,
-        },
-        notes: read.notes,
-    })
+    let vias = match vias_of(alloc, first, &lists, stacks) {
+        Ok(vias) => {
+            drop(lists);
+            vias
+        }
+        Err(error) => {
+            drop(lists);
+            return Err(error);
+        }
+    };
+    match rules_of(alloc, first, tree, scale) {
+        Ok(Rules { set, notes }) => Ok(Counted {
+            class: ReadClass { vias, rules: set },
+            notes,
+        }),
+        Err(error) => {
+            drop(vias);
+            Err(error)
+        }
+    }
 }
 
 /// Classes, and how many lists of their rules were passed over.

@@ -17,8 +17,9 @@ use crate::classes::ClassIndex;
 use crate::owners::{Owners, each_once, refuse_taken};
 use crate::pins::PinIndex;
 use crate::refs::{read_refs, refs_of};
+use crate::words::rules_of;
 use dsn_shapes::{
-    NameIndex, PinRef, ReadNet, Refusal, Trees, What, name_of, read_rules, refuse_past,
+    NameIndex, PinRef, ReadNet, Refusal, Rules, Trees, What, name_of, refuse_past,
     refuse_quoted_name,
 };
 use dsn_tree::Tree;
@@ -65,21 +66,31 @@ fn read_net(
         (λ v. v.net ≡ net_of scale.nm pins.now.lib.now pins.now.placing.now classes.now.lists.now tree.now) }
     ensures notes { IfOk result (λ v. v.notes ≡ capped (rule_notes (rules_in (tree.now ∷ [])))) }
 {
-    let rules = Trees::in_list(alloc, tree, b"rule")?;
     refuse_quoted_name(first, tree, 1);
     let named = read_pins(alloc, first, tree, pins)?;
-    let read = read_rules(alloc, first, &rules, scale)?;
-    let name = List::from_slice(alloc, name_of(tree, 1))?;
+    let name = match List::from_slice(alloc, name_of(tree, 1)) {
+        Ok(name) => name,
+        Err(error) => {
+            drop(named);
+            return Err(error);
+        }
+    };
     let class = classes.class_of(name_of(tree, 1));
-    Ok(Counted {
-        net: ReadNet {
-            name,
-            pins: named,
-            rules: read.set,
-            class,
-        },
-        notes: read.notes,
-    })
+    match rules_of(alloc, first, tree, scale) {
+        Ok(Rules { set, notes }) => Ok(Counted {
+            net: ReadNet {
+                name,
+                pins: named,
+                rules: set,
+                class,
+            },
+            notes,
+        }),
+        Err(error) => {
+            drop((named, name));
+            Err(error)
+        }
+    }
 }
 
 /// Nets, and how many lists of their rules were passed over.
@@ -153,6 +164,11 @@ pub(crate) fn read_nets(
     names.refuse_same(first, lists, 1);
     refuse_past(first, What::Nets, 0, lists);
     let read = read_each_net(alloc, first, lists.as_slice(), scale, pins, classes)?;
-    refuse_pins_taken(alloc, first, lists, read.nets.as_slice(), pins)?;
-    Ok(read)
+    match refuse_pins_taken(alloc, first, lists, read.nets.as_slice(), pins) {
+        Ok(()) => Ok(read),
+        Err(error) => {
+            drop(read);
+            Err(error)
+        }
+    }
 }

@@ -38,8 +38,20 @@ fn sections_of<'a>(alloc: Global, pcb: &'a Tree) -> Result<Sections<'a>, AllocEr
     ensures classes { IfOk result (λ s. s.classes ≡ class_lists pcb.now) }
 {
     let networks = Trees::in_list(alloc, pcb, b"network")?;
-    let nets = networks.headed(alloc, b"net")?;
-    let classes = networks.headed(alloc, b"class")?;
+    let nets = match networks.headed(alloc, b"net") {
+        Ok(nets) => nets,
+        Err(error) => {
+            drop(networks);
+            return Err(error);
+        }
+    };
+    let classes = match networks.headed(alloc, b"class") {
+        Ok(classes) => classes,
+        Err(error) => {
+            drop((networks, nets));
+            return Err(error);
+        }
+    };
     Ok(Sections {
         networks,
         nets,
@@ -110,8 +122,16 @@ fn nets_of(
     ensures notes { IfOk result (λ v. v.notes ≡ capped (rules_passed parts.now.nets)) }
 {
     let pins = PinIndex::of(alloc, lib, placing)?;
-    let index = ClassIndex::of(alloc, &parts.classes)?;
-    read_nets(alloc, first, &parts.nets, names, scale, &pins, &index)
+    let index = match ClassIndex::of(alloc, &parts.classes) {
+        Ok(index) => index,
+        Err(error) => {
+            drop(pins);
+            return Err(error);
+        }
+    };
+    let nets = read_nets(alloc, first, &parts.nets, names, scale, &pins, &index);
+    drop((pins, index));
+    nets
 }
 
 fn classes_of(
@@ -147,14 +167,37 @@ fn read_sections(
         (λ v. v ≡ value_of scale.nm lib.now placing.now parts.now.networks parts.now.nets parts.now.classes) }
 {
     let names = NameIndex::new(alloc, &parts.nets, 1)?;
-    let beside = pass_over_network(alloc, first, parts, &names)?;
-    let nets = nets_of(alloc, first, parts, &names, scale, lib, placing)?;
-    let classes = classes_of(alloc, first, &parts.classes, scale, lib)?;
-    let in_rules = nets.notes.saturating_add(classes.notes);
+    let beside = match pass_over_network(alloc, first, parts, &names) {
+        Ok(beside) => beside,
+        Err(error) => {
+            drop(names);
+            return Err(error);
+        }
+    };
+    let Nets { nets, notes } = match nets_of(alloc, first, parts, &names, scale, lib, placing) {
+        Ok(nets) => {
+            drop(names);
+            nets
+        }
+        Err(error) => {
+            drop(names);
+            return Err(error);
+        }
+    };
+    let Classes {
+        classes,
+        notes: in_classes,
+    } = match classes_of(alloc, first, &parts.classes, scale, lib) {
+        Ok(classes) => classes,
+        Err(error) => {
+            drop(nets);
+            return Err(error);
+        }
+    };
     Ok(Network {
-        nets: nets.nets,
-        classes: classes.classes,
-        notes: beside.saturating_add(in_rules),
+        nets,
+        classes,
+        notes: beside.saturating_add(notes.saturating_add(in_classes)),
     })
 }
 
@@ -170,7 +213,9 @@ fn note_network(
     ensures value { IfOk result (λ v. v ≡ network_of scale.nm lib.now placing.now pcb.now) }
 {
     let parts = sections_of(alloc, pcb)?;
-    read_sections(alloc, first, &parts, scale, lib, placing)
+    let network = read_sections(alloc, first, &parts, scale, lib, placing);
+    drop(parts);
+    network
 }
 
 /// The nets and classes of all `network` sections of a design together.

@@ -1,12 +1,15 @@
-//! Words of lists behind their heads.
+//! Words of lists behind their heads, and the rules in lists.
 //! Groups between words are skipped.
 
-ghost use Rattle.std.specs.Prelude.{◌≡◌, ◌++◌, IfOk, OnOk};
-ghost use Rattle.dsn_shapes.specs.Lists.{trees_of};
-ghost use Rattle.dsn_network.specs.Words.{words_from, words_in};
+ghost use Rattle.std.specs.Prelude.{◌≡◌, ◌∷◌, ◌++◌, [], IfOk, OnOk};
+ghost use Rattle.dsn_shapes.specs.Lists.{capped, trees_of};
+ghost use Rattle.dsn_shapes.specs.Refusals.{noted};
+ghost use Rattle.dsn_shapes.specs.Rules.{rule_notes, rule_refusals, rule_set};
+ghost use Rattle.dsn_network.specs.Words.{rules_in, words_from, words_in};
 
-use dsn_shapes::{Trees, is_word};
+use dsn_shapes::{Refusal, Rules, Trees, is_word, read_rules};
 use dsn_tree::{Tree, items};
+use dsn_units::Scale;
 use std::alloc::{AllocError, Global};
 
 fn push_words<'a>(found: &mut Trees<'a>, tree: &'a Tree, from: usize) -> Result<(), AllocError>
@@ -61,4 +64,28 @@ pub(crate) fn words_in<'a>(
     ensures { IfOk result (λ ts. ts ≡ words_in from lists.now) }
 {
     words_of_each(alloc, lists.as_slice(), from)
+}
+
+/// The rules that stand directly in a list.
+pub(crate) fn rules_of(
+    alloc: Global,
+    first: &mut Option<Refusal>,
+    tree: &Tree,
+    scale: Scale,
+) -> Result<Rules, AllocError>
+    ensures noted { OnOk result (first.new ≡ noted first.old (rule_refusals scale.nm (rules_in (tree.now ∷ [])))) }
+    ensures set { IfOk result (λ v. v.set ≡ rule_set scale.nm (rules_in (tree.now ∷ []))) }
+    ensures notes { IfOk result (λ v. v.notes ≡ capped (rule_notes (rules_in (tree.now ∷ [])))) }
+{
+    let rules = Trees::in_list(alloc, tree, b"rule")?;
+    match read_rules(alloc, first, &rules, scale) {
+        Ok(read) => {
+            drop(rules);
+            Ok(read)
+        }
+        Err(error) => {
+            drop(rules);
+            Err(error)
+        }
+    }
 }

@@ -29,7 +29,7 @@ use Rattle.dsn_shapes.specs.Angles.{word_angle, word_angle_refusal}
 use Rattle.dsn_shapes.proofs.Within.{IsNearIfRead, IsReduced, wanted_near, word_reduced}
 use Rattle.dsn_shapes.proofs.Fits.{back_nil, each_fit, each_nil, first_below, front_nil, name_printable, names_differ}
 use Rattle.dsn_shapes.proofs.Fits.{none_left, pairs_of_map, pairs_to_map, test_holds}
-use Rattle.dsn_shapes.specs.Limits.{most_of, past_limit}
+use Rattle.dsn_shapes.specs.Limits.{most_of}
 use Rattle.dsn_placement.specs.declared.place.Laid.{Laid}
 use Rattle.dsn_placement.specs.declared.seat.Stand.{Stand}
 use Rattle.dsn_placement.specs.Copper.{IsStandWithin, is_image_placed}

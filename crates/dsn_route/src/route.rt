@@ -134,11 +134,19 @@ fn route_design<T: Threads + Wait + Sync, D: Desk, R: Sink, G: Gate + Sync>(
         (D.state desk.new) (R.state report.old) (R.state report.new) result }
 {
     match Lattice::of(alloc, &design, knobs_of(command).grid) {
-        Ok(lat) => route_on(rt, alloc, &lat, design, command, desk, report, gate),
+        Ok(lat) => {
+            let outcome = route_on(rt, alloc, &lat, design, command, desk, report, gate);
+            drop(lat);
+            outcome
+        }
         Err(LatticeFault::TooManyNodes { count }) => {
+            drop(design);
             unrouted(ended(say_nodes(alloc, count, report), Status::Limit))
         }
-        Err(LatticeFault::Memory(_)) => unrouted(Status::Memory),
+        Err(LatticeFault::Memory(_)) => {
+            drop(design);
+            unrouted(Status::Memory)
+        }
     }
 }
 

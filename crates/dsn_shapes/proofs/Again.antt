@@ -8,7 +8,6 @@ use Rattle.std.specs.Str.{bytes_eq}
 use Rattle.std.proofs.lemmas.Slice.Eq.{bytes_eq-Decides}
 use Rattle.std.specs.Borrow.{Bor}
 use Rattle.std.specs.BTreeMap.{BTreeMap}
-use Rattle.std.proofs.lemmas.List.{map-append, length-map}
 use Rattle.dsn_shapes.specs.Names.{first_place}
 use Rattle.dsn_shapes.specs.Index.{place_by}
 use Rattle.dsn_shapes.specs.Lists.{heads_of}
@@ -71,18 +70,3 @@ next_names old new names more name n all step len more_is q =
     (all name) (all q) len
     ∙ sym (pushed_name name q names)
     ∙ sym (ap (first_place q) more_is)
-
--- an index with one more name
-pub next_index : (old new : List ℕ → Option ℕ) (names more : List (Bor (List ℕ))) (name : Bor (List ℕ)) (n : ℕ)
-    → ((q : List ℕ) → old q ≡ first_place q (heads_of names))
-    → ((q : List ℕ) → new q ≡ (if is_some (old name.now) then old q else cond (bytes_eq name.now q) (Some n) (old q)))
-    → n ≡ length names → more ≡ names ++ name ∷ [] → (q : List ℕ) → new q ≡ first_place q (heads_of more)
-next_index old new names more name n all step len more_is q =
-    let e : heads_of more ≡ heads_of names ++ name.now ∷ [] =
-    ap heads_of more_is ∙ map-append (λ (b : Bor (List ℕ)). b.now) names (name ∷ []) in
-    let l : n ≡ length (heads_of names) = len ∙ sym (length-map names (λ (b : Bor (List ℕ)). b.now)) in
-    step q
-    ∙ same_choice (old name.now) (first_place name.now (heads_of names)) (old q) (first_place q (heads_of names))
-    (bytes_eq name.now q) n (length (heads_of names)) (all name.now) (all q) l
-    ∙ sym (pushed_name name.now q (heads_of names))
-    ∙ sym (ap (first_place q) e)

@@ -204,7 +204,10 @@ fn is_closed(coords: &[Option<i64>]) -> bool
     ensures { result ≡ is_closed coords.now }
 {
     let n = coords.len();
-    n >= 4 && is_same(coords[0], coords[n - 2]) && is_same(coords[1], coords[n - 1])
+    if n < 4 {
+        return false;
+    }
+    is_same(coords[0], coords[n - 2]) && is_same(coords[1], coords[n - 1])
 }
 
 /// The coordinates of a loop, which loses a last vertex that is equal to its first.

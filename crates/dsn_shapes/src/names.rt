@@ -75,13 +75,10 @@ fn index_of<'a>(alloc: Global, trees: &[&'a Tree], i: usize) -> Result<NameIndex
     ensures { IfOk result (λ x. x ≡ names_at i (trees_of trees.now)) }
 {
     let mut names = Vec::new(alloc);
-    let mut places = BTreeMap::new(alloc);
     for tree in trees {
-        let name = name_of(tree, i);
-        keep_place(&mut places, name, names.len())?;
-        names.push(name)?;
+        names.push(name_of(tree, i))?;
     }
-    Ok(NameIndex { names, places })
+    NameIndex::of(alloc, names)
 }
 
 impl<'a> NameIndex<'a> {
@@ -96,8 +93,13 @@ impl<'a> NameIndex<'a> {
     pub fn of(alloc: Global, names: Vec<&'a [u8]>) -> Result<NameIndex<'a>, AllocError>
         ensures { IfOk result (λ x. x ≡ heads_of names.entry.items) }
     {
-        let places = places_of(alloc, names.as_slice())?;
-        Ok(NameIndex { names, places })
+        match places_of(alloc, names.as_slice()) {
+            Ok(places) => Ok(NameIndex { names, places }),
+            Err(error) => {
+                drop(names);
+                Err(error)
+            }
+        }
     }
 
     /// Where a name first stands among them.

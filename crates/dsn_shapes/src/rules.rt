@@ -277,8 +277,22 @@ pub fn read_rules(
     ensures notes { IfOk result (λ v. v.notes ≡ capped (rule_notes rules.now)) }
 {
     let widths = rules.lists(alloc, &[b"width".as_slice()])?;
-    let clearances = rules.lists(alloc, &[b"clearance".as_slice()])?;
+    let clearances = match rules.lists(alloc, &[b"clearance".as_slice()]) {
+        Ok(clearances) => clearances,
+        Err(error) => {
+            drop(widths);
+            return Err(error);
+        }
+    };
     let notes = pass_over_rules(first, rules, &clearances);
-    let set = read_set(alloc, first, &widths, &clearances, s)?;
-    Ok(Rules { set, notes })
+    match read_set(alloc, first, &widths, &clearances, s) {
+        Ok(set) => {
+            drop((widths, clearances));
+            Ok(Rules { set, notes })
+        }
+        Err(error) => {
+            drop((widths, clearances));
+            Err(error)
+        }
+    }
 }

@@ -11,7 +11,6 @@ use Rattle.dsn_tree.specs.declared.tree.Tree.{Tree}
 use Rattle.dsn_units.specs.declared.number.Decimal.{Decimal}
 use Rattle.dsn_units.specs.Length.{bottom, is_below_zero, top, whole_of}
 use Rattle.dsn_units.specs.Reading.{decimal_of}
-use Rattle.dsn_shapes.specs.declared.refusal.Refusal.{Refusal}
 use Rattle.dsn_shapes.specs.declared.refusal.What.TheVariants.{Layers, Items}
 use Rattle.dsn_shapes.specs.declared.parts.Layer.{Layer}
 use Rattle.dsn_shapes.specs.declared.parts.BanShape.{BanShape}

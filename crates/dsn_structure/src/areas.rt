@@ -71,9 +71,22 @@ pub(crate) fn read_areas(
     ensures notes { IfOk result (λ a. a.notes ≡ capped (sum_by ban_notes bans.now)) }
 {
     let all = all_areas(alloc, bounds, bans)?;
-    let bound_shapes = read_each(alloc, &Bounds { scale, layers }, first, bounds)?;
-    let ban_shapes = read_each(alloc, &Keepouts { scale, layers }, first, bans)?;
+    let bound_shapes = match read_each(alloc, &Bounds { scale, layers }, first, bounds) {
+        Ok(shapes) => shapes,
+        Err(error) => {
+            drop(all);
+            return Err(error);
+        }
+    };
+    let ban_shapes = match read_each(alloc, &Keepouts { scale, layers }, first, bans) {
+        Ok(shapes) => shapes,
+        Err(error) => {
+            drop((all, bound_shapes));
+            return Err(error);
+        }
+    };
     refuse_past(first, What::Items, 0, &all);
+    drop(all);
     Ok(Areas {
         bounds: bound_shapes,
         bans: ban_shapes,

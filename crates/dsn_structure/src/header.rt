@@ -13,6 +13,7 @@ ghost use Rattle.dsn_structure.specs.Sound.{IsHeadSound};
 ghost use Rattle.std.specs.Option.{option_map_or};
 ghost use Rattle.std.specs.Prelude.{codes, unwrap_or};
 
+use crate::vias::headed_in;
 use dsn_shapes::table::{NO_BOARD, NO_NUMBER, NO_SECTION, NO_UNIT};
 use dsn_shapes::{
     Head, ListKind, ReadFault, Refusal, Trees, at_of, name_of, note, nth_word, pass_over, place_of,
@@ -225,7 +226,7 @@ fn read_host(
     ensures value { IfOk result (λ n. n ≡ host_of (hosts head.now pcb.now)) }
 {
     let parsers = Trees::in_list(alloc, pcb, b"parser")?;
-    let hosts = parsers.headed(alloc, head)?;
+    let hosts = headed_in(alloc, parsers, head)?;
     first_host(alloc, first, &hosts)
 }
 
@@ -238,8 +239,9 @@ fn pass_over_header(
     ensures value { IfOk result (λ n. n ≡ header_notes pcb.now) }
 {
     let whole = Trees::one(alloc, pcb)?;
-    let parsers = Trees::in_list(alloc, pcb, b"parser")?;
     let beside = pass_over(first, &whole, ListKind::Pcb);
+    drop(whole);
+    let parsers = Trees::in_list(alloc, pcb, b"parser")?;
     let inside = pass_over(first, &parsers, ListKind::Parser);
     Ok(beside.saturating_add(inside))
 }

@@ -62,8 +62,15 @@ fn read_layers(
     ensures value { IfOk result (λ ls. ls ≡ layers_in lists.now) }
 {
     let index = NameIndex::new(alloc, lists, 1)?;
-    let layers = read_each(alloc, &LayerPart, first, lists)?;
+    let layers = match read_each(alloc, &LayerPart, first, lists) {
+        Ok(layers) => layers,
+        Err(error) => {
+            drop(index);
+            return Err(error);
+        }
+    };
     index.refuse_same(first, lists, 1);
+    drop(index);
     refuse_past(first, What::Layers, 0, lists);
     Ok(layers)
 }
@@ -132,9 +139,24 @@ pub(crate) fn read_frame(
     ensures notes { IfOk result (λ f. f.notes ≡ capped (frame_notes structs.now)) }
 {
     let lists = structs.headed(alloc, b"layer")?;
-    let ctrls = structs.headed(alloc, b"control")?;
+    let ctrls = match structs.headed(alloc, b"control") {
+        Ok(ctrls) => ctrls,
+        Err(error) => {
+            drop(lists);
+            return Err(error);
+        }
+    };
     refuse_missing(first, pcb, structs, &lists, bounds);
     let notes = pass_over_lists(first, structs, &lists, &ctrls);
-    let layers = read_layers(alloc, first, &lists)?;
-    Ok(Frame { layers, notes })
+    drop(ctrls);
+    match read_layers(alloc, first, &lists) {
+        Ok(layers) => {
+            drop(lists);
+            Ok(Frame { layers, notes })
+        }
+        Err(error) => {
+            drop(lists);
+            Err(error)
+        }
+    }
 }

@@ -7,10 +7,10 @@ ghost use Rattle.dsn_structure.specs.Layout.{boundaries, keepouts, refusals_of, 
 ghost use Rattle.dsn_structure.specs.Layout.{structure_refusals, structures, value_of};
 ghost use Rattle.dsn_structure.specs.Sound.{IsStructureSound};
 
-use crate::areas::{keepouts, read_areas};
-use crate::layers::read_frame;
-use crate::vias::read_switches;
-use dsn_shapes::{ReadFault, Refusal, Structure, Trees, read_rules};
+use crate::areas::{Areas, keepouts, read_areas};
+use crate::layers::{Frame, read_frame};
+use crate::vias::{Vias, read_switches};
+use dsn_shapes::{ReadFault, Refusal, Rules, Structure, Trees, read_rules};
 use dsn_tree::Tree;
 use dsn_units::Scale;
 use std::alloc::{AllocError, Global};
@@ -30,22 +30,51 @@ fn note_parts(
     ensures value { IfOk result
         (λ v. v ≡ value_of s.nm pcb.now lists.now.structs lists.now.bounds lists.now.bans lists.now.rules) }
 {
-    let frame = read_frame(alloc, first, pcb, &lists.structs, &lists.bounds)?;
-    let areas = read_areas(alloc, first, &lists.bounds, &lists.bans, s, &frame.layers)?;
-    let vias = read_switches(alloc, first, pcb, &lists.structs)?;
-    let rules = read_rules(alloc, first, &lists.rules, s)?;
-    let notes = frame
-        .notes
-        .saturating_add(areas.notes.saturating_add(rules.notes));
+    let Frame { layers, notes } = read_frame(alloc, first, pcb, &lists.structs, &lists.bounds)?;
+    let areas = match read_areas(alloc, first, &lists.bounds, &lists.bans, s, &layers) {
+        Ok(areas) => areas,
+        Err(error) => {
+            drop(layers);
+            return Err(error);
+        }
+    };
+    let vias = match read_switches(alloc, first, pcb, &lists.structs) {
+        Ok(vias) => vias,
+        Err(error) => {
+            drop((layers, areas));
+            return Err(error);
+        }
+    };
+    let rules = match read_rules(alloc, first, &lists.rules, s) {
+        Ok(rules) => rules,
+        Err(error) => {
+            drop((layers, areas, vias));
+            return Err(error);
+        }
+    };
+    let Areas {
+        bounds,
+        bans,
+        notes: in_areas,
+    } = areas;
+    let Vias {
+        names,
+        at_smd,
+        flip_last,
+    } = vias;
+    let Rules {
+        set,
+        notes: in_rules,
+    } = rules;
     Ok(Structure {
-        layers: frame.layers,
-        bounds: areas.bounds,
-        bans: areas.bans,
-        vias: vias.names,
-        rules: rules.set,
-        via_at_smd: vias.at_smd,
-        flip_last: vias.flip_last,
-        notes,
+        layers,
+        bounds,
+        bans,
+        vias: names,
+        rules: set,
+        via_at_smd: at_smd,
+        flip_last,
+        notes: notes.saturating_add(in_areas.saturating_add(in_rules)),
     })
 }
 
@@ -87,7 +116,9 @@ fn note_structure(
     ensures value { IfOk result (λ v. v ≡ structure_of s.nm pcb.now) }
 {
     let lists = lists_of(alloc, pcb)?;
-    note_parts(alloc, first, pcb, &lists, s)
+    let structure = note_parts(alloc, first, pcb, &lists, s);
+    drop(lists);
+    structure
 }
 
 /// The layers, boundaries, keepouts, vias and rules of all `structure` sections of a design together.
@@ -107,7 +138,10 @@ pub fn read_structure(alloc: Global, pcb: &Tree, s: Scale) -> Result<Structure, 
         Err(error) => return Err(ReadFault::Memory(error)),
     };
     match first {
-        Some(refusal) => Err(ReadFault::Refused(refusal)),
+        Some(refusal) => {
+            drop(structure);
+            Err(ReadFault::Refused(refusal))
+        }
         None => Ok(structure),
     }
 }

@@ -1,9 +1,9 @@
 //! The via padstacks of a structure, and its switches.
 //! Source: SPECCTRA reference, via, control and place_control descriptors.
 
-ghost use Rattle.std.specs.Prelude.{◌≡◌, ◌++◌, map, filter, IfOk, OnOk};
+ghost use Rattle.std.specs.Prelude.{◌≡◌, ◌∷◌, ◌++◌, [], codes, map, filter, IfOk, OnOk};
 ghost use Rattle.std.specs.List.{flat_map};
-ghost use Rattle.dsn_shapes.specs.Lists.{is_word, text_of, trees_of};
+ghost use Rattle.dsn_shapes.specs.Lists.{is_word, lists, text_of, trees_of};
 ghost use Rattle.dsn_shapes.specs.Names.{names_at};
 ghost use Rattle.dsn_shapes.specs.Refusals.{noted};
 ghost use Rattle.dsn_structure.specs.Layout.{any_says, controls, flip_last, names_in, padstacks, via_at_smd};
@@ -14,6 +14,19 @@ use dsn_shapes::{NameIndex, Refusal, Trees, at_of, is_word, note, refused, says,
 use dsn_tree::{Tree, items};
 use geo_kernel::{List, Name};
 use std::alloc::{AllocError, Global};
+
+/// The lists with this head that stand directly in these lists.
+pub(crate) fn headed_in<'a>(
+    alloc: Global,
+    trees: Trees<'a>,
+    head: &[u8],
+) -> Result<Trees<'a>, AllocError>
+    ensures { IfOk result (λ ts. ts ≡ lists (head.now ∷ []) trees.entry) }
+{
+    let found = trees.headed(alloc, head);
+    drop(trees);
+    found
+}
 
 // Appends the words behind the head of a list.
 fn push_names<'a>(found: &mut Trees<'a>, tree: &'a Tree) -> Result<(), AllocError>
@@ -85,21 +98,29 @@ fn known_vias(
     copy_vias(alloc, first, words.as_slice(), known)
 }
 
+// The index of the names of the library's padstacks.
+fn padstack_names<'a>(alloc: Global, pcb: &'a Tree) -> Result<NameIndex<'a>, AllocError>
+    ensures { IfOk result (λ x. x ≡ names_at 1 (padstacks pcb.now)) }
+{
+    let libraries = Trees::in_list(alloc, pcb, b"library")?;
+    let stacks = headed_in(alloc, libraries, b"padstack")?;
+    NameIndex::new(alloc, &stacks, 1)
+}
+
 // The padstacks of the via lists, each of which the library has.
 fn read_vias(
     alloc: Global,
     first: &mut Option<Refusal>,
     pcb: &Tree,
-    lists: &Trees,
+    structs: &Trees,
 ) -> Result<List<Name>, AllocError>
     ensures noted { OnOk result
-        (first.new ≡ noted first.old (via_refusals (names_at 1 (padstacks pcb.now)) lists.now)) }
-    ensures value { IfOk result (λ ns. ns ≡ via_names lists.now) }
+        (first.new ≡ noted first.old (via_refusals (names_at 1 (padstacks pcb.now)) (via_lists structs.now))) }
+    ensures value { IfOk result (λ ns. ns ≡ via_names (via_lists structs.now)) }
 {
-    let libraries = Trees::in_list(alloc, pcb, b"library")?;
-    let stacks = libraries.headed(alloc, b"padstack")?;
-    let known = NameIndex::new(alloc, &stacks, 1)?;
-    known_vias(alloc, first, lists, &known)
+    let known = padstack_names(alloc, pcb)?;
+    let lists = structs.headed(alloc, b"via")?;
+    known_vias(alloc, first, &lists, &known)
 }
 
 #[tactic(auto, unfolding(crate::specs::Layout::any_says))]
@@ -116,11 +137,22 @@ fn any_says(trees: &[&Tree], keyword: &[u8]) -> bool
 
 // `(control (via_at_smd on))`.
 #[tactic(auto, unfolding(crate::specs::Layout::via_at_smd))]
-fn via_at_smd(alloc: Global, ctrls: &Trees) -> Result<bool, AllocError>
-    ensures { IfOk result (λ b. b ≡ via_at_smd ctrls.now) }
+fn via_at_smd(alloc: Global, structs: &Trees) -> Result<bool, AllocError>
+    ensures { IfOk result (λ b. b ≡ via_at_smd (controls structs.now)) }
 {
-    let switches = ctrls.headed(alloc, b"via_at_smd")?;
+    let ctrls = structs.headed(alloc, b"control")?;
+    let switches = headed_in(alloc, ctrls, b"via_at_smd")?;
     Ok(any_says(switches.as_slice(), b"on"))
+}
+
+fn place_controls<'a>(alloc: Global, pcb: &'a Tree) -> Result<Trees<'a>, AllocError>
+    ensures { IfOk result
+        (λ ts. ts ≡ lists (codes "place_control" ∷ [])
+        (lists (codes "structure" ∷ codes "placement" ∷ []) (pcb.now ∷ []))) }
+{
+    let heads: [&[u8]; 2] = [b"structure", b"placement"];
+    let sections = Trees::one(alloc, pcb)?.lists(alloc, &heads)?;
+    headed_in(alloc, sections, b"place_control")
 }
 
 // `(place_control (flip_style rotate_first))` in the structure or the placement.
@@ -128,10 +160,8 @@ fn via_at_smd(alloc: Global, ctrls: &Trees) -> Result<bool, AllocError>
 fn flip_last(alloc: Global, pcb: &Tree) -> Result<bool, AllocError>
     ensures { IfOk result (λ b. b ≡ flip_last pcb.now) }
 {
-    let heads: [&[u8]; 2] = [b"structure", b"placement"];
-    let sections = Trees::one(alloc, pcb)?.lists(alloc, &heads)?;
-    let place_controls = sections.headed(alloc, b"place_control")?;
-    let styles = place_controls.headed(alloc, b"flip_style")?;
+    let place_controls = place_controls(alloc, pcb)?;
+    let styles = headed_in(alloc, place_controls, b"flip_style")?;
     Ok(any_says(styles.as_slice(), b"rotate_first"))
 }
 
@@ -156,11 +186,9 @@ pub(crate) fn read_switches(
     ensures at_smd { IfOk result (λ v. v.at_smd ≡ via_at_smd (controls structs.now)) }
     ensures flip_last { IfOk result (λ v. v.flip_last ≡ flip_last pcb.now) }
 {
-    let lists = structs.headed(alloc, b"via")?;
-    let ctrls = structs.headed(alloc, b"control")?;
-    let names = read_vias(alloc, first, pcb, &lists)?;
-    let at_smd = via_at_smd(alloc, &ctrls)?;
+    let at_smd = via_at_smd(alloc, structs)?;
     let flip_last = flip_last(alloc, pcb)?;
+    let names = read_vias(alloc, first, pcb, structs)?;
     Ok(Vias {
         names,
         at_smd,

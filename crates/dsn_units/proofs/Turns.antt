@@ -1,16 +1,17 @@
 -- Terms, sums and products of a turn.
 use Rattle.std.proofs.Common.{◌≡◌, ◌<◌, ◌≤◌, ◌+◌, ◌*◌, ◌/◌, ◌^◌, ◌∙◌, ap, ap₂, sym, subst, ℕ, ℤ, Bool, true, false, suc}
 use Rattle.std.proofs.Common.{pos, neg_ℤ, ◌+ℤ◌, ◌-ℤ◌, ◌*ℤ◌, ◌≤ℤ◌, ◌<ℤ◌, arith, refl, add-one, w64, to_z, of_z}
-use Rattle.std.proofs.Common.{FitsSigned}
+use Rattle.std.proofs.Common.{FitsSigned, mul-le-mul}
 use Rattle.std.specs.Prelude.{unsigned_abs, int_lt}
 use Rattle.std.specs.Int.{w128}
-use Rattle.std.proofs.lemmas.Int.{ints, to_z-of_z, fits_signed_from_abs}
+use Rattle.std.proofs.lemmas.Int.{ints, to_z-of_z, fits_signed_from_abs, unsigned_abs-mul}
 use Rattle.std.proofs.lemmas.Bool.Decides.{nat_tests}
 use Rattle.geo_kernel.specs.declared.point.Point.{Point}
 use Rattle.dsn_units.specs.declared.angle.Angle.{Angle}
 use Rattle.dsn_units.specs.Length.{nearest}
 use Rattle.dsn_units.specs.Turn.{one, times, term, with_term, alternating, cosine, signed_sine, quarter, rest, arc}
 use Rattle.dsn_units.specs.Turn.{slanted, quarters, turned}
+use Rattle.geo_kernel.proofs.Bounds.{widened, wide_fits, wide_value}
 use Rattle.dsn_units.proofs.Floors.{floor_is}
 
 pub first_term : (first t s : ℕ) → term first t s 0 ≡ first
@@ -67,6 +68,14 @@ pub difference_small : (a b : ℤ) → unsigned_abs a ≤ 2 ^ 74 → unsigned_ab
     → unsigned_abs (seen_wide (seen_wide a -ℤ seen_wide b)) ≤ 2 ^ 75
 difference_small a b h k = omega (arith, ints)
 
+pub sum_near : (a b : ℤ) → unsigned_abs a ≤ 2 ^ 74 → unsigned_abs b ≤ 2 ^ 74
+    → unsigned_abs (seen_wide (seen_wide a +ℤ seen_wide b)) ≤ 2 ^ 75
+sum_near a b h k = omega (arith, ints)
+
+pub difference_fits : (a b : ℤ) → unsigned_abs a ≤ 2 ^ 74 → unsigned_abs b ≤ 2 ^ 74
+    → FitsSigned w128 (seen_wide a -ℤ seen_wide b)
+difference_fits a b h k = fits_signed_from_abs w128 (seen_wide a -ℤ seen_wide b) (omega (arith, ints))
+
 pub sum_fits : (a b : ℤ) → unsigned_abs a ≤ 2 ^ 74 → unsigned_abs b ≤ 2 ^ 74
     → FitsSigned w128 (seen_wide a +ℤ seen_wide b)
 sum_fits a b h k = fits_signed_from_abs w128 (seen_wide a +ℤ seen_wide b) (omega (arith, ints))
@@ -74,6 +83,27 @@ sum_fits a b h k = fits_signed_from_abs w128 (seen_wide a +ℤ seen_wide b) (ome
 pub product_is : (x c r : ℤ) → unsigned_abs x ≤ 2 ^ 31 → unsigned_abs c ≤ 8000000000000 → r ≡ seen x *ℤ seen c
     → r ≡ x *ℤ c
 product_is x c r h k e = e ∙ ap₂ (λ a b. a *ℤ b) (unseen x (omega arith)) (unseen c (omega arith))
+
+-- the product of a coordinate and a cosine or sine, as the code computes it
+module _ (a b : ℤ) (h : unsigned_abs a ≤ 2 ^ 31) (k : unsigned_abs b ≤ 8000000000000) where
+  far : unsigned_abs a ≤ 2 ^ 61
+  far = omega arith
+
+  long : unsigned_abs b ≤ 2 ^ 61
+  long = omega arith
+
+  pub product_fits : FitsSigned w128 (seen_wide (seen a) *ℤ seen_wide (seen b))
+  product_fits = rw (widened a a far refl, widened b b long refl) (wide_fits a b far long)
+
+  pub product_value : seen_wide (seen_wide (seen a) *ℤ seen_wide (seen b)) ≡ a *ℤ b
+  product_value = wide_value a b far long
+
+  pub product_within : (r : ℤ) → r ≡ a *ℤ b → unsigned_abs r ≤ 2 ^ 74
+  product_within r e =
+      let f = ap unsigned_abs e in
+      let g = unsigned_abs-mul a b in
+      let m = mul-le-mul h k in
+      omega arith
 
 -- no arc turns nothing
 no_cosine : cosine 0 ≡ pos one

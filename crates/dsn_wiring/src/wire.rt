@@ -1,9 +1,10 @@
 //! Wires: the copper of a wire is its first path, on one layer.
 //! Source: SPECCTRA reference, wire and path descriptors; every other form in a wire is refused.
 
-ghost use Rattle.std.specs.Prelude.{◌≡◌, drop, IfOk, OnOk};
+ghost use Rattle.std.specs.Prelude.{◌≡◌, ◌∷◌, ◌++◌, [], drop, slice_get, IfOk, OnOk};
 ghost use Rattle.std.specs.List.{flat_map};
-ghost use Rattle.dsn_shapes.specs.Lists.{trees_of};
+ghost use Rattle.std.specs.Option.{option_map_or};
+ghost use Rattle.dsn_shapes.specs.Lists.{heads_of, lists, trees_of};
 ghost use Rattle.dsn_shapes.specs.Refusals.{noted};
 ghost use Rattle.dsn_wiring.specs.Wires.{chain_of, further_forms, no_form, no_wire, path_metal, path_refusals};
 ghost use Rattle.dsn_wiring.specs.Wires.{paths_in, refused_form, wire_metal, wire_refusals};
@@ -47,8 +48,8 @@ fn note_path(
         spine,
         width,
     } = note_shape(alloc, first, path, s, layers)?;
-    let layers = layers_below(alloc, MOST_LAYERS as u8, layers)?;
     let chain = chain_of(alloc, spine);
+    let layers = layers_below(alloc, MOST_LAYERS as u8, layers)?;
     if layers.len() > 1 || chain.len() < 2 {
         note(first, refused(BAD_FORM, at_of(path)));
     }
@@ -76,6 +77,14 @@ fn refuse_behind(first: &mut Option<Refusal>, paths: &[&Tree])
     }
 }
 
+// The lists with one of these heads that stand directly in a wire.
+fn forms_of<'a>(alloc: Global, wire: &'a Tree, heads: &[&[u8]]) -> Result<Trees<'a>, AllocError>
+    ensures { IfOk result (λ ts. ts ≡ lists (heads_of heads.now) (wire.now ∷ [])) }
+{
+    let whole = Trees::one(alloc, wire)?;
+    whole.lists(alloc, heads)
+}
+
 // Refuses all forms of a wire but the first of its paths.
 #[tactic(auto, unfolding(crate::specs::Wires::further_forms))]
 fn refuse_further(
@@ -88,7 +97,7 @@ fn refuse_further(
     ensures { OnOk result (first.new ≡ noted first.old (further_forms wire.now)) }
 {
     let heads: [&[u8]; 3] = [b"rect", b"circle", b"polygon"];
-    let others = Trees::one(alloc, wire)?.lists(alloc, &heads)?;
+    let others = forms_of(alloc, wire, &heads)?;
     refuse_behind(first, paths);
     refuse_forms(first, others.as_slice());
     Ok(())
@@ -99,7 +108,7 @@ fn refuse_further(
 fn refuse_empty(alloc: Global, first: &mut Option<Refusal>, wire: &Tree) -> Result<(), AllocError>
     ensures { OnOk result (first.new ≡ noted first.old (no_form wire.now)) }
 {
-    let forms = Trees::one(alloc, wire)?.lists(alloc, form_heads())?;
+    let forms = forms_of(alloc, wire, form_heads())?;
     if forms.len() == 0 {
         note(first, refused(BAD_FORM, at_of(wire)));
     }
@@ -118,8 +127,36 @@ pub(crate) fn note_wire(
     ensures noted { OnOk result (first.new ≡ noted first.old (wire_refusals s.nm layers.now wire.now)) }
     ensures value { IfOk result (λ m. m ≡ wire_metal s.nm layers.now wire.now) }
 {
-    let paths = Trees::in_list(alloc, wire, b"path")?;
     refuse_empty(alloc, first, wire)?;
+    let paths = Trees::in_list(alloc, wire, b"path")?;
+    match note_paths(alloc, first, &paths, wire, s, layers) {
+        Ok(metal) => {
+            drop(paths);
+            Ok(metal)
+        }
+        Err(error) => {
+            drop(paths);
+            Err(error)
+        }
+    }
+}
+
+// The copper of a wire of these paths.
+fn note_paths(
+    alloc: Global,
+    first: &mut Option<Refusal>,
+    paths: &Trees,
+    wire: &Tree,
+    s: Scale,
+    layers: &List<Layer>,
+) -> Result<Metal, AllocError>
+    requires { paths.now ≡ paths_in wire.now }
+    ensures noted { OnOk result
+        (first.new ≡ noted first.old (further_forms wire.now
+        ++ option_map_or (path_refusals s.nm layers.now) (slice_get paths.now 0) [])) }
+    ensures value { IfOk result
+        (λ m. m ≡ option_map_or (path_metal s.nm layers.now) (slice_get paths.now 0) no_wire) }
+{
     refuse_further(alloc, first, paths.as_slice(), wire)?;
     match paths.get(0) {
         Some(path) => note_path(alloc, first, path, s, layers),

@@ -145,11 +145,26 @@ fn note_wiring(
     ensures value { IfOk result (λ v. v ≡ wiring_of s.nm st.now lib.now placing.now net.now pcb.now) }
 {
     let sections = Trees::in_list(alloc, pcb, b"wiring")?;
-    let lists = sections.lists(alloc, &[b"wire".as_slice(), b"via"])?;
+    let lists = match sections.lists(alloc, &[b"wire".as_slice(), b"via"]) {
+        Ok(lists) => lists,
+        Err(error) => {
+            drop(sections);
+            return Err(error);
+        }
+    };
     let notes = pass_over_lists(first, &sections, &lists);
+    drop(sections);
     refuse_many(first, st, lib, placing, &lists);
-    let wires = read_wires(alloc, first, &lists, s, st, lib, net)?;
-    Ok(Wiring { wires, notes })
+    match read_wires(alloc, first, &lists, s, st, lib, net) {
+        Ok(wires) => {
+            drop(lists);
+            Ok(Wiring { wires, notes })
+        }
+        Err(error) => {
+            drop(lists);
+            Err(error)
+        }
+    }
 }
 
 /// The wires and vias of all `wiring` sections of a design together, in the text's order.

@@ -96,7 +96,9 @@ fn run<R: Files + Print + Eprint + Threads + Wait + AllocGlobal + Sync>(
 ) -> Status {
     let mut desk = HostDesk::new(rt);
     let mut sink = KeptLine::new(HostSink::new(rt));
-    let status = dsn_route(rt, rt.alloc(), words, &mut desk, &mut sink, &NoGate).status;
+    let outcome = dsn_route(rt, rt.alloc(), words, &mut desk, &mut sink, &NoGate);
+    let status = outcome.status;
+    drop(outcome);
     if let Some(fault) = fault_of(status, sink.line()) {
         tell(rt, words, fault);
     }

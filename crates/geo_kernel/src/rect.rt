@@ -66,7 +66,7 @@ fn box_at(p: Point) -> Rect4
     }
 }
 
-/// The least box of two points.
+/// A box that holds two points.
 pub(crate) fn span(a: Point, b: Point) -> Rect4
     ensures first { IsIn result a }
     ensures second { IsIn result b }

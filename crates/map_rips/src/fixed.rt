@@ -30,8 +30,17 @@ fn fixed_copper(alloc: Global, d: &Design) -> Result<PlainCopper, AllocError>
 {
     let mut copper = PlainCopper::new(alloc);
     for item in d.fixed.as_slice() {
-        let copy = copy_item(alloc, item)?;
-        add_item(&mut copper, copy)?;
+        let copy = match copy_item(alloc, item) {
+            Ok(copy) => copy,
+            Err(error) => {
+                drop(copper);
+                return Err(error);
+            }
+        };
+        if let Err(error) = add_item(&mut copper, copy) {
+            drop(copper);
+            return Err(error);
+        }
     }
     Ok(copper)
 }

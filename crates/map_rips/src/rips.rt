@@ -218,12 +218,13 @@ pub fn rips_of<'a, C: Copper>(
     let Some(fixed) = fixed.map_of(d, net) else {
         return Ok(None);
     };
-    match maps.net_moves(alloc, lat, d, c, net, via_cost)? {
-        Some(moves) => Ok(Some(MapRips {
+    match maps.net_moves(alloc, lat, d, c, net, via_cost) {
+        Ok(Some(moves)) => Ok(Some(MapRips {
             moves,
             fixed,
             penalty,
         })),
-        None => Ok(None),
+        Ok(None) => Ok(None),
+        Err(error) => Err(error),
     }
 }

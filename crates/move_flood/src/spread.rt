@@ -3,7 +3,7 @@
 
 ghost use Rattle.std.specs.Prelude.{◌≡◌, ◌<◌, ◌+◌, ℕ, length, All, Contains, IfOk, OnOk};
 ghost use Rattle.route_lattice.specs.Walks.{IsSound, IsReach};
-ghost use Rattle.move_flood.specs.Marks.{Gains, IsLedTo, IsNext, fill_of};
+ghost use Rattle.move_flood.specs.Marks.{Gains, IsLedTo, IsNext, IsBlank, IsFlood, fill_of};
 
 use crate::front::Front;
 use geo_kernel::List;
@@ -57,6 +57,22 @@ fn follow<M: Moves>(m: &M, front: &mut Front, node: u32) -> Result<(), AllocErro
     Ok(())
 }
 
+/// Marks all nodes that open moves reach from the starts.
+fn mark_reached<M: Moves>(m: &M, front: &mut Front, starts: &List<u32>) -> Result<(), AllocError>
+    requires ready { M.ready m.now }
+    requires sound { IsSound (M.graph m.now) }
+    requires starts { All (λ s. s < (M.graph m.now).count) starts.now }
+    requires blank { IsBlank (M.graph m.now).count (fill_of front.old) }
+    ensures flood { OnOk result (IsFlood (M.graph m.now) starts.now (fill_of front.new)) }
+    ensures done { OnOk result (length front.new.waiting.items ≡ 0) }
+{
+    seed(front, starts.as_slice())?;
+    'flood: while let Some(node) = front.waiting.pop() {
+        follow(m, front, node)?;
+    }
+    Ok(())
+}
+
 /// All nodes that open moves reach from the starts.
 pub fn flood<M: Moves>(alloc: Global, m: &M, starts: &List<u32>) -> Result<Reach, AllocError>
     requires ready { M.ready m.now }
@@ -66,10 +82,7 @@ pub fn flood<M: Moves>(alloc: Global, m: &M, starts: &List<u32>) -> Result<Reach
 {
     let count = m.count();
     let mut front = Front::new(alloc, count)?;
-    seed(&mut front, starts.as_slice())?;
-    'flood: while let Some(node) = front.waiting.pop() {
-        follow(m, &mut front, node)?;
-    }
+    mark_reached(m, &mut front, starts)?;
     let nodes = front.marked(alloc, count)?;
     Ok(Reach { nodes })
 }

@@ -1,7 +1,7 @@
 //! The copper of a net itself, as windows of the lattice: the moves of all nodes out of them are clear of it.
 //! There a map needs no look at the copper: what it counts is foreign.
 
-ghost use Rattle.std.specs.Prelude.{◌≡◌, ◌<◌, ◌≤◌, ◌^◌, IfOk, OnOk, length};
+ghost use Rattle.std.specs.Prelude.{◌≡◌, ◌<◌, ◌≤◌, ◌^◌, ◌↔◌, IfOk, IsTrue, OnOk, length};
 ghost use Rattle.std.specs.Bool.{OnTrue};
 ghost use Rattle.pcb_model.specs.Bounds.{IsItemFit, HasRulesWithin};
 ghost use Rattle.pcb_model.specs.Sound.{IsSound};
@@ -49,8 +49,7 @@ fn add_window(windows: &mut Vec<Window>, w: Window) -> Result<(), AllocError>
 }
 
 // Whether what the map counts of the item shuts moves of the net: the item is of another net, and no via touches it
-// that
-// keeps its clearance.
+// that keeps its clearance.
 fn is_foreign(d: &Design, g: u32, net: u32, item: &Item) -> bool
     ensures { OnTrue result (IsForeign d.now g net item.now) }
 {
@@ -143,7 +142,7 @@ impl OwnCopper {
     /// Whether the node is out of all windows.
     pub fn is_off(&self, lat: &Lattice, node: u32) -> bool
         requires { node < node_count lat.now }
-        ensures { OnTrue result (IsOutOfAll lat.now self.now node) }
+        ensures { IsTrue result ↔ IsOutOfAll lat.now self.now node }
     {
         let width = lat.xs().len();
         let height = lat.ys().len();

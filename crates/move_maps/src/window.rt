@@ -2,7 +2,6 @@
 
 ghost use Rattle.std.specs.Prelude.{◌≡◌, ◌≤◌, ◌<◌, ◌↔◌, ◌≤ℤ◌, ◌<ℤ◌, ◌-ℤ◌, ◌+ℤ◌, ◌^◌, ℕ, pos, length, slice_index_or};
 ghost use Rattle.std.specs.Prelude.{All, IsTrue};
-ghost use Rattle.std.specs.Bool.{OnTrue};
 ghost use Rattle.std.specs.List.Sorted.{IsStrictlySortedBy};
 ghost use Rattle.std.specs.Ordering.{int_cmp};
 ghost use Rattle.pcb_model.specs.Near.{IsBoxWithin};
@@ -97,7 +96,7 @@ fn is_place_out(w: &Window, column: usize, row: usize) -> bool
 
 /// Whether a column and a row are out of all the windows.
 pub(crate) fn is_out_of_all(windows: &[Window], column: usize, row: usize) -> bool
-    ensures { OnTrue result (All (λ w. IsPlaceOut w column row) windows.now) }
+    ensures { IsTrue result ↔ All (λ w. IsPlaceOut w column row) windows.now }
 {
     for w in windows {
         if !is_place_out(w, column, row) {

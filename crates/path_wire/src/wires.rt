@@ -1,7 +1,8 @@
 //! Wires and vias of a walk: one wire for each stretch of steps, one via for each via move.
 //! A wire's vertices are the ends of its stretch and the nodes at which the direction changes.
 
-ghost use Rattle.std.specs.Prelude.{◌≡◌, ◌+◌, ◌<◌, ◌≤◌, ◌∷◌, [], map, All, IfOk, length, true, slice_index, drop};
+ghost use Rattle.std.specs.Prelude.{◌≡◌, ◌+◌, ◌<◌, ◌≤◌, ◌∷◌, ◌++◌, [], map, All, IfOk, OnOk, length, true};
+ghost use Rattle.std.specs.Prelude.{slice_index, drop};
 ghost use Rattle.pcb_model.specs.Rules.{width_for};
 ghost use Rattle.route_lattice.specs.Mesh.{node_count, point_of, layer_of};
 ghost use Rattle.path_wire.specs.Wires.{IsNetWalk, goes_on as goes_on_of, corners as corners_of, copper_from};
@@ -131,6 +132,23 @@ fn lay(
     ensures { IfOk result (λ metals. metals ≡ copper_from lat.now width true nodes.now moves.now) }
 {
     let mut metals = List::new(alloc);
+    push_all(&mut metals, alloc, lat, width, nodes, moves)?;
+    Ok(metals)
+}
+
+/// Appends the wires and vias of a walk.
+fn push_all(
+    metals: &mut List<Metal>,
+    alloc: Global,
+    lat: &Lattice,
+    width: u64,
+    nodes: &[u32],
+    moves: &[Move],
+) -> Result<(), AllocError>
+    requires there { All (λ v. v < node_count lat.now) nodes.now }
+    requires lengths { length nodes.now ≡ length moves.now + 1 }
+    ensures { OnOk result (metals.new ≡ metals.old ++ copper_from lat.now width true nodes.now moves.now) }
+{
     let mut fresh = true;
     for i in 0..moves.len() {
         match moves[i] {
@@ -152,5 +170,5 @@ fn lay(
             }
         }
     }
-    Ok(metals)
+    Ok(())
 }

@@ -1,7 +1,5 @@
 -- What a board keeps beside its value.
-use Rattle.std.specs.Prelude.{◌≡◌, ℕ, ◌≤◌, List, length, take}
-use Rattle.pcb_model.specs.declared.item.Item.{Item}
-use Rattle.pcb_board.specs.declared.answer.Entry.{Entry}
+use Rattle.std.specs.Prelude.{◌≡◌, ◌≤◌, length, take}
 use Rattle.pcb_board.specs.declared.board.Board.TheInside.{Inside}
 use Rattle.pcb_board.specs.Boards.{BoardOf, worker_entries}
 use Rattle.pcb_board.specs.Renewing.{AreIndexed}

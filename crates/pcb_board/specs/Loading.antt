@@ -1,5 +1,5 @@
 -- What loading a design's items keeps: what private functions give.
-use Rattle.std.specs.Prelude.{◌≡◌, ℕ, ◌⊎◌, List, [], ◌∷◌, ◌++◌}
+use Rattle.std.specs.Prelude.{◌≡◌, ℕ, ◌⊎◌, List, [], ◌∷◌, ◌++◌, take}
 use Rattle.pcb_model.specs.declared.item.Item.{Item}
 use Rattle.pcb_model.specs.declared.design.FreeWire.{FreeWire}
 use Rattle.pcb_model.specs.declared.design.Design.{Design}
@@ -19,6 +19,14 @@ pub record IsLoaded (d : Design) (items : List Item) : Type 0 where
 pub record IsKept (d : Design) (l : Loaded) : Type 0 where
   pub held : l.tiles.items ≡ l.given.items
   pub loaded : IsLoaded d l.given.items
+  pub area : IsArea l.tiles.area
+  pub reach : HasClearancesWithin l.tiles.reach d
+
+-- the first n fixed items are loaded, and nothing else
+pub record AreFixed (d : Design) (n : ℕ) (l : Loaded) : Type 0 where
+  pub tiles : l.tiles.items ≡ take n d.fixed
+  pub given : l.given.items ≡ take n d.fixed
+  pub dropped : l.dropped ≡ []
   pub area : IsArea l.tiles.area
   pub reach : HasClearancesWithin l.tiles.reach d
 

@@ -1,5 +1,4 @@
 -- What a snapshot keeps beside its value.
-use Rattle.std.specs.Prelude.{ℕ, ◌≤◌, List}
 use Rattle.pcb_model.specs.declared.design.Design.{Design}
 use Rattle.pcb_model.specs.Bounds.{HasClearancesWithin}
 use Rattle.pcb_tiles.specs.Tiling.{IsArea}

@@ -17,7 +17,7 @@ ghost use Rattle.pcb_board.specs.Loading.{AreLoaded};
 
 use crate::answer::{Answer, BackFault, Entry, OfferBack, RunBack};
 use crate::copy::{copy_history, copy_items};
-use crate::load::{Loaded, load_fixed, load_free};
+use crate::load::{Loaded, load};
 use crate::marks::{mark_entry, mark_range, marked_tiles, renew_turned};
 use crate::renew::{admit, count_worker, renew};
 use crate::snap::Snap;
@@ -78,8 +78,7 @@ fn beginning(alloc: Global, d: &Design) -> Result<(Loaded, Vec<u64>), AllocError
     ensures size { IfOk result (λ r. length r.1.items ≡ length r.0.given.items) }
     ensures zeros { IfOk result (λ r. (x k : ℕ) → x < length r.1.items → slice_index_or r.1.items x k ≡ 0) }
 {
-    let mut loaded = load_fixed(alloc, d)?;
-    load_free(alloc, d, &mut loaded)?;
+    let loaded = load(alloc, d)?;
     let changed = unchanged(alloc, loaded.given.len())?;
     Ok((loaded, changed))
 }
@@ -268,7 +267,7 @@ impl Board {
         let after = self.given.len() + new.len();
         let number = self.history.as_slice().len() as u64 + 1;
         let workers = count_worker(self.workers, offer.worker);
-        let (gone, tiles) = admit(
+        let (gone, tiles) = match admit(
             self.alloc,
             &mut self.given,
             &mut self.changed,
@@ -276,7 +275,13 @@ impl Board {
             &self.tiles,
             offer,
             new.as_slice(),
-        )?;
+        ) {
+            Ok(entered) => entered,
+            Err(back) => {
+                drop(new);
+                return Err(back);
+            }
+        };
         let mut new = new.into_vec();
         renew(&mut self.changed, gone.as_slice(), number, after);
         let _ = self.given.append(&mut new);
@@ -306,16 +311,28 @@ impl Board {
         ensures ok { OnOk result (self.new ≡ taken_back self.old to) }
         ensures err { OnErr result (self.new ≡ self.old) }
     {
-        let number = self.history.as_slice().len() as u64 + 1;
         let marks = self.marks_after(to as usize)?;
-        let tiles = marked_tiles(
-            self.alloc,
-            self.design.get(),
-            self.given.as_slice(),
-            marks.as_slice(),
-        )?;
-        self.history.push(Entry::Back { to })?;
-        renew_turned(&mut self.changed, &self.tiles, marks.as_slice(), number);
+        self.turn_to(to, marks.as_slice())
+    }
+
+    // Makes the items those that stood after the first `to` entries, which are marked.
+    fn turn_to(&mut self, to: u64, marks: &[bool]) -> Result<(), AllocError>
+        requires to { to ≤ length self.old.history }
+        requires long { length marks.now ≡ length (given self.old) }
+        requires marks { AreMarks marks.now (replayed self.old to) }
+        ensures ok { OnOk result (self.new ≡ taken_back self.old to) }
+        ensures err { OnErr result (self.new ≡ self.old) }
+    {
+        let number = self.history.as_slice().len() as u64 + 1;
+        let tiles = marked_tiles(self.alloc, self.design.get(), self.given.as_slice(), marks)?;
+        match self.history.push(Entry::Back { to }) {
+            Ok(()) => {}
+            Err(failed) => {
+                drop((tiles, failed));
+                return Err(AllocError);
+            }
+        }
+        renew_turned(&mut self.changed, &self.tiles, marks, number);
         self.tiles = tiles;
         Ok(())
     }
@@ -361,13 +378,13 @@ impl Board {
     {
         Ok(Board {
             alloc: self.alloc,
-            design: self.design.share()?,
             cap: self.cap,
             history: copy_history(self.alloc, self.history.as_slice())?,
             workers: self.workers,
             given: copy_items(self.alloc, self.given.as_slice())?,
             started: self.started,
             changed: Vec::from_slice(self.alloc, self.changed.as_slice())?,
+            design: self.design.share()?,
             tiles: self.tiles.share()?,
         })
     }
@@ -378,6 +395,18 @@ impl Board {
 pub struct PassBack {
     pub board: Board,
     pub cause: AllocError,
+}
+
+// The answers so far, and the other offers, which come back.
+fn run_back(done: Vec<Answer>, left: Vec<Offer>, cause: AllocError) -> RunBack
+    ensures done { result.done ≡ done.items }
+    ensures left { result.left ≡ left.items }
+{
+    RunBack {
+        done: List::from_vec(done),
+        left: List::from_vec(left),
+        cause,
+    }
 }
 
 /// Makes offers, in order. Where memory is wanting, the answers so far stand in `done`, and the other offers come
@@ -393,11 +422,7 @@ pub fn run_offers(
     let mut left = offers;
     let mut done = Vec::new(alloc);
     if let Err(cause) = done.reserve(left.len()) {
-        return Err(RunBack {
-            done: List::from_vec(done),
-            left: List::from_vec(left),
-            cause,
-        });
+        return Err(run_back(done, left, cause));
     }
     left.reverse();
     while let Some(offer) = left.pop() {
@@ -406,11 +431,7 @@ pub fn run_offers(
             Err(OfferBack { offer, cause }) => {
                 left.push_reserved(offer);
                 left.reverse();
-                return Err(RunBack {
-                    done: List::from_vec(done),
-                    left: List::from_vec(left),
-                    cause,
-                });
+                return Err(run_back(done, left, cause));
             }
         }
     }

@@ -11,7 +11,7 @@ ghost use Rattle.pcb_model.specs.Board.{IsLegal, IsMade, IsRouted};
 ghost use Rattle.pcb_model.specs.Sound.{IsSound, IsFreeSound};
 ghost use Rattle.pcb_tiles.specs.Tiling.{IsArea};
 ghost use Rattle.pcb_tiles.specs.Spread.{holding, ServesSpread};
-ghost use Rattle.pcb_board.specs.Loading.{IsKept, LoadsOne, AreLoaded};
+ghost use Rattle.pcb_board.specs.Loading.{IsKept, LoadsOne, AreFixed, AreLoaded};
 
 use crate::renew::add_copy;
 use geo_kernel::{List, Point, Rect4, Spine, box_of};
@@ -41,7 +41,9 @@ fn area_of(alloc: Global, bounds: &[List<List<Point>>]) -> Result<Rect4, AllocEr
     match bounds.get(0) {
         Some(loops) => {
             let spine = Spine::Area(copy_loops(alloc, loops.as_slice())?);
-            Ok(box_of(&spine))
+            let area = box_of(&spine);
+            drop(spine);
+            Ok(area)
         }
         None => Ok(Rect4 {
             x0: 0,
@@ -77,20 +79,28 @@ fn keep(alloc: Global, loaded: &mut Loaded, item: Item) -> Result<(), AllocError
     Ok(())
 }
 
-/// The design's fixed items.
-pub(crate) fn load_fixed(alloc: Global, d: &Design) -> Result<Loaded, AllocError>
+// What is loaded before any item is.
+fn nothing_loaded(alloc: Global, d: &Design) -> Result<Loaded, AllocError>
     requires { IsSound d.now }
-    ensures { IfOk result (AreLoaded d.now d.now.free) }
+    ensures { IfOk result (AreFixed d.now 0) }
 {
-    let mut loaded = Loaded {
+    Ok(Loaded {
         tiles: empty_tiles(alloc, d)?,
         given: Vec::new(alloc),
         dropped: List::new(alloc),
-    };
+    })
+}
+
+// Puts the design's fixed items to what is loaded, which is nothing.
+fn load_fixed(alloc: Global, d: &Design, loaded: &mut Loaded) -> Result<(), AllocError>
+    requires sound { IsSound d.now }
+    requires nothing { AreFixed d.now 0 loaded.old }
+    ensures { OnOk result (AreLoaded d.now d.now.free loaded.new) }
+{
     for item in d.fixed.as_slice() {
-        keep(alloc, &mut loaded, copy_item(alloc, item)?)?;
+        keep(alloc, loaded, copy_item(alloc, item)?)?;
     }
-    Ok(loaded)
+    Ok(())
 }
 
 fn is_agreed_by<L: Ledger>(d: &Design, tiles: &Tiles, item: &Item, blank: Blank) -> bool
@@ -143,6 +153,7 @@ fn load_one(alloc: Global, d: &Design, loaded: &mut Loaded, w: &FreeWire) -> Res
     if fits(d, &loaded.tiles, &item) {
         keep(alloc, loaded, item)
     } else {
+        drop(item);
         drop_place(loaded, w.at)
     }
 }
@@ -157,8 +168,8 @@ fn drop_place(loaded: &mut Loaded, at: u64) -> Result<(), AllocError>
     Ok(())
 }
 
-/// Behind the fixed items, the free ones in order.
-pub(crate) fn load_free(alloc: Global, d: &Design, loaded: &mut Loaded) -> Result<(), AllocError>
+// Behind the fixed items, the free ones in order.
+fn load_free(alloc: Global, d: &Design, loaded: &mut Loaded) -> Result<(), AllocError>
     requires sound { IsSound d.now }
     requires fixed { AreLoaded d.now d.now.free loaded.old }
     ensures { OnOk result (AreLoaded d.now [] loaded.new) }
@@ -167,4 +178,29 @@ pub(crate) fn load_free(alloc: Global, d: &Design, loaded: &mut Loaded) -> Resul
         load_one(alloc, d, loaded, w)?;
     }
     Ok(())
+}
+
+// Puts the design's items to what is loaded, which is nothing.
+fn load_all(alloc: Global, d: &Design, loaded: &mut Loaded) -> Result<(), AllocError>
+    requires sound { IsSound d.now }
+    requires nothing { AreFixed d.now 0 loaded.old }
+    ensures { OnOk result (AreLoaded d.now [] loaded.new) }
+{
+    load_fixed(alloc, d, loaded)?;
+    load_free(alloc, d, loaded)
+}
+
+/// The design's items: the fixed ones, and behind them the free ones in order.
+pub(crate) fn load(alloc: Global, d: &Design) -> Result<Loaded, AllocError>
+    requires { IsSound d.now }
+    ensures { IfOk result (AreLoaded d.now []) }
+{
+    let mut loaded = nothing_loaded(alloc, d)?;
+    match load_all(alloc, d, &mut loaded) {
+        Ok(()) => Ok(loaded),
+        Err(error) => {
+            drop(loaded);
+            Err(error)
+        }
+    }
 }

@@ -108,7 +108,13 @@ pub(crate) fn marked_tiles(
     let mut tiles = empty_tiles(alloc, d)?;
     for item in given {
         if is_marked(marks, item.id) {
-            add_copy(alloc, &mut tiles, item)?;
+            match add_copy(alloc, &mut tiles, item) {
+                Ok(()) => {}
+                Err(error) => {
+                    drop(tiles);
+                    return Err(error);
+                }
+            }
         }
     }
     Ok(tiles)

@@ -58,8 +58,33 @@ pub(crate) fn add_copy(alloc: Global, tiles: &mut Tiles, item: &Item) -> Result<
     let copy = copy_item(alloc, item)?;
     match tiles.add(copy) {
         Ok(()) => Ok(()),
-        Err((_, cause)) => Err(cause),
+        Err((copy, cause)) => {
+            drop(copy);
+            Err(cause)
+        }
     }
+}
+
+// Takes some items out of tiles, and puts others with the next ids into them.
+fn change_tiles(
+    alloc: Global,
+    tiles: &mut Tiles,
+    gone: &[u64],
+    first: u64,
+    come: &[Item],
+) -> Result<(), AllocError>
+    requires fit { All IsItemFit come.now }
+    requires below { All (λ (a : OneItem). a.id < first) tiles.old.items }
+    requires numbered { (j : ℕ) (a : OneItem) → slice_get come.now j ≡ Some a → a.id ≡ first + j }
+    ensures { OnOk result (tiles.new ≡ holding tiles.old (without gone.now tiles.old.items ++ come.now)) }
+{
+    for id in gone {
+        take_out(tiles, *id)?;
+    }
+    for item in come {
+        add_copy(alloc, tiles, item)?;
+    }
+    Ok(())
 }
 
 // Tiles in which some items go, and others with the next ids come.
@@ -76,13 +101,13 @@ fn joined_tiles(
     ensures { IfOk result (λ t. t ≡ holding tiles.now (without gone.now tiles.now.items ++ come.now)) }
 {
     let mut next = tiles.share()?;
-    for id in gone {
-        take_out(&mut next, *id)?;
+    match change_tiles(alloc, &mut next, gone, first, come) {
+        Ok(()) => Ok(next),
+        Err(error) => {
+            drop(next);
+            Err(error)
+        }
     }
-    for item in come {
-        add_copy(alloc, &mut next, item)?;
-    }
-    Ok(next)
 }
 
 // The ids that an offer takes from the tiles, and the tiles afterwards.
@@ -153,8 +178,13 @@ fn enter(
         Ok(changes) => changes,
         Err(cause) => return Err(OfferBack { offer, cause }),
     };
-    push_join(history, offer, first, come.len())?;
-    Ok((gone, tiles))
+    match push_join(history, offer, first, come.len()) {
+        Ok(()) => Ok((gone, tiles)),
+        Err(back) => {
+            drop((gone, tiles));
+            Err(back)
+        }
+    }
 }
 
 // Makes room for so many more items and ids.

@@ -5,7 +5,7 @@ ghost use Rattle.std.specs.Prelude.{◌≡◌, ℕ, ◌<◌, List as Seq, [], �
 ghost use Rattle.pcb_model.specs.Bounds.{IsItemFit};
 ghost use Rattle.pcb_model.specs.Copper.{Ascends};
 ghost use Rattle.pcb_islands.specs.Islands.{AreIdsJoined};
-ghost use Rattle.pcb_islands.specs.Flooding.{HasIdWithin, AreTouched, IsTakenIn};
+ghost use Rattle.pcb_islands.specs.Flooding.{HasIdWithin, AreTouched, IsTakenIn, IsFlooded};
 
 use crate::ids::Ids;
 use geo_kernel::List;
@@ -78,6 +78,32 @@ fn spread<C: Copper, L: Ledger>(
     take_in(reached, waiting, touched.as_slice())
 }
 
+/// Reaches all items that are joined to an item of the copper.
+fn reach_all<C: Copper, L: Ledger>(
+    alloc: Global,
+    c: &C,
+    start: &Item,
+    steps: &mut Steps<L>,
+    reached: &mut Ids,
+) -> Result<(), AllocError>
+    requires in_order { Ascends (C.items c.now) }
+    requires ids { All HasIdWithin (C.items c.now) }
+    requires fit { All IsItemFit (C.items c.now) }
+    requires there { Contains (C.items c.now) start.now }
+    requires none { reached.old ≡ [] }
+    ensures { OnOk result (IsFlooded (C.items c.now) start.now reached.new []) }
+{
+    let mut waiting = Vec::new(alloc);
+    take_in(reached, &mut waiting, &[start.id])?;
+    while let Some(id) = waiting.pop() {
+        let Some(a) = c.item(id) else {
+            unreachable!();
+        };
+        spread(alloc, c, a, steps, reached, &mut waiting)?;
+    }
+    Ok(())
+}
+
 /// The ids of all items that are joined to an item of the copper, ascending.
 pub(crate) fn flood<C: Copper, L: Ledger>(
     alloc: Global,
@@ -96,13 +122,6 @@ pub(crate) fn flood<C: Copper, L: Ledger>(
 {
     let mut steps: Steps<L> = Steps::new(blank);
     let mut reached = Ids::new(alloc);
-    let mut waiting = Vec::new(alloc);
-    take_in(&mut reached, &mut waiting, &[start.id])?;
-    while let Some(id) = waiting.pop() {
-        let Some(a) = c.item(id) else {
-            unreachable!();
-        };
-        spread(alloc, c, a, &mut steps, &mut reached, &mut waiting)?;
-    }
+    reach_all(alloc, c, start, &mut steps, &mut reached)?;
     reached.to_list(alloc)
 }

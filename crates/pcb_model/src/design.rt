@@ -74,7 +74,6 @@ pub struct BoardLayer {
 }
 
 /// A design. `per` units of `unit` are its resolution; each entry of `bounds` has the loops of one boundary.
-#[derive(Drop)]
 pub struct Design {
     pub name: Name,
     pub unit: Unit,
@@ -93,6 +92,32 @@ pub struct Design {
     pub fixed: List<Item>,
     pub free: List<FreeWire>,
     pub notes: u64,
+}
+
+// A design is let go by a call. Derived, it would be let go field by field wherever one ends, at seven seconds of
+// proof each.
+impl Drop for Design {
+    fn drop(self) {
+        let Design {
+            name: _,
+            unit: _,
+            per: _,
+            host_cad: _,
+            host_version: _,
+            layers: _,
+            bounds: _,
+            padstacks: _,
+            components: _,
+            pins: _,
+            nets: _,
+            classes: _,
+            rules: _,
+            via_at_smd: _,
+            fixed: _,
+            free: _,
+            notes: _,
+        } = self;
+    }
 }
 
 /// The scale of a session: a printed number counts units of `nm` nm, `per` of them to one `unit`.

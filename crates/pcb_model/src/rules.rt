@@ -1,7 +1,7 @@
 //! Clearances and widths in nm, by the rules of nets, classes and the structure.
 //! Source: SPECCTRA reference, rule, class and net descriptors.
 
-ghost use Rattle.std.specs.Prelude.{◌≡◌, ◌≤◌, ◌^◌, All, IfSome, map, flat_map};
+ghost use Rattle.std.specs.Prelude.{◌≡◌, ℕ, ◌≤◌, ◌^◌, All, IfSome, map, flat_map};
 ghost use Rattle.pcb_model.specs.declared.design.RuleSet.{RuleSet as TheRules};
 ghost use Rattle.pcb_model.specs.declared.design.Net.{Net as TheNet};
 ghost use Rattle.pcb_model.specs.declared.design.Typed.{Typed as TheTyped};
@@ -200,6 +200,7 @@ fn reach_of_plain(plain: Option<u64>, least: u64) -> u64
     ensures reaches { IfSome plain (λ c. c ≤ result) }
     ensures least { least ≤ result }
     ensures within { result ≤ 2 ^ 28 }
+    ensures lowest { (m : ℕ) → least ≤ m → IfSome plain (λ c. c ≤ m) → result ≤ m }
 {
     match plain {
         Some(c) => least.max(c),
@@ -213,6 +214,7 @@ fn reach_of_typed(ts: &[Typed], least: u64) -> u64
     ensures reaches { All (λ (t : TheTyped). t.value ≤ result) ts.now }
     ensures least { least ≤ result }
     ensures within { result ≤ 2 ^ 28 }
+    ensures lowest { (m : ℕ) → least ≤ m → All (λ (t : TheTyped). t.value ≤ m) ts.now → result ≤ m }
 {
     let mut greatest = least;
     for t in ts {
@@ -228,6 +230,7 @@ fn reach_of_rules(rs: &RuleSet, least: u64) -> u64
     ensures reaches { AreRulesWithin result rs.now }
     ensures least { least ≤ result }
     ensures within { result ≤ 2 ^ 28 }
+    ensures lowest { (m : ℕ) → least ≤ m → AreRulesWithin m rs.now → result ≤ m }
 {
     reach_of_typed(rs.typed.as_slice(), reach_of_plain(rs.plain, least))
 }
@@ -238,6 +241,7 @@ fn reach_of_classes(classes: &[RuleSet], least: u64) -> u64
     ensures reaches { All (AreRulesWithin result) classes.now }
     ensures least { least ≤ result }
     ensures within { result ≤ 2 ^ 28 }
+    ensures lowest { (m : ℕ) → least ≤ m → All (AreRulesWithin m) classes.now → result ≤ m }
 {
     let mut greatest = least;
     for rs in classes {
@@ -252,6 +256,7 @@ fn reach_of_nets(nets: &[Net], least: u64) -> u64
     ensures reaches { All (λ (n : TheNet). AreRulesWithin result n.rules) nets.now }
     ensures least { least ≤ result }
     ensures within { result ≤ 2 ^ 28 }
+    ensures lowest { (m : ℕ) → least ≤ m → All (λ (n : TheNet). AreRulesWithin m n.rules) nets.now → result ≤ m }
 {
     let mut greatest = least;
     for n in nets {
@@ -265,6 +270,7 @@ pub fn reach_of(d: &Design) -> u64
     requires { HasRulesWithin (2 ^ 28) d.now }
     ensures reaches { HasRulesWithin result d.now }
     ensures within { result ≤ 2 ^ 28 }
+    ensures lowest { (m : ℕ) → HasRulesWithin m d.now → result ≤ m }
 {
     let structure = reach_of_rules(&d.rules, 0);
     let classes = reach_of_classes(d.classes.as_slice(), structure);

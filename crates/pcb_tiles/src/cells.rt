@@ -158,6 +158,22 @@ fn next_row(
     }
 }
 
+fn change_rows(
+    alloc: Global,
+    change: &Change,
+    b: &Block,
+    rows: &[Row],
+) -> Result<List<Row>, AllocError>
+    ensures { IfOk result (λ g. g ≡ changed_grid change.now b.now rows.now) }
+{
+    let mut changed = List::new(alloc);
+    for i in 0..rows.len() {
+        let changes = is_from_to(b.first_row, b.last_row, i);
+        changed.push(next_row(alloc, change, b, changes, &rows[i])?)?;
+    }
+    Ok(changed)
+}
+
 /// The tiles with a change in a block of them.
 pub(crate) fn change_grid(
     alloc: Global,
@@ -167,13 +183,8 @@ pub(crate) fn change_grid(
 ) -> Result<Grid, AllocError>
     ensures { IfOk result (λ g. g ≡ changed_grid change.now b.now grid.now) }
 {
-    let rows = grid.get().as_slice();
-    let mut changed = List::new(alloc);
-    for i in 0..rows.len() {
-        let changes = is_from_to(b.first_row, b.last_row, i);
-        changed.push(next_row(alloc, change, b, changes, &rows[i])?)?;
-    }
-    Ok(Shared::new(alloc, changed)?)
+    let rows = change_rows(alloc, change, b, grid.get().as_slice())?;
+    Ok(Shared::new(alloc, rows)?)
 }
 
 // So many shares of a value.

@@ -236,6 +236,37 @@ pub(crate) fn grid_without(
     Ok(changed)
 }
 
+// A shared copy of an item.
+fn held_copy(alloc: Global, a: &Item) -> Result<Shared<Item>, AllocError>
+    ensures { IfOk result (λ h. h ≡ a.now) }
+{
+    let copy = copy_item(alloc, a)?;
+    let held = Shared::new(alloc, copy)?;
+    Ok(held)
+}
+
+// The items and the tiles with one more item.
+fn with_held(
+    alloc: Global,
+    area: Rect4,
+    reach: u64,
+    shelf: &Shelf,
+    grid: &Grid,
+    held: &Shared<Item>,
+) -> Result<(Shelf, Grid), AllocError>
+    requires spread { IsSpread area reach shelf.now grid.now }
+    requires absent { All (λ b. b.id ≡ held.now.id → ⊥) (flat shelf.now) }
+    requires fits { IsItemFit held.now }
+    ensures items { IfOk result (λ p. flat p.0 ≡ with_item held.now (flat shelf.now)) }
+    ensures spread { IfOk result (λ p. IsSpread area reach p.0 p.1) }
+{
+    let _id = held.get().id;
+    let after = grid_with(alloc, area, reach, shelf, grid, held)?;
+    let list = put(alloc, held, shelf.get().as_slice())?;
+    let kept = Shared::new(alloc, list)?;
+    Ok((kept, after))
+}
+
 /// The items and the tiles with one more item, of which a copy is kept.
 pub(crate) fn with_more(
     alloc: Global,
@@ -251,13 +282,8 @@ pub(crate) fn with_more(
     ensures items { IfOk result (λ p. flat p.0 ≡ with_item a.now (flat shelf.now)) }
     ensures spread { IfOk result (λ p. IsSpread area reach p.0 p.1) }
 {
-    let _id = a.id;
-    let copy = copy_item(alloc, a)?;
-    let held = Shared::new(alloc, copy)?;
-    let after = grid_with(alloc, area, reach, shelf, grid, &held)?;
-    let list = put(alloc, &held, shelf.get().as_slice())?;
-    let kept = Shared::new(alloc, list)?;
-    Ok((kept, after))
+    let held = held_copy(alloc, a)?;
+    with_held(alloc, area, reach, shelf, grid, &held)
 }
 
 /// The items and the tiles without an item that is held.

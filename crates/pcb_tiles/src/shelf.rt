@@ -159,24 +159,47 @@ fn add_chunk(
     Ok(())
 }
 
+// Puts one item behind those of chunks, as a chunk of its own.
+fn add_last(alloc: Global, last: Shared<Item>, chunks: &mut List<Chunk>) -> Result<(), AllocError>
+    requires chunks { All IsChunk chunks.old }
+    ensures items { IfOk result (λ _. flat chunks.new ≡ flat chunks.old ++ last ∷ []) }
+    ensures chunks { IfOk result (λ _. All IsChunk chunks.new) }
+{
+    let mut end = List::new(alloc);
+    end.push(last)?;
+    add_chunk(alloc, end, chunks)
+}
+
+// Puts some items behind those of chunks: as one chunk, or two where they are one too many for one.
+fn add_cut(
+    alloc: Global,
+    items: List<Shared<Item>>,
+    chunks: &mut List<Chunk>,
+) -> Result<(), AllocError>
+    requires most { length items ≤ 129 }
+    requires chunks { All IsChunk chunks.old }
+    ensures items { IfOk result (λ _. flat chunks.new ≡ flat chunks.old ++ items) }
+    ensures chunks { IfOk result (λ _. All IsChunk chunks.new) }
+{
+    if items.len() <= MOST {
+        return add_chunk(alloc, items, chunks);
+    }
+    let mut items = items;
+    let Some(last) = items.pop() else {
+        return Ok(());
+    };
+    add_chunk(alloc, items, chunks)?;
+    add_last(alloc, last, chunks)
+}
+
 // The chunks of some items: two where they are one too many for one.
 fn cut(alloc: Global, items: List<Shared<Item>>) -> Result<List<Chunk>, AllocError>
     requires { length items ≤ 129 }
     ensures items { IfOk result (λ s. flat s ≡ items) }
     ensures chunks { IfOk result (λ s. All IsChunk s) }
 {
-    let mut items = items;
     let mut chunks = List::new(alloc);
-    if items.len() <= MOST {
-        add_chunk(alloc, items, &mut chunks)?;
-        return Ok(chunks);
-    }
-    if let Some(last) = items.pop() {
-        let mut end = List::new(alloc);
-        end.push(last)?;
-        add_chunk(alloc, items, &mut chunks)?;
-        add_chunk(alloc, end, &mut chunks)?;
-    }
+    add_cut(alloc, items, &mut chunks)?;
     Ok(chunks)
 }
 

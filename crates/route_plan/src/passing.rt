@@ -76,7 +76,13 @@ fn passing_route<M: Moves>(
     match task.route(alloc, search, moves, island, others)? {
         Routed::Shut(reach) => Ok(Led::Shut(reach)),
         Routed::Route(route) => {
-            let way = make_way(alloc, lat, d, snap, net, &route.metals)?;
+            let way = match make_way(alloc, lat, d, snap, net, &route.metals) {
+                Ok(way) => way,
+                Err(error) => {
+                    drop(route);
+                    return Err(error);
+                }
+            };
             let offer = passing_offer(snap.number(), worker, net, penalty, route, way);
             Ok(Led::Offer(offer))
         }
@@ -113,13 +119,17 @@ pub(crate) fn plan_passing_with<M: Moves>(
     shoves_are_one();
     let mut others = islands(alloc, d, snap, net)?;
     if others.len() <= 1 {
+        drop(others);
         return Ok(Planned::Whole);
     }
     let island = others.remove(0);
-    match passing_route(
+    let led = passing_route(
         alloc, search, lat, d, snap, moves, via_cost, worker, penalty, &island, &others,
-    )? {
-        Led::Shut(reach) => Ok(Planned::Shut(reach)),
-        Led::Offer(offer) => Ok(Planned::Offer(offer)),
+    );
+    drop((island, others));
+    match led {
+        Ok(Led::Shut(reach)) => Ok(Planned::Shut(reach)),
+        Ok(Led::Offer(offer)) => Ok(Planned::Offer(offer)),
+        Err(error) => Err(error),
     }
 }

@@ -129,13 +129,17 @@ pub(crate) fn plan_legal_with<M: Moves>(
     snap.in_order();
     let mut others = islands(alloc, d, snap, net)?;
     if others.len() <= 1 {
+        drop(others);
         return Ok(Planned::Whole);
     }
     let island = others.remove(0);
-    match offer_with(
+    let led = offer_with(
         alloc, search, lat, d, snap, legal, via_cost, worker, &island, &others,
-    )? {
-        Led::Shut(reach) => Ok(Planned::Shut(reach)),
-        Led::Offer(offer) => Ok(Planned::Offer(offer)),
+    );
+    drop((island, others));
+    match led {
+        Ok(Led::Shut(reach)) => Ok(Planned::Shut(reach)),
+        Ok(Led::Offer(offer)) => Ok(Planned::Offer(offer)),
+        Err(error) => Err(error),
     }
 }

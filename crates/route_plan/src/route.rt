@@ -153,10 +153,18 @@ impl Task<'_> {
         ensures size { search.new ≡ search.old }
     {
         let starts = starts_of(alloc, self.lat, self.d, self.snap, island)?;
-        let goals = goals_of(alloc, self.lat, self.d, self.snap, others)?;
-        match self.walk(alloc, search, moves, &starts, &goals)? {
-            Found::Closed(reach) => Ok(Routed::Shut(reach)),
-            Found::Walk(walk) => {
+        let goals = match goals_of(alloc, self.lat, self.d, self.snap, others) {
+            Ok(goals) => goals,
+            Err(error) => {
+                drop(starts);
+                return Err(error);
+            }
+        };
+        let found = self.walk(alloc, search, moves, &starts, &goals);
+        drop((starts, goals));
+        match found {
+            Ok(Found::Closed(reach)) => Ok(Routed::Shut(reach)),
+            Ok(Found::Walk(walk)) => {
                 let nodes = walk.nodes.as_slice();
                 let Some(from) = anchored_among(
                     self.lat,
@@ -174,9 +182,14 @@ impl Task<'_> {
                     others.as_slice(),
                     nodes[nodes.len() - 1],
                 );
-                let metals = walk_items(alloc, self.lat, self.d, self.net, &walk)?;
-                Ok(Routed::Route(Route { from, to, metals }))
+                let laid = walk_items(alloc, self.lat, self.d, self.net, &walk);
+                drop(walk);
+                match laid {
+                    Ok(metals) => Ok(Routed::Route(Route { from, to, metals })),
+                    Err(error) => Err(error),
+                }
             }
+            Err(error) => Err(error),
         }
     }
 }

@@ -73,13 +73,18 @@ pub fn offer_by_maps(
         → LeadsFrom lat.now via_cost b worker island.now others.now r) }
     ensures size { search.new ≡ search.old }
 {
-    match maps.net_moves(alloc, lat, d, snap, island.net, via_cost)? {
-        Some(legal) => offer_with(
-            alloc, search, lat, d, snap, &legal, via_cost, worker, island, others,
-        ),
-        None => offer_from(
+    match maps.net_moves(alloc, lat, d, snap, island.net, via_cost) {
+        Ok(Some(legal)) => {
+            let led = offer_with(
+                alloc, search, lat, d, snap, &legal, via_cost, worker, island, others,
+            );
+            drop(legal);
+            led
+        }
+        Ok(None) => offer_from(
             alloc, search, lat, d, snap, via_cost, worker, island, others,
         ),
+        Err(error) => Err(error),
     }
 }
 
@@ -150,9 +155,16 @@ fn plan_legal_by_maps(
     ensures plan { IfOk result (λ p. (b : BoardOf) → IsSnapOf snap.now b → Plans lat.now via_cost b worker net None p) }
     ensures size { search.new ≡ search.old }
 {
-    match maps.net_moves(alloc, lat, d, snap, net, via_cost)? {
-        Some(legal) => plan_legal_with(alloc, search, lat, d, snap, &legal, via_cost, worker, net),
-        None => plan_legal_in(alloc, search, lat, d, snap, via_cost, worker, net),
+    match maps.net_moves(alloc, lat, d, snap, net, via_cost) {
+        Ok(Some(legal)) => {
+            let planned = plan_legal_with(
+                alloc, search, lat, d, snap, &legal, via_cost, worker, net,
+            );
+            drop(legal);
+            planned
+        }
+        Ok(None) => plan_legal_in(alloc, search, lat, d, snap, via_cost, worker, net),
+        Err(error) => Err(error),
     }
 }
 
@@ -183,11 +195,16 @@ fn plan_passing_by_maps(
     let Some(fixed) = fixed else {
         return plan_passing_in(alloc, search, lat, d, snap, via_cost, worker, net, penalty);
     };
-    match rips_of(alloc, maps, fixed, lat, d, snap, net, via_cost, penalty)? {
-        Some(moves) => plan_passing_with(
-            alloc, search, lat, d, snap, &moves, via_cost, worker, net, penalty,
-        ),
-        None => plan_passing_in(alloc, search, lat, d, snap, via_cost, worker, net, penalty),
+    match rips_of(alloc, maps, fixed, lat, d, snap, net, via_cost, penalty) {
+        Ok(Some(moves)) => {
+            let planned = plan_passing_with(
+                alloc, search, lat, d, snap, &moves, via_cost, worker, net, penalty,
+            );
+            drop(moves);
+            planned
+        }
+        Ok(None) => plan_passing_in(alloc, search, lat, d, snap, via_cost, worker, net, penalty),
+        Err(error) => Err(error),
     }
 }
 

@@ -149,16 +149,16 @@ module _ (b c : BoardOf) (grows : Grows b c) where
 -- ---- the pass that was made
 module _ (p : PassOf) (b : BoardOf) (made : Made) (kept : IsBoard b) (is : IsMade p b made) where
   at_start : board_at made.board (length b.history) ≡ b
-  at_start = board_before b made.board (length b.history) (grown_by p b made.board is.grows) (omega arith)
+  at_start = board_before b made.board (length b.history) (grown_by p b made.board is.nets.grows) (omega arith)
       ∙ board_whole b kept
 
   -- a further entry is a join of its workers
   join_of : (n : ℕ) (e : Entry) → length b.history ≤ n → slice_get made.board.history n ≡ Some e → IsJoinOf p e
-  join_of n e late at = elim (look_cases b.history is.grows.entries n e
-      (ap (λ (h : List Entry). slice_get h n) (sym is.grows.history) ∙ at)) [
+  join_of n e late at = elim (look_cases b.history is.nets.grows.entries n e
+      (ap (λ (h : List Entry). slice_get h n) (sym is.nets.grows.history) ∙ at)) [
         | inl there ↦ absurd (let w = slice_get_within b.history n e there in omega (arith, w, late))
-        | inr behind ↦ All-contains (IsJoinOf p) is.grows.entries e is.grows.joins
-            (in_from is.grows.entries behind.place e behind.there)
+        | inr behind ↦ All-contains (IsJoinOf p) is.nets.grows.entries e is.nets.grows.joins
+            (in_from is.nets.grows.entries behind.place e behind.there)
       ]
 
   made_pass : IsPass p made.board (length b.history) made.line
@@ -166,12 +166,12 @@ module _ (p : PassOf) (b : BoardOf) (made : Made) (kept : IsBoard b) (is : IsMad
     there = omega (arith, is.commits);
     joins = λ n e late early at. join_of n e late at;
     worked = λ net lt several. subst (λ to. IsWorkedOff p made.board (length b.history) to net) (sym is.commits)
-        (is.worked net (subst (λ d. net < length d.nets) is.grows.design lt)
+        (is.nets.worked net (subst (λ d. net < length d.nets) is.nets.grows.design lt)
         (subst (λ (x : BoardOf). HasSeveral x.design x.items net) at_start several));
     leaves = subst (λ to. IsOpenCount made.board.design (board_at made.board to).items made.line.parted)
         (sym is.commits)
         (subst (λ (x : BoardOf). IsOpenCount x.design x.items made.line.parted)
-        (sym (board_whole made.board is.board)) is.leaves);
+        (sym (board_whole made.board is.nets.board)) is.leaves);
   }
 
 -- ---- lines
@@ -223,7 +223,7 @@ module _ (m : Mesh) (r : RunOf) (b : BoardOf) (lines : List PassLine) (made : Ma
   The k = pass_at m r.via_cost r.workers (k + 1)
 
   grows : Grows b made.board
-  grows = grown_by (The (length lines)) b made.board is.grows
+  grows = grown_by (The (length lines)) b made.board is.nets.grows
 
   each_more : (k : ℕ) (l : PassLine) → slice_get (lines ++ made.line ∷ []) k ≡ Some l
       → IsPass (The k) made.board (entries_after (lines ++ made.line ∷ []) k) l
@@ -258,14 +258,14 @@ module _ (m : Mesh) (r : RunOf) (b : BoardOf) (lines : List PassLine) (made : Ma
   -- with a pass more they are passes still
   more_passed : HasPassed m r made.board (lines ++ made.line ∷ [])
   more_passed = record {
-    board = is.board;
+    board = is.nets.board;
     passes = record {
       few = (let count = one_more lines made.line in omega (arith, count, room));
       each = each_more;
       goes_on = λ k l at before. (goes_on_more k l at before).0;
       moves = λ k l at some before. (goes_on_more k l at before).1 some;
     };
-    least = least_on b made.board grows m r.via_cost has.least is.least;
+    least = least_on b made.board grows m r.via_cost has.least is.nets.least;
     no_more = (let more = entries_more lines made.line in omega (arith, more, is.commits, has.no_more));
   }
 
@@ -285,13 +285,9 @@ module _ (p : PassOf) (number : ℕ) (old : BoardOf) (lines : List PassLine) (ne
 
   pub made_on : IsMade p old made_by
   made_on = subst (λ (b : BoardOf). IsMade p old (record made_by { board = b })) (sym one.stands.board_is) (record {
-    grows = one.is.grows;
-    board = one.is.board;
+    nets = one.is.nets;
     commits = one.is.commits;
-    worked = one.is.worked;
-    least = one.is.least;
     leaves = one.is.leaves;
-    spent = one.is.spent;
   })
 
   pub ready_on : IsReady p.lattice new

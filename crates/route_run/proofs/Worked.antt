@@ -204,17 +204,11 @@ worked_from p old new full logs count some kept passed least open_nets spent = r
 pub made_from : (p : PassOf) (old new : BoardOf) (full : Bool) (made : Made) (before : ℕ) → before ≡ length old.history
     → AreWorkedOff p old new full → IsMadeAfter new full before made → IsMade p old made
 made_from p old new full made before start are is =
-    let worked : AreWorkedOff p old made.board made.full =
-    subst (λ (f : Bool). AreWorkedOff p old made.board f) (sym is.full_is)
-    (subst (λ (b : BoardOf). AreWorkedOff p old b full) (sym is.board_is) are) in
     let counted = open_count made.board.design made.board.items _ _ is.open_nets.are in
     record {
-      grows = worked.grows;
-      board = worked.board;
+      nets = subst (λ (f : Bool). AreWorkedOff p old made.board f) (sym is.full_is)
+          (subst (λ (b : BoardOf). AreWorkedOff p old b full) (sym is.board_is) are);
       commits = (let end = ap (λ (b : BoardOf). length b.history) is.board_is in
           omega (arith, start, is.commits_are, end));
-      worked = worked.worked;
-      least = worked.least;
       leaves = subst (IsOpenCount made.board.design made.board.items) (sym is.parted_is) counted;
-      spent = worked.spent;
     }

@@ -56,21 +56,8 @@ pub record AreOpenOn (b : BoardOf) (open_nets : OpenNets) : Type 0 where
   pub are : AreOpenNets b.design b.items (length b.design.nets) open_nets.nets.items open_nets.count
 
 -- ---- passes
--- A pass was made: joins of its workers, as many as its line says, each of them a least offer; each net that had
--- several islands was worked off; and what is open now. Where the board was full for an offer, it takes no more.
-pub record IsMade (p : PassOf) (old : BoardOf) (made : Made) : Type 0 where
-  pub grows : Grows p old made.board
-  pub board : IsBoard made.board
-  pub commits : length old.history + made.line.commits ≡ length made.board.history
-  pub worked : (net : ℕ) → net < length old.design.nets → HasSeveral old.design old.items net
-      → IsWorkedOff p made.board (length old.history) (length made.board.history) net
-  pub least : (n : ℕ) (o : Offer) (first after : ℕ) → length old.history ≤ n
-      → slice_get made.board.history n ≡ Some (Join o first after)
-      → (o.base ≤ n) × IsLeastOffer p.lattice p.via_cost (board_at made.board o.base) o
-  pub leaves : IsOpenCount made.board.design made.board.items made.line.parted
-  pub spent : IsTrue made.full → IsSpent made.board
-
--- the nets were worked off: what IsMade says but for the line, and where the board was full it takes no more
+-- The nets with several islands were worked off, by joins of the pass's workers, each of them a least offer. Where the
+-- board was full for an offer, it takes no more.
 pub record AreWorkedOff (p : PassOf) (old new : BoardOf) (full : Bool) : Type 0 where
   pub grows : Grows p old new
   pub board : IsBoard new
@@ -80,6 +67,12 @@ pub record AreWorkedOff (p : PassOf) (old new : BoardOf) (full : Bool) : Type 0 
       → slice_get new.history n ≡ Some (Join o first after)
       → (o.base ≤ n) × IsLeastOffer p.lattice p.via_cost (board_at new o.base) o
   pub spent : IsTrue full → IsSpent new
+
+-- a pass was made: its nets were worked off, and its line counts its joins and what is open now
+pub record IsMade (p : PassOf) (old : BoardOf) (made : Made) : Type 0 where
+  pub nets : AreWorkedOff p old made.board made.full
+  pub commits : length old.history + made.line.commits ≡ length made.board.history
+  pub leaves : IsOpenCount made.board.design made.board.items made.line.parted
 
 -- the pass's line counts the entries behind those that stood before, and what is open
 pub record IsMadeAfter (board : BoardOf) (full : Bool) (before : ℕ) (made : Made) : Type 0 where

@@ -56,6 +56,10 @@ pub(crate) fn look_over(alloc: Global, board: &Board) -> Result<OpenNets, AllocE
     boards_serve();
     let snap = board.snap()?;
     let mut nets = Vec::new(alloc);
-    let count = gather(alloc, &snap, &mut nets)?;
-    Ok(OpenNets { nets, count })
+    let gathered = gather(alloc, &snap, &mut nets);
+    drop(snap);
+    match gathered {
+        Ok(count) => Ok(OpenNets { nets, count }),
+        Err(error) => Err(error),
+    }
 }

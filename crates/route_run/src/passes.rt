@@ -109,9 +109,14 @@ fn work_off<R: Threads + Wait + Sync, G: Gate + Sync>(
         Ok((board, logs)) => {
             board.keeps();
             let full = is_full(logs.as_slice());
+            drop(logs);
             Ok((board, full))
         }
-        Err(back) => Err(back.cause),
+        Err(back) => {
+            let cause = back.cause;
+            drop(back);
+            Err(cause)
+        }
     }
 }
 
@@ -179,7 +184,13 @@ fn stand_after(
 ) -> Result<(Stand, bool), AllocError>
     ensures { IfOk result (λ r. StandsAfter number made last lines.old r.0 lines.new r.1) }
 {
-    lines.push(made.line)?;
+    match lines.push(made.line) {
+        Ok(()) => {}
+        Err(error) => {
+            drop((made, last));
+            return Err(error.into());
+        }
+    }
     let more = may_follow(number, made.line, made.full);
     let stand = Stand {
         board: made.board,
@@ -250,7 +261,13 @@ fn next_pass<R: Threads + Wait + Sync, G: Gate + Sync>(
         open_nets,
         last,
     } = stand;
-    let base = look_before(alloc, lat, &board, &open_nets, last)?;
+    let base = match look_before(alloc, lat, &board, &open_nets, last) {
+        Ok(base) => base,
+        Err(error) => {
+            drop((board, open_nets));
+            return Err(error);
+        }
+    };
     pass_by(
         rt, alloc, lat, via_cost, workers, number, board, open_nets, base, lines, gate,
     )

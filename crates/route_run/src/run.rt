@@ -100,7 +100,13 @@ fn told(
     ensures { IfOk result (λ r. r ≡ told_of lat.now dropped lines kept closed) }
 {
     let Closed { board, ends, joins } = closed;
-    let (complete, cuts) = told_ends(alloc, ends)?;
+    let (complete, cuts) = match told_ends(alloc, ends) {
+        Ok(told) => told,
+        Err(error) => {
+            drop((board, dropped, lines));
+            return Err(error);
+        }
+    };
     let facts = Facts {
         grid: lat.grid(),
         nodes: u64::from(lat.count()),

@@ -170,13 +170,20 @@ pub fn run_pass_from<R: Threads + Wait + Sync, G: Gate + Sync>(
     };
     let rooms = match make_rooms(alloc, job) {
         Ok(rooms) => rooms,
-        Err(cause) => return Err(PassBack { board, cause }),
+        Err(cause) => {
+            drop((fixed, tasks));
+            return Err(PassBack { board, cause });
+        }
     };
     let (turn, passes) = match Turn::new(alloc, board, workers) {
         Ok(made) => made,
-        Err(back) => return Err(back),
+        Err(back) => {
+            drop((fixed, tasks, rooms));
+            return Err(back);
+        }
     };
     let (board, logs, failed) = turn_over(rt, alloc, job, turn, passes, rooms, gate);
+    drop((fixed, tasks));
     if failed {
         return Err(PassBack {
             board,

@@ -98,7 +98,13 @@ fn make<R: Wait, G: Gate>(
     events_keep();
     late_offers_are_fair();
     w.notes.reserve(1)?;
-    let copy = copy_offer(alloc, &offer)?;
+    let copy = match copy_offer(alloc, &offer) {
+        Ok(copy) => copy,
+        Err(error) => {
+            drop(offer);
+            return Err(error);
+        }
+    };
     gate.before_offer(w.number, w.turns);
     match turn.offer(rt, &mut w.pass, offer) {
         Ok(answer) => {
@@ -110,7 +116,11 @@ fn make<R: Wait, G: Gate>(
             w.turns = w.turns.wrapping_add(1);
             Ok(judged(answer))
         }
-        Err(back) => Err(back.cause),
+        Err(back) => {
+            let cause = back.cause;
+            drop((copy, back));
+            Err(cause)
+        }
     }
 }
 

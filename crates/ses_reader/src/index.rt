@@ -71,8 +71,20 @@ impl<'a> DesignIndex<'a> {
         ensures { IfOk result (λ x. x ≡ d.now) }
     {
         let layers = layer_names(alloc, d.layers.as_slice())?;
-        let padstacks = padstack_names(alloc, d.padstacks.as_slice())?;
-        let nets = net_names(alloc, d.nets.as_slice())?;
+        let padstacks = match padstack_names(alloc, d.padstacks.as_slice()) {
+            Ok(padstacks) => padstacks,
+            Err(error) => {
+                drop(layers);
+                return Err(error);
+            }
+        };
+        let nets = match net_names(alloc, d.nets.as_slice()) {
+            Ok(nets) => nets,
+            Err(error) => {
+                drop((layers, padstacks));
+                return Err(error);
+            }
+        };
         Ok(DesignIndex {
             design: d,
             layers,

@@ -138,7 +138,13 @@ fn read_nets(
 {
     let mut found = List::new(alloc);
     for net in nets {
-        push_net(alloc, first, index, net, m, &mut found)?;
+        match push_net(alloc, first, index, net, m, &mut found) {
+            Ok(()) => {}
+            Err(error) => {
+                drop(found);
+                return Err(error);
+            }
+        }
     }
     Ok(found)
 }
@@ -172,5 +178,7 @@ pub(crate) fn note_network(
     ensures value { IfOk result (λ v. v ≡ network_items d.now m network.now) }
 {
     let index = DesignIndex::of(alloc, d)?;
-    note_nets(alloc, first, &index, network, m)
+    let items = note_nets(alloc, first, &index, network, m);
+    drop(index);
+    items
 }

@@ -94,7 +94,9 @@ pub fn read_session(alloc: Global, text: &[u8], d: &Design) -> Result<List<SesIt
         Err(TreeFault::Memory(error)) => return Err(SesFault::Memory(error)),
         Err(fault) => return Err(SesFault::Spelling(fault)),
     };
-    match read_items(alloc, d, &tree) {
+    let read = read_items(alloc, d, &tree);
+    drop(tree);
+    match read {
         Ok(items) => Ok(items),
         Err(ReadFault::Refused(refusal)) => Err(SesFault::Refused {
             number: refusal.number,

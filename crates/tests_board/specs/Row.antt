@@ -3,7 +3,6 @@ use Rattle.std.specs.Prelude.{ℕ, pos, None, true, List, [], ◌∷◌}
 use Rattle.geo_kernel.specs.declared.point.Point.{Point}
 use Rattle.geo_kernel.specs.declared.point.Rect4.{Rect4}
 use Rattle.geo_kernel.specs.declared.spine.Spine.TheVariants.{Chain}
-use Rattle.pcb_model.specs.declared.item.Piece.{Piece}
 use Rattle.pcb_model.specs.declared.item.Item.{Item}
 use Rattle.pcb_model.specs.declared.item.Kind.TheVariants.{Wire}
 use Rattle.pcb_model.specs.declared.item.Metal.TheVariants.{Ban}

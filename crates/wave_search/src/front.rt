@@ -32,7 +32,6 @@ const LATER: u32 = 22;
 
 /// The entries that wait: in a heap those near the key at which it was filled last, or below it, and in bins all
 /// others, by the bits in which their key differs from that one. The spare bin holds those that are being moved.
-#[derive(Drop)]
 struct Parts {
     at: u64,
     near: BinaryHeap<Reverse<Item>>,
@@ -40,6 +39,20 @@ struct Parts {
     later: Bin,
     last: Bin,
     spare: Bin,
+}
+
+// Let go by a call, where a derived `Drop` would let go field by field in each function that owns them.
+impl Drop for Parts {
+    fn drop(self) {
+        let Parts {
+            at: _,
+            near: _,
+            next: _,
+            later: _,
+            last: _,
+            spare: _,
+        } = self;
+    }
 }
 
 /// Takes the top of the heap.

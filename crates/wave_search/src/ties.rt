@@ -1,7 +1,7 @@
 //! Rules of ties: which of several least walks is answered.
 //! A rule changes no price, and no contract speaks of what it gains: a search checks each move that a rule has it take.
 
-ghost use Rattle.std.specs.Prelude.{◌≡◌, ◌<◌};
+ghost use Rattle.std.specs.Prelude.{◌≡◌, ◌<◌, true, false};
 ghost use Rattle.route_lattice.specs.Mesh.{node_count, level};
 ghost use Rattle.wave_search.specs.Directions.{heading, turns, is_against, direction_cost};
 
@@ -21,11 +21,15 @@ pub trait Ties {
 pub struct NoTies;
 
 impl Ties for NoTies {
-    fn tells(&self) -> bool {
+    fn tells(&self) -> bool
+        ensures { result ≡ false }
+    {
         false
     }
 
-    fn cost(&self, _node: u32, _m: Move, _price: u64, _next: Heading) -> u64 {
+    fn cost(&self, _node: u32, _m: Move, _price: u64, _next: Heading) -> u64
+        ensures { result ≡ 0 }
+    {
         0
     }
 }
@@ -102,7 +106,9 @@ impl LayerDirections<'_> {
 }
 
 impl Ties for LayerDirections<'_> {
-    fn tells(&self) -> bool {
+    fn tells(&self) -> bool
+        ensures { result ≡ true }
+    {
         true
     }
 

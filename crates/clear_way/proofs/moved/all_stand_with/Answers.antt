@@ -1,5 +1,7 @@
 use Rattle.std.proofs.Common.{refl}
+use Rattle.std.proofs.lemmas.Bool.{false≢true}
 use Rattle.pcb_model.specs.declared.item.Item.{Item}
+use Rattle.shove.proofs.Touching.{unless}
 use Rattle.least_offer.specs.Together.{StandsWith}
 use Rattle.clear_way.specs.Ways.{shove_of, IsReshaped}
 use Rattle.board_offers.proofs.Lists.{at_place_of, front_more, front_all}
@@ -23,4 +25,13 @@ returns g c =
       λ t. front_all (λ (a : Item). StandsWith c.args.d.now items (shove_of a) (shove_of c.args.b.now))
           c.args.moved.now c.loop-a.a-index c.loop-a-test.false c.loop-a.invariant,
       λ h. refl,
+    )
+
+pub returns-then-not-stands_with : goal.returns-then-not-stands_with
+returns-then-not-stands_with g c =
+    let items = g.C.Copper.items c.args.c.now in (
+      λ t. absurd (false≢true t),
+      λ all. absurd (unless c.stands_with.result _ c.stands_with.ensures c.if-not-stands_with.true
+          (at_place_of (λ (a : Item). StandsWith c.args.d.now items (shove_of a) (shove_of c.args.b.now))
+          c.args.moved.now all c.loop-a.a-index c.a-item.result c.loop-a-test.true c.a-item.is)),
     )

@@ -12,15 +12,15 @@ pub returns-in_default : goal.returns-in_default
 returns-in_default g c = no_item c.args.d.now c.args.lat.now (g.C.Copper.items c.args.c.now) c.args.new.now
     c.args.ids.now c.loop-id.id-index c.loop-id-test.true c.in_default.ensures
 
-pub returns-in_default-2 : goal.returns-in_default-2
-returns-in_default-2 g c =
+pub returns-in-Ok-None : goal.returns-in-Ok-None
+returns-in-Ok-None g c =
     let d = c.args.d.now in
     let m = c.args.lat.now in
     let items = g.C.Copper.items c.args.c.now in
     no_fit d m items c.args.new.now c.args.ids.now c.loop-id.id-index c.loop-id-test.true c.in_order.ensures.ascends
     c.in-Some.item.now c.in-Some.ensures.0 c.in-Some.ensures.1
-    (subst (FindsFirst d m items c.args.new.now c.in-Some.item.now) {x = _} {y = None} c.in_default-2.is
-    c.in_ok-fitting.ensures)
+    (subst (FindsFirst d m items c.args.new.now c.in-Some.item.now) {x = _} {y = None} c.in-Ok-None.field-0-is
+    c.in-Ok-None.ensures)
 
 pub first_fit-requires-clause-item : goal.first_fit-requires-clause-item
 first_fit-requires-clause-item g c =
@@ -42,10 +42,10 @@ all_stand_with-requires-clause-b_moved g c =
     let m = c.args.lat.now in
     let items = g.C.Copper.items c.args.c.now in
     let moved = is_moved d m items c.args.new.now (get_or c.args.ids.now c.loop-id.id-index 0) c.in-Some.item.now
-    c.in-Some-2.fitting c.in-Some.ensures.0 c.in-Some.ensures.1
-    (subst (FindsFirst d m items c.args.new.now c.in-Some.item.now) {x = _} {y = Some c.in-Some-2.fitting}
-    c.in-Some-2.is c.in_ok-fitting.ensures) in
-    is_reshaped d m items c.args.new.now (get_or c.args.ids.now c.loop-id.id-index 0) c.in-Some-2.fitting moved
+    c.in-Ok-Some.fitting c.in-Some.ensures.0 c.in-Some.ensures.1
+    (subst (FindsFirst d m items c.args.new.now c.in-Some.item.now) {x = _} {y = Some c.in-Ok-Some.fitting}
+    c.in-Ok-Some.field-0-is c.in-Ok-Some.ensures) in
+    is_reshaped d m items c.args.new.now (get_or c.args.ids.now c.loop-id.id-index 0) c.in-Ok-Some.fitting moved
 
 pub returns-then-not-all_stand_with : goal.returns-then-not-all_stand_with
 returns-then-not-all_stand_with g c =
@@ -53,15 +53,15 @@ returns-then-not-all_stand_with g c =
     let m = c.args.lat.now in
     let items = g.C.Copper.items c.args.c.now in
     let moved = is_moved d m items c.args.new.now (get_or c.args.ids.now c.loop-id.id-index 0) c.in-Some.item.now
-    c.in-Some-2.fitting c.in-Some.ensures.0 c.in-Some.ensures.1
-    (subst (FindsFirst d m items c.args.new.now c.in-Some.item.now) {x = _} {y = Some c.in-Some-2.fitting}
-    c.in-Some-2.is c.in_ok-fitting.ensures) in
+    c.in-Ok-Some.fitting c.in-Some.ensures.0 c.in-Some.ensures.1
+    (subst (FindsFirst d m items c.args.new.now c.in-Some.item.now) {x = _} {y = Some c.in-Ok-Some.fitting}
+    c.in-Ok-Some.field-0-is c.in-Ok-Some.ensures) in
     let not = unless c.all_stand_with.result _ c.all_stand_with.ensures c.if-not-all_stand_with.true in
     no_stand d m items c.args.new.now c.args.ids.now c.loop-id.id-index c.loop-id-test.true
     (λ ids ss ts h k. c.shoves_are_one.ensures.one d m items c.args.new.now ids ss ts c.in_order.ensures.ascends h k)
-    c.loop-id.moved c.in-Some-2.fitting c.loop-id.invariant moved
+    c.loop-id.moved c.in-Ok-Some.fitting c.loop-id.invariant moved
     (λ all. not
-    (subst (λ (xs : List Item). All (λ (a : Item). StandsWith d items (shove_of a) (shove_of c.in-Some-2.fitting)) xs)
+    (subst (λ (xs : List Item). All (λ (a : Item). StandsWith d items (shove_of a) (shove_of c.in-Ok-Some.fitting)) xs)
     (sym c.as_slice.ensures) all))
 
 pub loop-id-preserved : goal.loop-id-preserved
@@ -70,11 +70,11 @@ loop-id-preserved g c =
     let m = c.args.lat.now in
     let items = g.C.Copper.items c.args.c.now in
     let moved = is_moved d m items c.args.new.now (get_or c.args.ids.now c.loop-id.id-index 0) c.in-Some.item.now
-    c.in-Some-2.fitting c.in-Some.ensures.0 c.in-Some.ensures.1
-    (subst (FindsFirst d m items c.args.new.now c.in-Some.item.now) {x = _} {y = Some c.in-Some-2.fitting}
-    c.in-Some-2.is c.in_ok-fitting.ensures) in
+    c.in-Ok-Some.fitting c.in-Some.ensures.0 c.in-Some.ensures.1
+    (subst (FindsFirst d m items c.args.new.now c.in-Some.item.now) {x = _} {y = Some c.in-Ok-Some.fitting}
+    c.in-Ok-Some.field-0-is c.in-Ok-Some.ensures) in
     let all = c.all_stand_with.ensures.0 c.if-not-all_stand_with.false in
-    one_moved d m items c.args.new.now c.args.ids.now c.loop-id.id-index c.in-Some-2.fitting c.loop-id.moved
+    one_moved d m items c.args.new.now c.args.ids.now c.loop-id.id-index c.in-Ok-Some.fitting c.loop-id.moved
     c.push.new.self c.loop-id-test.true c.loop-id.invariant moved
-    (subst (λ (xs : List Item). All (λ (a : Item). StandsWith d items (shove_of a) (shove_of c.in-Some-2.fitting)) xs)
-    c.as_slice.ensures all) c.in_ok-push.ensures.ok
+    (subst (λ (xs : List Item). All (λ (a : Item). StandsWith d items (shove_of a) (shove_of c.in-Ok-Some.fitting)) xs)
+    c.as_slice.ensures all) c.in_default-push.ensures.ok

@@ -4,16 +4,17 @@ use Rattle.pcb_islands.specs.Islands.{AreIslands}
 use Rattle.closing_pass.proofs.Joining.{on_snap, of_snap}
 use Rattle.closing_pass.proofs.close.islands_on.Goals as goal
 
-pub islands-requires-clause-sound : goal.islands-requires-clause-sound
-islands-requires-clause-sound c = on_snap (λ d xs. IsSound d) c.args.board.now c.in_ok-snap.snap c.design.result.now
+pub islands-found-requires-clause-sound : goal.islands-found-requires-clause-sound
+islands-found-requires-clause-sound c =
+    on_snap (λ d xs. IsSound d) c.args.board.now c.in_ok-snap.snap c.design.result.now
     c.in_ok-snap.ensures c.design.ensures c.keeps.ensures.sound
 
-pub islands-requires-clause-net : goal.islands-requires-clause-net
-islands-requires-clause-net c = on_snap (λ d xs. c.args.net < length d.nets) c.args.board.now c.in_ok-snap.snap
+pub islands-found-requires-clause-net : goal.islands-found-requires-clause-net
+islands-found-requires-clause-net c = on_snap (λ d xs. c.args.net < length d.nets) c.args.board.now c.in_ok-snap.snap
     c.design.result.now c.in_ok-snap.ensures c.design.ensures c.requires
 
-pub islands-requires-clause-serves : goal.islands-requires-clause-serves
-islands-requires-clause-serves c =
+pub islands-found-requires-clause-serves : goal.islands-found-requires-clause-serves
+islands-found-requires-clause-serves c =
     let serves = c.boards_serve.ensures.serves c.args.board.now c.keeps.ensures in (
       sym c.design.ensures,
       on_snap (λ d xs. Serves xs d) c.args.board.now c.in_ok-snap.snap c.design.result.now
@@ -22,6 +23,6 @@ islands-requires-clause-serves c =
 
 pub returns : goal.returns
 returns c =
-    of_snap (λ d xs. IfOk c.islands.result (AreIslands d xs c.args.net)) c.args.board.now c.in_ok-snap.snap
+    of_snap (λ d xs. IfOk c.islands-found.result (AreIslands d xs c.args.net)) c.args.board.now c.in_ok-snap.snap
     c.design.result.now c.in_ok-snap.ensures c.design.ensures
-    c.islands.ensures
+    c.islands-found.ensures

@@ -10,4 +10,4 @@ returns-in_err-search-clause-closes c = joins_none 16 c.args.lat.now c.args.via_
 pub ends_of-requires-clause-can : goal.ends_of-requires-clause-can
 ends_of-requires-clause-can c =
     subst (λ (d : Design). CanClose c.args.lat.now c.args.via_cost d)
-    (sym c.in_ok-close_all.ensures.closes.design_stays) c.requires.can
+    (sym c.in-Ok.ensures.closes.design_stays) c.requires.can

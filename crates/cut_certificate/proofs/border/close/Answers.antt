@@ -58,8 +58,8 @@ blocks_of-requires-clause-closed g c =
     subst (IsClosed b.at b.arity b.open_at) (sym c.as_slice-3.ensures)
     (reach_is_closed b c.has_prices.ensures starts nodes c.requires.sound c.requires.starts r)
 
-pub returns : goal.returns
-returns g c =
+pub returns-in-Ok : goal.returns-in-Ok
+returns-in-Ok g c =
     let a = g.L.Moves.graph c.args.legal.now in
     let b = g.M.Moves.graph c.args.m.now in
     let starts = c.args.starts.now in
@@ -71,5 +71,5 @@ returns g c =
       (c.reach_tells_goals.ensures starts c.args.goals.now nodes r).missed none,
       r,
       subst (λ (y : List ℕ × List Block). AreBlocks b.at b.arity (g.M.Shuts.shut_by c.args.m.now) y.0 y.1)
-          (λ i. (c.as_slice-3.ensures i, sym c.from_vec.ensures i)) c.in_ok-blocked.ensures,
+          (λ i. (c.as_slice-3.ensures i, sym c.from_vec.ensures i)) c.in-Ok.ensures,
     )

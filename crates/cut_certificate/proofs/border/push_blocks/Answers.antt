@@ -78,3 +78,11 @@ unreachable-requires g c =
     omega (arith, c.loop-i-test.true, c.arity-i-end.ensures) in
     absurd (c.requires.closed.each c.args.node c.loop-i.i c.requires.inside lt
     (c.leads_out.ensures.0 c.if-leads_out.true) c.in_default.ensures.open)
+
+pub returns : goal.returns
+returns g c =
+    let at : c.loop-i.i ≡ (g.M.Moves.graph c.args.m.now).arity =
+    omega (arith, c.loop-i-test.false, c.loop-i.auto.i-end, c.arity-i-end.ensures) in
+    subst (λ n. Extends (g.M.Moves.graph c.args.m.now).at (g.M.Moves.graph c.args.m.now).arity
+    (g.M.Shuts.shut_by c.args.m.now) c.args.nodes.now c.args.node n c.args.blocked.now.items c.loop-i.blocked.items)
+    at c.loop-i.invariant

@@ -1,7 +1,10 @@
 use Rattle.std.proofs.Common.{ℕ, ◌<◌, All, sym, subst}
 use Rattle.pcb_model.specs.declared.design.Design.{Design}
 use Rattle.route_lattice.specs.Mesh.{Mesh, node_count}
-use Rattle.route_lattice.specs.Legal.{CanMove}
+use Rattle.route_lattice.specs.Legal.{CanMove, legal_graph}
+use Rattle.cut_certificate.specs.Border.{Closes}
+use Rattle.cut_certificate.specs.Cuts.{IsShutBy}
+use Rattle.cut_certificate.specs.Same.{SameMoves}
 use Rattle.cut_certificate.proofs.make.close_legal.Goals as goal
 
 pub close-requires-clause-sound : goal.close-requires-clause-sound
@@ -19,8 +22,14 @@ close-requires-clause-sound g c =
 pub close-requires-clause-same : goal.close-requires-clause-same
 close-requires-clause-same g c =
     let e = c.of-moves.ensures in
-    rw (e.d, e.lat, e.c, e.net, e.via_cost)
-    c.requires.legal
+    let own = g.M.Moves.graph c.args.legal.now in
+    let moves = c.of-moves.result in
+    subst (λ (y : Design × Mesh × ℕ × ℕ).
+    SameMoves own (legal_graph y.0 y.1 (g.C.Copper.items moves.c.now) y.2 y.3))
+    (λ i. (sym e.d i, sym e.lat i, sym e.net i, sym e.via_cost i))
+    (subst (λ x. SameMoves own
+    (legal_graph c.args.d.now c.args.lat.now (g.C.Copper.items x) c.args.net c.args.via_cost)) (sym e.c)
+    c.requires.legal)
 
 pub close-requires-clause-ready : goal.close-requires-clause-ready
 close-requires-clause-ready g c =
@@ -41,4 +50,13 @@ close-requires-clause-starts g c =
 pub returns : goal.returns
 returns g c =
     let e = c.of-moves.ensures in
-    rw (e.d, e.lat, e.c, e.net, e.via_cost) at c.in_ok-border.ensures
+    let starts = c.args.starts.now in
+    let goals = c.args.goals.now in
+    let border = c.in_ok-border.border in
+    subst (λ x. Closes
+    (legal_graph c.args.d.now c.args.lat.now (g.C.Copper.items x) c.args.net c.args.via_cost)
+    (IsShutBy c.args.d.now c.args.lat.now (g.C.Copper.items x) c.args.net) starts goals border) e.c
+    (subst (λ (y : Design × Mesh × ℕ × ℕ). Closes
+    (legal_graph y.0 y.1 (g.C.Copper.items c.of-moves.result.c.now) y.2 y.3)
+    (IsShutBy y.0 y.1 (g.C.Copper.items c.of-moves.result.c.now) y.2) starts goals border)
+    (λ i. (e.d i, e.lat i, e.net i, e.via_cost i)) c.in_ok-border.ensures)

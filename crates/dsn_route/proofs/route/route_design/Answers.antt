@@ -7,7 +7,7 @@ use Rattle.dsn_route.proofs.route.route_design.Goals as goal
 pub returns-in-Ok : goal.returns-in-Ok
 returns-in-Ok g c =
     routed c.args.command.now _ _ _ _ c.args.text.now c.args.design c.requires.is_text c.requires.reads
-    c.route_on.result.routed c.route_on.result.status c.route_on.ensures
+    c.route_on-outcome.result.routed c.route_on-outcome.result.status c.route_on-outcome.ensures
 
 pub returns-in-Err-TooManyNodes : goal.returns-in-Err-TooManyNodes
 returns-in-Err-TooManyNodes g c =

@@ -28,24 +28,24 @@ set_is : (nm : ℕ) (rules ws cs : List Tree) (s : RuleSet) → ws ≡ widths_in
     → s ≡ set_of nm ws cs → s ≡ rule_set nm rules
 set_is nm rules ws cs s e f p = p ∙ ap (λ w. set_of nm w cs) e ∙ ap (set_of nm (widths_in rules)) f
 
-pub returns-clause-noted : goal.returns-clause-noted
-returns-clause-noted c =
-    rules_noted c.args.s.nm c.args.rules.now c.in_ok-widths.widths c.in_ok-clearances.clearances c.args.first.now
+pub returns-in-Ok-read_set-clause-noted : goal.returns-in-Ok-read_set-clause-noted
+returns-in-Ok-read_set-clause-noted c =
+    rules_noted c.args.s.nm c.args.rules.now c.in_ok-widths.widths c.in-Ok.clearances c.args.first.now
     c.pass_over_rules-notes.new.first c.read_set.new.first
     (headed_by _ c.as_slice.result.now c.args.rules.now c.in_ok-widths.widths c.in_ok-widths.ensures c.as_slice.ensures)
-    (headed_by _ c.as_slice-2.result.now c.args.rules.now c.in_ok-clearances.clearances c.in_ok-clearances.ensures
-    c.as_slice-2.ensures) c.pass_over_rules-notes.ensures.noted c.in_ok-set.ensures.noted
+    (headed_by _ c.as_slice-2.result.now c.args.rules.now c.in-Ok.clearances c.in-Ok.ensures
+    c.as_slice-2.ensures) c.pass_over_rules-notes.ensures.noted c.in-Ok-read_set.ensures.noted
 
-pub returns-clause-set : goal.returns-clause-set
-returns-clause-set c =
-    set_is c.args.s.nm c.args.rules.now c.in_ok-widths.widths c.in_ok-clearances.clearances c.in_ok-set.set
+pub returns-in-Ok-read_set-clause-set : goal.returns-in-Ok-read_set-clause-set
+returns-in-Ok-read_set-clause-set c =
+    set_is c.args.s.nm c.args.rules.now c.in_ok-widths.widths c.in-Ok.clearances c.in-Ok-read_set.set
     (headed_by _ c.as_slice.result.now c.args.rules.now c.in_ok-widths.widths c.in_ok-widths.ensures c.as_slice.ensures)
-    (headed_by _ c.as_slice-2.result.now c.args.rules.now c.in_ok-clearances.clearances c.in_ok-clearances.ensures
-    c.as_slice-2.ensures) c.in_ok-set.ensures.value
+    (headed_by _ c.as_slice-2.result.now c.args.rules.now c.in-Ok.clearances c.in-Ok.ensures
+    c.as_slice-2.ensures) c.in-Ok-read_set.ensures.value
 
-pub returns-clause-notes : goal.returns-clause-notes
-returns-clause-notes c =
+pub returns-in-Ok-read_set-clause-notes : goal.returns-in-Ok-read_set-clause-notes
+returns-in-Ok-read_set-clause-notes c =
     c.pass_over_rules-notes.ensures.value
     ∙ ap (λ cs. capped (notes_with c.args.rules.now cs))
-    (headed_by _ c.as_slice-2.result.now c.args.rules.now c.in_ok-clearances.clearances c.in_ok-clearances.ensures
+    (headed_by _ c.as_slice-2.result.now c.args.rules.now c.in-Ok.clearances c.in-Ok.ensures
     c.as_slice-2.ensures)

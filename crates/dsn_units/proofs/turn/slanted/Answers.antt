@@ -2,11 +2,18 @@ use Rattle.std.proofs.Common.{arith, ap, ap₂, ◌∙◌}
 use Rattle.geo_kernel.specs.declared.point.Point.{Point}
 use Rattle.dsn_units.specs.Length.{nearest}
 use Rattle.dsn_units.specs.Turn.{one}
-use Rattle.dsn_units.proofs.Turns.{difference_value, sum_value, difference_small, sum_fits, product_is, unseen}
+use Rattle.dsn_units.proofs.Turns.{difference_fits, difference_small, difference_value, product_is}
+use Rattle.dsn_units.proofs.Turns.{sum_fits, sum_near, sum_value, unseen}
 use Rattle.dsn_units.proofs.turn.slanted.Goals as goal
 
 pub rounded-requires : goal.rounded-requires
 rounded-requires c = difference_small c.times.result c.times-2.result c.times.ensures.within c.times-2.ensures.within
+
+pub overflow_sub-times : goal.overflow_sub-times
+overflow_sub-times c = difference_fits c.times.result c.times-2.result c.times.ensures.within c.times-2.ensures.within
+
+pub rounded-requires-2 : goal.rounded-requires-2
+rounded-requires-2 c = sum_near c.times-3.result c.times-4.result c.times-3.ensures.within c.times-4.ensures.within
 
 pub overflow_add-times : goal.overflow_add-times
 overflow_add-times c = sum_fits c.times-3.result c.times-4.result c.times-3.ensures.within c.times-4.ensures.within

@@ -26,7 +26,7 @@ add_item-requires-clause-above c =
     subst (λ (xs : List Item). k < length xs) c.as_slice-item-items.ensures c.loop-item-test.true in
     let is : a ≡ get_or d.fixed k a = c.item-item.is ∙ ap (λ xs. get_or xs k a) c.as_slice-item-items.ensures in
     let id : a.id ≡ k = ap (λ (b : Item). b.id) is ∙ (fixed_at d c.requires k a within).numbered in
-    subst (λ (b : Item). All (λ (o : Item). o.id < b.id) c.loop-item.copper) (sym c.in_ok-copy.ensures)
+    subst (λ (b : Item). All (λ (o : Item). o.id < b.id) c.loop-item.copper) (sym c.in-Ok.ensures)
     (subst (λ n. All (λ (o : Item). o.id < n) c.loop-item.copper) (sym id)
     (subst (λ (xs : List Item). All (λ (o : Item). o.id < k) xs) (sym c.loop-item.invariant)
     (ids_below d c.requires k)))
@@ -37,9 +37,9 @@ loop-item-preserved c =
     let within : k < length d.fixed =
     subst (λ (xs : List Item). k < length xs) c.as_slice-item-items.ensures c.loop-item-test.true in
     let is : a ≡ get_or d.fixed k a = c.item-item.is ∙ ap (λ xs. get_or xs k a) c.as_slice-item-items.ensures in
-    c.in_ok-add_item.ensures
-    ∙ (ap (λ (xs : List Item). xs ++ c.in_ok-copy.copy ∷ []) c.loop-item.invariant
-    ∙ (ap (λ (b : Item). take k d.fixed ++ b ∷ []) (c.in_ok-copy.ensures ∙ is)
+    c.in_default.ensures
+    ∙ (ap (λ (xs : List Item). xs ++ c.in-Ok.copy ∷ []) c.loop-item.invariant
+    ∙ (ap (λ (b : Item). take k d.fixed ++ b ∷ []) (c.in-Ok.ensures ∙ is)
     ∙ sym (take_more d.fixed k a within)))
 
 pub add_item-requires-clause-fits : goal.add_item-requires-clause-fits
@@ -50,7 +50,7 @@ add_item-requires-clause-fits c =
     let is : c.item-item.result ≡ get_or c.args.d.now.fixed c.loop-item.item-index c.item-item.result =
     c.item-item.is
     ∙ ap (λ xs. get_or xs c.loop-item.item-index c.item-item.result) c.as_slice-item-items.ensures in
-    subst IsItemFit (sym c.in_ok-copy.ensures)
+    subst IsItemFit (sym c.in-Ok.ensures)
     (subst IsItemFit (sym is)
     (fixed_at c.args.d.now c.requires c.loop-item.item-index c.item-item.result within).item.fits)
 

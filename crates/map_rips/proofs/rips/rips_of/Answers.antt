@@ -51,35 +51,37 @@ net_moves-requires-clause-serves g c = c.requires.serves
 pub net_moves-requires-clause-maps : goal.net_moves-requires-clause-maps
 net_moves-requires-clause-maps g c = c.requires.maps
 
-pub returns-in-Some-2-clause-none : goal.returns-in-Some-2-clause-none
-returns-in-Some-2-clause-none g c = tt
+pub returns-in-Ok-Some-clause-none : goal.returns-in-Ok-Some-clause-none
+returns-in-Ok-Some-clause-none g c = tt
 
-pub returns-in-Some-2-clause-mapped : goal.returns-in-Some-2-clause-mapped
-returns-in-Some-2-clause-mapped g c = let is = c.in-Some-2.is in let e = c.in_ok-moves.ensures in rw is at e.mapped
+pub returns-in-Ok-Some-clause-mapped : goal.returns-in-Ok-Some-clause-mapped
+returns-in-Ok-Some-clause-mapped g c =
+    let is = c.in-Ok-Some.field-0-is in let e = c.in-Ok-Some.ensures in rw is at e.mapped
 
-pub returns-in-Some-2-clause-lat : goal.returns-in-Some-2-clause-lat
-returns-in-Some-2-clause-lat g c = let is = c.in-Some-2.is in let e = c.in_ok-moves.ensures in rw is at e.lat
+pub returns-in-Ok-Some-clause-lat : goal.returns-in-Ok-Some-clause-lat
+returns-in-Ok-Some-clause-lat g c = let is = c.in-Ok-Some.field-0-is in let e = c.in-Ok-Some.ensures in rw is at e.lat
 
-pub returns-in-Some-2-clause-d : goal.returns-in-Some-2-clause-d
-returns-in-Some-2-clause-d g c = let is = c.in-Some-2.is in let e = c.in_ok-moves.ensures in rw is at e.d
+pub returns-in-Ok-Some-clause-d : goal.returns-in-Ok-Some-clause-d
+returns-in-Ok-Some-clause-d g c = let is = c.in-Ok-Some.field-0-is in let e = c.in-Ok-Some.ensures in rw is at e.d
 
-pub returns-in-Some-2-clause-c : goal.returns-in-Some-2-clause-c
-returns-in-Some-2-clause-c g c = let is = c.in-Some-2.is in let e = c.in_ok-moves.ensures in rw is at e.c
+pub returns-in-Ok-Some-clause-c : goal.returns-in-Ok-Some-clause-c
+returns-in-Ok-Some-clause-c g c = let is = c.in-Ok-Some.field-0-is in let e = c.in-Ok-Some.ensures in rw is at e.c
 
-pub returns-in-Some-2-clause-net : goal.returns-in-Some-2-clause-net
-returns-in-Some-2-clause-net g c = let is = c.in-Some-2.is in let e = c.in_ok-moves.ensures in rw is at e.net
+pub returns-in-Ok-Some-clause-net : goal.returns-in-Ok-Some-clause-net
+returns-in-Ok-Some-clause-net g c = let is = c.in-Ok-Some.field-0-is in let e = c.in-Ok-Some.ensures in rw is at e.net
 
-pub returns-in-Some-2-clause-via_cost : goal.returns-in-Some-2-clause-via_cost
-returns-in-Some-2-clause-via_cost g c = let is = c.in-Some-2.is in let e = c.in_ok-moves.ensures in rw is at e.via_cost
+pub returns-in-Ok-Some-clause-via_cost : goal.returns-in-Ok-Some-clause-via_cost
+returns-in-Ok-Some-clause-via_cost g c =
+    let is = c.in-Ok-Some.field-0-is in let e = c.in-Ok-Some.ensures in rw is at e.via_cost
 
-pub returns-in-Some-2-clause-penalty : goal.returns-in-Some-2-clause-penalty
-returns-in-Some-2-clause-penalty g c = refl
+pub returns-in-Ok-Some-clause-penalty : goal.returns-in-Ok-Some-clause-penalty
+returns-in-Ok-Some-clause-penalty g c = refl
 
-pub returns-in-Some-2-clause-rip_maps : goal.returns-in-Some-2-clause-rip_maps
-returns-in-Some-2-clause-rip_maps g c =
+pub returns-in-Ok-Some-clause-rip_maps : goal.returns-in-Ok-Some-clause-rip_maps
+returns-in-Ok-Some-clause-rip_maps g c =
     let P : OneMap → Type 0 = λ o. IsMapOf c.args.d.now c.args.lat.now c.args.d.now.fixed o in
-    let e = c.in_ok-moves.ensures in
-    let is = c.in-Some-2.is in
+    let e = c.in-Ok-Some.ensures in
+    let is = c.in-Ok-Some.field-0-is in
     record {
       map_is = rw is at e.map;
       alike = rw is at e.alike;
@@ -87,3 +89,30 @@ returns-in-Some-2-clause-rip_maps g c =
       fixed_alike = c.in-Some.ensures.alike;
       own_is = rw is at e.own;
     }
+
+pub returns-in-Ok-None-clause-none : goal.returns-in-Ok-None-clause-none
+returns-in-Ok-None-clause-none g c = let is = c.in-Ok-None.field-0-is in let e = c.in-Ok-None.ensures in rw is at e.none
+
+pub returns-in-Ok-None-clause-mapped : goal.returns-in-Ok-None-clause-mapped
+returns-in-Ok-None-clause-mapped g c = tt
+
+pub returns-in-Ok-None-clause-lat : goal.returns-in-Ok-None-clause-lat
+returns-in-Ok-None-clause-lat g c = tt
+
+pub returns-in-Ok-None-clause-d : goal.returns-in-Ok-None-clause-d
+returns-in-Ok-None-clause-d g c = tt
+
+pub returns-in-Ok-None-clause-c : goal.returns-in-Ok-None-clause-c
+returns-in-Ok-None-clause-c g c = tt
+
+pub returns-in-Ok-None-clause-net : goal.returns-in-Ok-None-clause-net
+returns-in-Ok-None-clause-net g c = tt
+
+pub returns-in-Ok-None-clause-via_cost : goal.returns-in-Ok-None-clause-via_cost
+returns-in-Ok-None-clause-via_cost g c = tt
+
+pub returns-in-Ok-None-clause-penalty : goal.returns-in-Ok-None-clause-penalty
+returns-in-Ok-None-clause-penalty g c = tt
+
+pub returns-in-Ok-None-clause-rip_maps : goal.returns-in-Ok-None-clause-rip_maps
+returns-in-Ok-None-clause-rip_maps g c = tt

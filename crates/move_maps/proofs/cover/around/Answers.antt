@@ -1,4 +1,4 @@
-use Rattle.std.proofs.Common.{◌≡◌, ◌-ℤ◌, ◌≤◌, ◌^◌, ◌∙◌, ℤ, unsigned_abs, ap, ap₂, subst, sym, arith}
+use Rattle.std.proofs.Common.{◌≡◌, ◌-ℤ◌, ◌≤◌, ◌^◌, ◌∙◌, ℤ, unsigned_abs, ap₂, subst, sym, arith}
 use Rattle.std.proofs.lemmas.Int.{ints}
 use Rattle.geo_kernel.proofs.Bounds.{seen, unseen}
 use Rattle.move_maps.proofs.cover.around.Goals as goal

@@ -1,4 +1,4 @@
-use Rattle.std.proofs.Common.{refl, sym, ◌∙◌, rules, arith}
+use Rattle.std.proofs.Common.{refl, rules, arith}
 use Rattle.pcb_board.specs.declared.board.Board.TheInside.{Inside}
 use Rattle.pcb_board.proofs.Opening.{IsOpened, opened_view, opened_indexed, starts}
 use Rattle.pcb_board.proofs.board.opened.Goals as goal

@@ -1,5 +1,4 @@
 use Rattle.std.proofs.Common.{◌≡◌, ◌<◌, ◌++◌, ◌∷◌, [], List, Some, length, take, refl, sym, ◌∙◌, ap, subst, arith}
-use Rattle.std.proofs.Common.{rules}
 use Rattle.std.specs.Prelude.{All, slice_get}
 use Rattle.std.proofs.lemmas.List.{take_all}
 use Rattle.std.proofs.lemmas.Option.{slice_get_read}
@@ -22,7 +21,7 @@ keep-requires-clause-above c =
     in
     subst (λ (a : Item). All (λ (b : Item). b.id < a.id) c.loop-item.loaded.tiles.items) (sym c.in_ok-copy_item.ensures)
     (subst (λ (xs : List Item). All (λ (b : Item). b.id < c.item-item.result.id) xs) (sym c.loop-item.invariant.tiles)
-    (fixed_below c.args.d.now c.requires c.loop-item.item-index c.item-item.result at))
+    (fixed_below c.args.d.now c.requires.sound c.loop-item.item-index c.item-item.result at))
 
 pub keep-requires-clause-fits : goal.keep-requires-clause-fits
 keep-requires-clause-fits c =
@@ -34,16 +33,7 @@ keep-requires-clause-fits c =
     c.item-item.is)
     in
     subst IsItemFit (sym c.in_ok-copy_item.ensures)
-    (c.requires.fixed c.loop-item.item-index c.item-item.result at).item.fits
-
-pub loop-item-init : goal.loop-item-init
-loop-item-init c = record {
-  tiles = c.in_ok-empty_tiles.ensures.empty;
-  given = search rules;
-  dropped = c.new-2.ensures;
-  area = c.in_ok-empty_tiles.ensures.area;
-  reach = c.in_ok-empty_tiles.ensures.reach;
-}
+    (c.requires.sound.fixed c.loop-item.item-index c.item-item.result at).item.fits
 
 pub loop-item-preserved : goal.loop-item-preserved
 loop-item-preserved c =
@@ -66,6 +56,6 @@ returns c =
     let all : take c.loop-item.item-index c.args.d.now.fixed ≡ c.args.d.now.fixed =
     take_all c.loop-item.item-index c.args.d.now.fixed
     (let e = ap length c.as_slice-item-items.ensures in omega (arith, e, c.loop-item-test.false)) in
-    fixed_all c.args.d.now c.loop-item.loaded c.requires (c.loop-item.invariant.tiles ∙ all)
+    fixed_all c.args.d.now c.loop-item.loaded c.requires.sound (c.loop-item.invariant.tiles ∙ all)
     (c.loop-item.invariant.given ∙ all) c.loop-item.invariant.dropped c.loop-item.invariant.area
     c.loop-item.invariant.reach

@@ -12,7 +12,7 @@ use Rattle.pcb_board.specs.Turning.{is_marked}
 use Rattle.pcb_board.proofs.Opening.{fronts}
 use Rattle.pcb_board.proofs.Turns.{passes_more, fails_more}
 use Rattle.pcb_board.proofs.marks.marked_tiles.Goals as goal
-use Rattle.pcb_board.proofs.marks.marked_tiles.Goals.{then-is_marked+in_ok-add_copy, else-is_marked}
+use Rattle.pcb_board.proofs.marks.marked_tiles.Goals.{then-is_marked+in-Ok, else-is_marked}
 
 pub loop-item-init : goal.loop-item-init
 loop-item-init c = record {
@@ -46,8 +46,8 @@ add_copy-requires-clause-fits c =
 pub loop-item-preserved : goal.loop-item-preserved
 loop-item-preserved c =
     elim c.if-is_marked.branch [
-      | then-is_marked+in_ok-add_copy w ↦
-          let is = w.tiles-is ∙ w.in_ok-add_copy.ensures.ok in record {
+      | then-is_marked+in-Ok w ↦
+          let is = w.tiles-is ∙ w.in-Ok.ensures.ok in record {
             items = passes_more (λ (a : Item). is_marked c.args.marks.now a.id) c.args.given.now c.loop-item.tiles.items
                 c.if-is_marked.tiles.items c.loop-item.item-index c.item-item.result c.loop-item-test.true
                 c.item-item.is (sym c.is_marked.ensures ∙ w.if-is_marked.true) c.loop-item.invariant.items

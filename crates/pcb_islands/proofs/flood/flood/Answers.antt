@@ -1,61 +1,14 @@
-use Rattle.std.proofs.Common.{◌≡◌, ℕ, ◌-◌, ◌<◌, take, vec_len, arith, List, [], ◌∷◌, ◌++◌, sym, ◌∙◌, ap, subst}
-use Rattle.std.proofs.lemmas.List.Elements.{All-contains}
-use Rattle.std.proofs.lemmas.List.{append-nil}
+use Rattle.std.proofs.Common.{◌≡◌, sym, subst}
 use Rattle.std.proofs.lemmas.Result.{IfOk-weaker}
 use Rattle.pcb_islands.specs.Islands.{AreIdsJoined}
-use Rattle.pcb_model.specs.Bounds.{IsItemFit}
-use Rattle.pcb_islands.specs.Flooding.{work, IsTakenIn, IsFlooded}
-use Rattle.pcb_islands.proofs.Flooded.{flood_begins, flood_goes_on, less_work, flood_ends}
+use Rattle.pcb_islands.proofs.Flooded.{flood_ends}
 use Rattle.pcb_islands.proofs.flood.flood.Goals as goal
-
-pub loop-id-init : goal.loop-id-init
-loop-id-init g c = flood_begins _ _ _ _ c.requires.there
-    (subst (λ (r : List ℕ). IsTakenIn r [] (c.args.start.now.id ∷ []) c.take_in.new.reached c.take_in.new.waiting.items)
-    c.new-reached.ensures
-    (subst (λ (w : List ℕ). IsTakenIn c.new-reached.result w (c.args.start.now.id ∷ []) c.take_in.new.reached
-    c.take_in.new.waiting.items) c.new-waiting.ensures.items c.in_ok-take_in.ensures))
-
-pub spread-requires-clause-fits : goal.spread-requires-clause-fits
-spread-requires-clause-fits g c =
-    All-contains IsItemFit (g.C.Copper.items c.args.c.now) c.in-Some-item.a.now c.requires.fit c.in-Some-item.ensures.0
-
-pub loop-id-preserved : goal.loop-id-preserved
-loop-id-preserved g c =
-    let items = g.C.Copper.items c.args.c.now in
-    let a = c.in-Some-item.a.now in
-    let rest = c.pop.new.self.items in
-    let popped : c.loop-id.waiting.items ≡ rest ++ a.id ∷ [] =
-    c.in-Some.ensures.items ∙ ap (λ (q : ℕ). rest ++ q ∷ []) (sym c.in-Some-item.ensures.1) in
-    let before = subst (λ (w : List ℕ). IsFlooded items c.args.start.now c.loop-id.reached w) popped
-    c.loop-id.invariant in
-    let s = c.in_ok-spread.ensures in
-    flood_goes_on items c.args.start.now a _ _ _ _ _ c.requires.in_order c.in-Some-item.ensures.0 before
-    s.1 s.2
-
-pub loop-id-smaller : goal.loop-id-smaller
-loop-id-smaller g c =
-    let items = g.C.Copper.items c.args.c.now in
-    let a = c.in-Some-item.a.now in
-    let rest = c.pop.new.self.items in
-    let popped : c.loop-id.waiting.items ≡ rest ++ a.id ∷ [] =
-    c.in-Some.ensures.items ∙ ap (λ (q : ℕ). rest ++ q ∷ []) (sym c.in-Some-item.ensures.1) in
-    let before = subst (λ (w : List ℕ). IsFlooded items c.args.start.now c.loop-id.reached w) popped
-    c.loop-id.invariant in
-    let s = c.in_ok-spread.ensures in
-    subst (λ (w : List ℕ). work items c.spread.new.reached c.spread.new.waiting.items
-    < work items c.loop-id.reached w) (sym popped)
-    (less_work items c.args.start.now a _ _ _ _ _ c.requires.in_order c.in-Some-item.ensures.0 before
-    s.1 s.2)
 
 pub returns : goal.returns
 returns g c =
     let items = g.C.Copper.items c.args.c.now in
-    let h = c.in_default.ensures in
-    let one_less : vec_len c.loop-id.waiting - 1 ≡ 0 = omega (arith, h.cases.0) in
-    let empty : c.loop-id.waiting.items ≡ [] = h.items ∙ append-nil c.pop.new.self.items ∙ h.rest
-    ∙ ap (λ (n : ℕ). take n c.loop-id.waiting.items) one_less in
-    let ended = flood_ends items c.args.start.now c.loop-id.reached c.requires.there
-    (subst (λ (w : List ℕ). IsFlooded items c.args.start.now c.loop-id.reached w) empty c.loop-id.invariant)
+    let reached = c.reach_all.new.reached in
+    let ended = flood_ends items c.args.start.now reached c.requires.there c.in_ok-reach_all.ensures
     c.to_list.ensures.ascend in
-    IfOk-weaker c.to_list.result (λ ids. ids ≡ c.loop-id.reached) (AreIdsJoined items c.args.start.now)
+    IfOk-weaker c.to_list.result (λ ids. ids ≡ reached) (AreIdsJoined items c.args.start.now)
     (λ ids is. subst (AreIdsJoined items c.args.start.now) (sym is) ended) c.to_list.ensures.list

@@ -1,4 +1,4 @@
-use Rattle.std.proofs.Common.{take, arith, subst}
+use Rattle.std.proofs.Common.{take, arith, sym, subst}
 use Rattle.std.proofs.lemmas.List.Elements.{All-more}
 use Rattle.pcb_model.specs.declared.design.Net.{Net}
 use Rattle.pcb_model.specs.Bounds.{AreRulesWithin}
@@ -18,9 +18,15 @@ loop-n-preserved c =
           (subst P c.n-item.is e.reaches);
       least = omega (arith, e.least, c.loop-n.invariant.least);
       within = e.within;
+      lowest = λ m h all. e.lowest m (c.loop-n.invariant.lowest m h all)
+          (subst (λ (n : Net). AreRulesWithin m n.rules) (sym c.n-item.is)
+          (all c.loop-n.n-index _ c.loop-n-test.true));
     }
 
 pub returns-clause-reaches : goal.returns-clause-reaches
 returns-clause-reaches c =
     All-whole (λ (n : Net). AreRulesWithin c.loop-n.greatest n.rules) c.args.nets.now c.loop-n.n-index (omega arith)
     c.loop-n.invariant.reaches
+
+pub returns-clause-lowest : goal.returns-clause-lowest
+returns-clause-lowest c = c.loop-n.invariant.lowest

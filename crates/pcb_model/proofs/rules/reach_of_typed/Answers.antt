@@ -22,9 +22,18 @@ loop-t-preserved c =
         c.loop-t.invariant.within,
         c.requires.typed c.loop-t.t-index first c.loop-t-test.true,
       );
+      lowest = λ m h all. omega (
+        arith,
+        c.max-greatest.ensures,
+        c.loop-t.invariant.lowest m h all,
+        all c.loop-t.t-index first c.loop-t-test.true,
+      );
     }
 
 pub returns-clause-reaches : goal.returns-clause-reaches
 returns-clause-reaches c =
     All-whole (λ (t : Typed). t.value ≤ c.loop-t.greatest) c.args.ts.now c.loop-t.t-index (omega arith)
     c.loop-t.invariant.reaches
+
+pub returns-clause-lowest : goal.returns-clause-lowest
+returns-clause-lowest c = c.loop-t.invariant.lowest

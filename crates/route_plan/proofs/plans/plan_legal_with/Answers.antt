@@ -28,22 +28,22 @@ remove-island-requires g c =
     omega (arith, many, count)
 
 -- so the plan of its first island may be made
-pub offer_with-requires-clause-can_plan : goal.offer_with-requires-clause-can_plan
-offer_with-requires-clause-can_plan g c =
+pub offer_with-led-requires-clause-can_plan : goal.offer_with-led-requires-clause-can_plan
+offer_with-led-requires-clause-can_plan g c =
     let own = first_net c.args.d.now c.args.snap.now.items c.args.net c.in_ok-others.others c.remove-island.new.self
     c.remove-island.result c.in_ok-others.ensures c.remove-island.ensures.value c.remove-island.ensures.rest in
     subst (λ n. CanPlan c.args.d.now c.args.lat.now c.args.snap.now n c.args.via_cost None) (sym own)
     c.requires.can_plan
 
-pub offer_with-requires-clause-ready : goal.offer_with-requires-clause-ready
-offer_with-requires-clause-ready g c = c.requires.ready
+pub offer_with-led-requires-clause-ready : goal.offer_with-led-requires-clause-ready
+offer_with-led-requires-clause-ready g c = c.requires.ready
 
-pub offer_with-requires-clause-size : goal.offer_with-requires-clause-size
-offer_with-requires-clause-size g c = c.requires.size
+pub offer_with-led-requires-clause-size : goal.offer_with-led-requires-clause-size
+offer_with-led-requires-clause-size g c = c.requires.size
 
 -- the legal moves of the net are those of its first island
-pub offer_with-requires-clause-legal : goal.offer_with-requires-clause-legal
-offer_with-requires-clause-legal g c =
+pub offer_with-led-requires-clause-legal : goal.offer_with-led-requires-clause-legal
+offer_with-led-requires-clause-legal g c =
     let d = c.args.d.now in
     let m = c.args.lat.now in
     let items = c.args.snap.now.items in
@@ -54,8 +54,8 @@ offer_with-requires-clause-legal g c =
     c.requires.legal
 
 -- no walk leads from the first island, on each board of the snapshot
-pub returns-in-Shut-clause-plan : goal.returns-in-Shut-clause-plan
-returns-in-Shut-clause-plan g c = λ b of.
+pub returns-in-Ok-Shut-clause-plan : goal.returns-in-Ok-Shut-clause-plan
+returns-in-Ok-Shut-clause-plan g c = λ b of.
     let d = c.args.d.now in
     let m = c.args.lat.now in
     let s = c.args.snap.now in
@@ -67,25 +67,25 @@ returns-in-Shut-clause-plan g c = λ b of.
     let others = c.remove-island.new.self in
     let first = c.remove-island.ensures.value in
     let rest = c.remove-island.ensures.rest in
-    let leads = first_leads d m s net cost b c.args.worker found others island c.in_ok-reach.field-0 can of
+    let leads = first_leads d m s net cost b c.args.worker found others island c.in-Ok-Shut.field-0 can of
     c.in_ok-others.ensures first rest
-    (λ place. c.in_ok-reach.ensures.leads b place of) in
-    let shut = subst (LeadsFrom m cost b c.args.worker island others) c.in-Shut.is leads.1 in
+    (λ place. c.in-Ok-Shut.ensures.leads b place of) in
+    let shut = subst (LeadsFrom m cost b c.args.worker island others) c.in-Ok-Shut.field-0-is leads.1 in
     let several : 1 < length found = omega (arith, c.if-len-le1.false, c.len.ensures) in
-    shut_first b.design m b.items net cost found others island c.in-Shut.reach.nodes
+    shut_first b.design m b.items net cost found others island c.in-Ok-Shut.reach.nodes
     (on_board d m s net cost b (λ d xs. AreIslands d xs net found) can.own of c.in_ok-others.ensures) first rest
     (some_left found others island first rest several) leads.0 shut
 
 -- the first island's offer, on each board of the snapshot
-pub returns-clause-plan : goal.returns-clause-plan
-returns-clause-plan g c = λ b of.
+pub returns-in-Ok-Offer-clause-plan : goal.returns-in-Ok-Offer-clause-plan
+returns-in-Ok-Offer-clause-plan g c = λ b of.
     let m = c.args.lat.now in
     let cost = c.args.via_cost in
     let island = c.remove-island.result in
     let others = c.remove-island.new.self in
     let leads = first_leads c.args.d.now m c.args.snap.now c.args.net cost b c.args.worker c.in_ok-others.others others
-    island c.in_ok-reach.field-0
+    island c.in-Ok-Offer.field-0
     c.requires.can_plan of c.in_ok-others.ensures c.remove-island.ensures.value c.remove-island.ensures.rest
-    (λ place. c.in_ok-reach.ensures.leads b place of) in
-    let offer = subst (LeadsFrom m cost b c.args.worker island others) c.in-Offer.is leads.1 in
-    subst (λ n. IsOfferOf m cost b c.args.worker n None c.in-Offer.offer) leads.0 offer.0
+    (λ place. c.in-Ok-Offer.ensures.leads b place of) in
+    let offer = subst (LeadsFrom m cost b c.args.worker island others) c.in-Ok-Offer.field-0-is leads.1 in
+    subst (λ n. IsOfferOf m cost b c.args.worker n None c.in-Ok-Offer.offer) leads.0 offer.0

@@ -1,5 +1,5 @@
 use Rattle.std.proofs.Common.{true≢false, sym, ◌∙◌}
-use Rattle.std.proofs.lemmas.List.Elements.{All-contains}
+use Rattle.std.proofs.lemmas.List.Elements.{All-contains, Contains-get_or}
 use Rattle.pcb_model.specs.Sound.{IsItemOf, Serves}
 use Rattle.route_plan.proofs.Anchoring.{none_there, not_there, none_more, none_among}
 use Rattle.route_plan.proofs.route.anchored_among.Goals as goal
@@ -28,3 +28,12 @@ pub returns : goal.returns
 returns g c = none_among c.args.d.now c.args.lat.now
     (g.C.Copper.items c.args.c.now) c.args.node c.args.ids.now c.loop-id.id-index c.loop-id-test.false
     c.loop-id.invariant
+
+pub returns-then-anchor : goal.returns-then-anchor
+returns-then-anchor g c = record {
+  item = c.in-Some.item.now;
+  there = c.in-Some.ensures.0;
+  id_is = c.in-Some.ensures.1;
+  asked = Contains-get_or c.args.ids.now c.loop-id.id-index 0 c.loop-id-test.true;
+  anchors = c.anchor.ensures.0 c.if-anchor.true;
+}

@@ -1,9 +1,28 @@
-use Rattle.route_lattice.specs.Legal.{legal_graph}
+use Rattle.std.proofs.Common.{◌≡◌, ℕ, sym, subst}
+use Rattle.pcb_model.specs.declared.design.Design.{Design}
+use Rattle.pcb_model.specs.Sound.{Serves}
+use Rattle.pcb_board.specs.Boards.{SnapOf}
+use Rattle.route_lattice.specs.Mesh.{Mesh}
+use Rattle.route_lattice.specs.Legal.{CanMove, legal_graph}
+use Rattle.cut_certificate.specs.Same.{SameMoves}
 use Rattle.cut_certificate.proofs.Same.{same_self}
+use Rattle.route_plan.proofs.Planning.{can_move}
 use Rattle.route_plan.proofs.searches.plan_legal_in.Goals as goal
+
+pub plan_legal_with-requires-clause-ready : goal.plan_legal_with-requires-clause-ready
+plan_legal_with-requires-clause-ready c =
+    let e = c.of-legal.ensures in
+    let a = c.args in
+    let can = c.requires.can_plan in
+    subst (λ (y : Design × Mesh × SnapOf × ℕ × ℕ).
+    CanMove y.0 y.1 y.3 y.4 × ((y.2.design ≡ y.0) × Serves y.2.items y.0))
+    (λ i. (sym e.d i, sym e.lat i, sym e.c i, sym e.net i, sym e.via_cost i))
+    (can_move a.d.now a.lat.now a.snap.now a.net a.via_cost _ can, (can.own, can.serves))
 
 pub plan_legal_with-requires-clause-legal : goal.plan_legal_with-requires-clause-legal
 plan_legal_with-requires-clause-legal c =
     let e = c.of-legal.ensures in
-    rw (e.d, e.lat, e.c, e.net, e.via_cost)
-    (same_self (legal_graph c.args.d.now c.args.lat.now c.args.snap.now.items c.args.net c.args.via_cost))
+    let a = c.args in
+    let own = legal_graph a.d.now a.lat.now a.snap.now.items a.net a.via_cost in
+    subst (λ (y : Design × Mesh × SnapOf × ℕ × ℕ). SameMoves (legal_graph y.0 y.1 y.2.items y.3 y.4) own)
+    (λ i. (sym e.d i, sym e.lat i, sym e.c i, sym e.net i, sym e.via_cost i)) (same_self own)

@@ -1,12 +1,17 @@
+use Rattle.std.proofs.Common.{ℕ, sym, subst}
+use Rattle.pcb_model.specs.declared.design.Design.{Design}
+use Rattle.pcb_board.specs.Boards.{SnapOf}
+use Rattle.route_lattice.specs.Mesh.{Mesh}
 use Rattle.ripup.specs.Rips.{rip_graph}
+use Rattle.cut_certificate.specs.Same.{SameMoves}
 use Rattle.cut_certificate.proofs.Same.{same_self}
 use Rattle.route_plan.proofs.Searching.{can_rip}
 use Rattle.route_plan.proofs.searches.plan_passing_by_maps.Goals as goal
 
-pub plan_passing_with-requires-clause-ready : goal.plan_passing_with-requires-clause-ready
-plan_passing_with-requires-clause-ready c =
-    let e = c.in_ok-moves.ensures in
-    let is = c.in-Some-2.is in
+pub plan_passing_with-planned-requires-clause-ready : goal.plan_passing_with-planned-requires-clause-ready
+plan_passing_with-planned-requires-clause-ready c =
+    let e = c.in-Ok-Some.ensures in
+    let is = c.in-Ok-Some.field-0-is in
     let can = c.requires.can_plan in
     rw (rw is at e.d, rw is at e.lat, rw is at e.c, rw is at e.net, rw is at e.via_cost, rw is at e.penalty) (
       (
@@ -16,9 +21,17 @@ plan_passing_with-requires-clause-ready c =
       rw is at e.rip_maps,
     )
 
-pub plan_passing_with-requires-clause-moves : goal.plan_passing_with-requires-clause-moves
-plan_passing_with-requires-clause-moves c =
-    let e = c.in_ok-moves.ensures in
-    let is = c.in-Some-2.is in
-    rw (rw is at e.d, rw is at e.lat, rw is at e.c, rw is at e.net, rw is at e.via_cost, rw is at e.penalty)
-    (same_self (rip_graph c.args.d.now c.args.lat.now c.args.snap.now.items c.args.net c.args.via_cost c.args.penalty))
+pub plan_passing_with-planned-requires-clause-moves : goal.plan_passing_with-planned-requires-clause-moves
+plan_passing_with-planned-requires-clause-moves c =
+    let e = c.in-Ok-Some.ensures in
+    let is = c.in-Ok-Some.field-0-is in
+    let a = c.args in
+    let own = rip_graph a.d.now a.lat.now a.snap.now.items a.net a.via_cost a.penalty in
+    let d = rw is at e.d in
+    let lat = rw is at e.lat in
+    let copper = rw is at e.c in
+    let net = rw is at e.net in
+    let cost = rw is at e.via_cost in
+    let penalty = rw is at e.penalty in
+    subst (λ (y : Design × Mesh × SnapOf × ℕ × ℕ × ℕ). SameMoves (rip_graph y.0 y.1 y.2.items y.3 y.4 y.5) own)
+    (λ i. (sym d i, sym lat i, sym copper i, sym net i, sym cost i, sym penalty i)) (same_self own)

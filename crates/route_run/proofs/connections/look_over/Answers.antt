@@ -5,20 +5,20 @@ use Rattle.pcb_board.specs.Boards.{SnapOf}
 use Rattle.route_run.specs.Passing.{AreOpenNets}
 use Rattle.route_run.proofs.connections.look_over.Goals as goal
 
-pub gather-requires-clause-sound : goal.gather-requires-clause-sound
-gather-requires-clause-sound c =
+pub gather-gathered-requires-clause-sound : goal.gather-gathered-requires-clause-sound
+gather-gathered-requires-clause-sound c =
     subst (λ (s : SnapOf). IsSound s.design) (sym c.in_ok-snap.ensures) c.keeps.ensures.sound
 
-pub gather-requires-clause-serves : goal.gather-requires-clause-serves
-gather-requires-clause-serves c = subst (λ (s : SnapOf). Serves s.items s.design) (sym c.in_ok-snap.ensures)
+pub gather-gathered-requires-clause-serves : goal.gather-gathered-requires-clause-serves
+gather-gathered-requires-clause-serves c = subst (λ (s : SnapOf). Serves s.items s.design) (sym c.in_ok-snap.ensures)
     (c.boards_serve.ensures.serves c.args.board.now c.keeps.ensures)
 
-pub returns : goal.returns
-returns c =
-    let nets = c.gather.new.nets in
-    let is = c.in_ok-count.ensures in
+pub returns-in-Ok : goal.returns-in-Ok
+returns-in-Ok c =
+    let nets = c.gather-gathered.new.nets in
+    let is = c.in-Ok.ensures in
     record {
       few = subst (λ (s : SnapOf). vec_len nets ≤ length s.design.nets) c.in_ok-snap.ensures is.few;
-      are = subst (λ (s : SnapOf). AreOpenNets s.design s.items (length s.design.nets) nets.items c.in_ok-count.count)
+      are = subst (λ (s : SnapOf). AreOpenNets s.design s.items (length s.design.nets) nets.items c.in-Ok.count)
           c.in_ok-snap.ensures is.are;
     }

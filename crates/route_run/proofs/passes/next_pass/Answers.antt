@@ -13,7 +13,7 @@ pass_by-requires-clause-open_nets g c =
 
 pub pass_by-requires-clause-base : goal.pass_by-requires-clause-base
 pass_by-requires-clause-base g c =
-    let h = c.in_ok-base.ensures in search (rules, h)
+    let h = c.in-Ok.ensures in search (rules, h)
 
 pub returns : goal.returns
 returns g c = c.pass_by.ensures

@@ -19,7 +19,7 @@ returns g c =
     let made = c.in_ok-made.made in
     let is = c.in_ok-made.ensures.made in
     let seen = still_seen c.args.lat.now c.args.board made.board c.args.base
-    (grown_by p c.args.board made.board is.grows) c.requires.base in
+    (grown_by p c.args.board made.board is.nets.grows) c.requires.base in
     IfOk-weaker c.stand_after.result
     (λ (r : Stand × Bool). StandsAfter c.args.number made c.args.base c.args.lines.now r.0 c.stand_after.new.lines r.1)
     (λ (r : Stand × Bool). IsOneMore p c.args.number c.args.board c.args.lines.now r.0 c.stand_after.new.lines r.1)

@@ -51,14 +51,14 @@ returns-then-not-more-clause-ended g c =
     subst (λ (k : ℕ). EndsBy (k + 1) one.made.line one.made.full) (sym before.count)
     (one.stands.ended (ap not c.if-not-more.true)) in
     subst (HaveEnded r next.board) (sym one.stands.lines_are)
-    (ended_by m r next.board c.loop-k.lines one.made.line one.made.full has by is.spent)
+    (ended_by m r next.board c.loop-k.lines one.made.line one.made.full has by is.nets.spent)
 
 pub returns-then-not-more-clause-same : goal.returns-then-not-more-clause-same
 returns-then-not-more-clause-same g c =
     let p = pass_at c.args.lat.now c.args.via_cost c.args.workers (c.loop-k.k + 1) in
     let is = made_on p (c.loop-k.k + 1) c.loop-k.stand.board c.loop-k.lines c.in_ok-next.next _ c.in_ok-next.more
     c.in_ok-next.ensures in
-    stays_on p c.args.stand.board c.loop-k.stand.board c.in_ok-next.next.board c.loop-k.invariant.same is.grows
+    stays_on p c.args.stand.board c.loop-k.stand.board c.in_ok-next.next.board c.loop-k.invariant.same is.nets.grows
 
 pub loop-k-preserved : goal.loop-k-preserved
 loop-k-preserved g c =
@@ -81,7 +81,7 @@ loop-k-preserved g c =
           let more = length-append c.loop-k.lines (one.made.line ∷ []) in
           omega (arith, long, more, before.count));
       ready = ready_on p (c.loop-k.k + 1) c.loop-k.stand.board c.loop-k.lines next _ c.in_ok-next.more one;
-      same = stays_on p c.args.stand.board c.loop-k.stand.board next.board before.same is.grows;
+      same = stays_on p c.args.stand.board c.loop-k.stand.board next.board before.same is.nets.grows;
     }
 
 pub returns-clause-ended : goal.returns-clause-ended

@@ -6,7 +6,7 @@ returns c = record {
   board_is = refl;
   open_nets_are = refl;
   last_is = refl;
-  lines_are = c.in_ok-push.ensures.ok;
+  lines_are = c.in-Ok.ensures.ok;
   goes_on = c.may_follow-more.ensures.more;
   ended = c.may_follow-more.ensures.ended;
 }

@@ -6,6 +6,6 @@ returns c = rw (
   c.grid.ensures,
   c.from.ensures,
   c.count.ensures.nodes,
-  c.in_ok-complete.ensures.0,
-  c.in_ok-complete.ensures.1,
+  c.in-Ok.ensures.0,
+  c.in-Ok.ensures.1,
 ) refl

@@ -4,7 +4,7 @@ use Rattle.std.proofs.lemmas.Int.{to_z-of_z, fits_signed_from_abs}
 use mir.Syntax.{w64, w128}
 use mir.Val.{SFits}
 use Rattle.geo_kernel.proofs.Bounds.{seen, seen_wide, unseen}
-use Rattle.ses_reader.proofs.Fractions.{coord_far, coord_value}
+use Rattle.ses_reader.proofs.Fractions.{coord_far, coord_past, coord_value}
 use Rattle.ses_reader.proofs.measure.coord.Goals as goal
 
 -- a number within the limit of coordinates fits 64 bits
@@ -28,6 +28,16 @@ overflow_cast-result c =
     let r = c.nearest-nearest.result in
     let few : unsigned_abs (seen_wide r) ≤ 2 ^ 29 = omega (arith, c.unsigned_abs.ensures.value) in
     fits_signed_from_abs w64 (seen_wide r) (far_below (seen_wide r) few)
+
+pub returns-then-unsigned_abs : goal.returns-then-unsigned_abs
+returns-then-unsigned_abs c =
+    let r = c.nearest-nearest.result in
+    let fits : SFits w128 r = search rules in
+    let same : seen_wide r ≡ r = to_z-of_z w128 r fits in
+    let far : 2 ^ 29 < unsigned_abs (seen_wide r) = omega (arith, c.unsigned_abs.ensures.value) in
+    sym (coord_past c.args.m c.args.d.now r
+    (c.nearest-nearest.ensures ∙ c.in-Some.ensures.nearest_is c.args.d.now.negative)
+    (subst (λ z. 2 ^ 29 < unsigned_abs z) same far))
 
 pub returns : goal.returns
 returns c =

@@ -1,4 +1,4 @@
-use Rattle.std.proofs.Common.{List, refl, ap, subst, ◌++◌, flat_map}
+use Rattle.std.proofs.Common.{List, refl, subst, flat_map}
 use Rattle.pcb_model.specs.declared.item.Piece.{Piece}
 use Rattle.ses_writer.specs.Words.{Appends}
 use Rattle.ses_writer.specs.Session.{shape_line}

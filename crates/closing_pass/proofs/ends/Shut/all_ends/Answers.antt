@@ -1,4 +1,6 @@
-use Rattle.closing_pass.proofs.Ending.{ends_more}
+use Rattle.std.proofs.Common.{sym, subst}
+use Rattle.closing_pass.specs.Closing.{AreEnds}
+use Rattle.closing_pass.proofs.Ending.{ends_none, ends_more}
 use Rattle.closing_pass.proofs.ends.Shut.all_ends.Goals as goal
 
 pub loop-net-preserved : goal.loop-net-preserved
@@ -6,3 +8,9 @@ loop-net-preserved c =
     ends_more c.args.self.now.d.now c.args.self.now.lat.now c.args.self.now.via_cost c.args.self.now.snap.now.items
     c.loop-net.net c.loop-net.ends c.push.new.self c.in_ok-cuts.cuts
     c.loop-net.invariant c.in_ok-cuts.ensures c.in_ok-push.ensures.ok
+
+pub loop-net-init : goal.loop-net-init
+loop-net-init c =
+    let s = c.args.self.now in
+    subst (AreEnds s.d.now s.lat.now s.via_cost s.snap.now.items 0) (sym c.new-ends.ensures)
+    (ends_none s.d.now s.lat.now s.via_cost s.snap.now.items)

@@ -40,33 +40,33 @@ pub cut_of-requires-clause-maps : goal.cut_of-requires-clause-maps
 cut_of-requires-clause-maps c = c.requires.maps
 
 -- no walk leads on from the island, so it has a cut
-pub unreachable-unreachable : goal.unreachable-unreachable
-unreachable-unreachable c =
+pub unreachable-requires : goal.unreachable-requires
+unreachable-requires c =
     let s = c.args.self.now in
     c.requires.shut c.remove-island.result c.remove-island.ensures.value
     (subst (λ (os : List Island). LeadsOn s.d.now s.lat.now s.snap.now.items s.via_cost c.remove-island.result os)
     c.remove-island.ensures.rest
     (subst (Cuts s.d.now s.lat.now s.snap.now.items s.via_cost c.remove-island.result c.remove-island.new.self)
-    c.in_default.is c.in_ok-made.ensures))
+    c.in-Ok-None.field-0-is c.in-Ok-None.ensures))
 
 pub put_back-requires : goal.put_back-requires
 put_back-requires c =
     subst (λ (os : List Island). c.args.place ≤ length os) (sym c.remove-island.ensures.rest)
     (place_within c.args.found c.args.place c.requires.place)
 
-pub returns-clause-found : goal.returns-clause-found
-returns-clause-found c =
-    c.in_ok-found.ensures ∙ ap (λ (xs : List Island). insert xs c.args.place c.remove-island.result)
+pub returns-in-Ok-clause-found : goal.returns-in-Ok-clause-found
+returns-in-Ok-clause-found c =
+    c.in-Ok.ensures ∙ ap (λ (xs : List Island). insert xs c.args.place c.remove-island.result)
     c.remove-island.ensures.rest
     ∙ put_again c.args.found c.args.place c.remove-island.result c.remove-island.ensures.value
 
 -- the cut of what was taken out is that of the island at the place
-pub returns-clause-cut : goal.returns-clause-cut
-returns-clause-cut c = λ island there.
+pub returns-in-Ok-clause-cut : goal.returns-in-Ok-clause-cut
+returns-in-Ok-clause-cut c = λ island there.
     let s = c.args.self.now in
-    subst (λ (os : List Island). Cuts s.d.now s.lat.now s.snap.now.items s.via_cost island os (Some c.in-Some.cut))
+    subst (λ (os : List Island). Cuts s.d.now s.lat.now s.snap.now.items s.via_cost island os (Some c.in-Ok-Some.cut))
     c.remove-island.ensures.rest
     (subst (λ (o : Option Island). IfSome o (λ i. Cuts s.d.now s.lat.now s.snap.now.items s.via_cost i
-    c.remove-island.new.self (Some c.in-Some.cut))) (sym c.remove-island.ensures.value ∙ there)
+    c.remove-island.new.self (Some c.in-Ok-Some.cut))) (sym c.remove-island.ensures.value ∙ there)
     (subst (Cuts s.d.now s.lat.now s.snap.now.items s.via_cost c.remove-island.result c.remove-island.new.self)
-    c.in-Some.is c.in_ok-made.ensures))
+    c.in-Ok-Some.field-0-is c.in-Ok-Some.ensures))

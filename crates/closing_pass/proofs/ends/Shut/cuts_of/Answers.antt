@@ -1,9 +1,10 @@
-use Rattle.std.proofs.Common.{◌≡◌, ◌∙◌, sym, subst, List, Some}
+use Rattle.std.proofs.Common.{◌≡◌, ◌∙◌, refl, sym, subst, List, Some}
 use Rattle.std.specs.List.{slice_get, remove}
 use Rattle.pcb_islands.specs.declared.net.Island.{Island}
+use Rattle.pcb_islands.specs.Islands.{AreIslands}
 use Rattle.cut_certificate.specs.Cuts.{Cuts}
 use Rattle.closing_pass.specs.Steps.{IsShutAt}
-use Rattle.closing_pass.proofs.Ending.{cuts_more}
+use Rattle.closing_pass.proofs.Ending.{HaveCutsTo, cuts_none, cuts_more}
 use Rattle.closing_pass.proofs.ends.Shut.cuts_of.Goals as goal
 
 pub loop-place-preserved : goal.loop-place-preserved
@@ -28,3 +29,17 @@ cut_at-requires-clause-shut c =
     subst (λ (fs : List Island). IsShutAt c.args.self.now.d.now c.args.self.now.lat.now c.args.self.now.via_cost
     c.args.self.now.snap.now.items fs c.loop-place.place)
     (sym c.loop-place.invariant.found) (c.requires.shut c.loop-place.place)
+
+pub cut_at-requires-clause-islands : goal.cut_at-requires-clause-islands
+cut_at-requires-clause-islands c =
+    subst (AreIslands c.args.self.now.d.now c.args.self.now.snap.now.items c.args.net)
+    (sym c.loop-place.invariant.found) c.requires.islands
+
+pub loop-place-init : goal.loop-place-init
+loop-place-init c =
+    let s = c.args.self.now in
+    record {
+      found = refl;
+      cuts = subst (HaveCutsTo s.d.now s.lat.now s.via_cost s.snap.now.items c.args.found 0) (sym c.new-cuts.ensures)
+          (cuts_none s.d.now s.lat.now s.via_cost s.snap.now.items c.args.found);
+    }

@@ -1,10 +1,10 @@
-use Rattle.std.proofs.Common.{◌∙◌, ◌<◌, ap, subst, sym, refl, length, List, None}
+use Rattle.std.proofs.Common.{◌∙◌, ◌<◌, ◌≤◌, ap, subst, sym, refl, length, List, None}
 use Rattle.std.specs.List.{insert}
 use Rattle.pcb_islands.specs.declared.net.Island.{Island}
 use Rattle.pcb_board.specs.Boards.{BoardOf}
 use Rattle.route_plan.specs.Plans.{LeadsFrom, IsOfferOf}
 use Rattle.closing_pass.specs.Steps.{HasFewer}
-use Rattle.closing_pass.proofs.Places.{put_again}
+use Rattle.closing_pass.proofs.Places.{place_within, put_again}
 use Rattle.closing_pass.proofs.Joining.{net_at, led_on, shut_at, fewer_join, joins_net}
 use Rattle.closing_pass.proofs.Closings.{net_none}
 use Rattle.closing_pass.proofs.Readiness.{ready_on}
@@ -26,8 +26,8 @@ take-requires-clause-may c =
     let others = c.remove-island.new.self in
     let island = c.remove-island.result in
     let led = subst (LeadsFrom m cost b 16 island others) c.in-Offer.is
-    (led_on b m cost c.args.net c.args.place found others island c.in_ok-led.led c.requires.islands
-    c.remove-island.ensures.value c.remove-island.ensures.rest c.in_ok-led.ensures.leads) in
+    (led_on b m cost c.args.net c.args.place found others island c.in-Ok.led c.requires.islands
+    c.remove-island.ensures.value c.remove-island.ensures.rest c.in-Ok.ensures.leads) in
     led.0.may
 
 pub take-requires-clause-closer : goal.take-requires-clause-closer
@@ -39,13 +39,13 @@ take-requires-clause-closer c =
     let others = c.remove-island.new.self in
     let island = c.remove-island.result in
     let led = subst (LeadsFrom m cost b 16 island others) c.in-Offer.is
-    (led_on b m cost c.args.net c.args.place found others island c.in_ok-led.led c.requires.islands
-    c.remove-island.ensures.value c.remove-island.ensures.rest c.in_ok-led.ensures.leads) in
+    (led_on b m cost c.args.net c.args.place found others island c.in-Ok.led c.requires.islands
+    c.remove-island.ensures.value c.remove-island.ensures.rest c.in-Ok.ensures.leads) in
     led.0.worker_is
 
 pub returns-in-Shut-clause-found : goal.returns-in-Shut-clause-found
 returns-in-Shut-clause-found c =
-    c.in_ok-found.ensures ∙ ap (λ (xs : List Island). insert xs c.args.place c.remove-island.result)
+    c.in-Ok-put_back.ensures ∙ ap (λ (xs : List Island). insert xs c.args.place c.remove-island.result)
     c.remove-island.ensures.rest
     ∙ put_again c.args.found c.args.place c.remove-island.result c.remove-island.ensures.value
 
@@ -58,9 +58,9 @@ returns-in-Shut-clause-tries c =
     let others = c.remove-island.new.self in
     let island = c.remove-island.result in
     let led = subst (LeadsFrom m cost b 16 island others) c.in-Shut.is
-    (led_on b m cost c.args.net c.args.place found others island c.in_ok-led.led c.requires.islands
-    c.remove-island.ensures.value c.remove-island.ensures.rest c.in_ok-led.ensures.leads) in (
-      shut_at b m cost c.args.place found others island c.in-Shut.field-0.nodes c.remove-island.ensures.value
+    (led_on b m cost c.args.net c.args.place found others island c.in-Ok.led c.requires.islands
+    c.remove-island.ensures.value c.remove-island.ensures.rest c.in-Ok.ensures.leads) in (
+      shut_at b m cost c.args.place found others island c.in-Shut.reach.nodes c.remove-island.ensures.value
           c.remove-island.ensures.rest led,
       refl,
     )
@@ -68,14 +68,14 @@ returns-in-Shut-clause-tries c =
 pub returns-in-Shut-clause-joins : goal.returns-in-Shut-clause-joins
 returns-in-Shut-clause-joins c = net_none c.args.self.now.lat.now c.args.self.now.via_cost c.args.net c.args.board.now
 
-pub returns-clause-found : goal.returns-clause-found
-returns-clause-found c =
-    c.in_ok-found.ensures ∙ ap (λ (xs : List Island). insert xs c.args.place c.remove-island.result)
+pub returns-in-Ok-take-clause-found : goal.returns-in-Ok-take-clause-found
+returns-in-Ok-take-clause-found c =
+    c.in-Ok-put_back.ensures ∙ ap (λ (xs : List Island). insert xs c.args.place c.remove-island.result)
     c.remove-island.ensures.rest
     ∙ put_again c.args.found c.args.place c.remove-island.result c.remove-island.ensures.value
 
-pub returns-clause-fewer : goal.returns-clause-fewer
-returns-clause-fewer c = λ t.
+pub returns-in-Ok-take-clause-fewer : goal.returns-in-Ok-take-clause-fewer
+returns-in-Ok-take-clause-fewer c = λ t.
     let b = c.args.board.now in
     let m = c.args.self.now.lat.now in
     let cost = c.args.self.now.via_cost in
@@ -83,20 +83,20 @@ returns-clause-fewer c = λ t.
     let others = c.remove-island.new.self in
     let island = c.remove-island.result in
     let led = subst (LeadsFrom m cost b 16 island others) c.in-Offer.is
-    (led_on b m cost c.args.net c.args.place found others island c.in_ok-led.led c.requires.islands
-    c.remove-island.ensures.value c.remove-island.ensures.rest c.in_ok-led.ensures.leads) in
+    (led_on b m cost c.args.net c.args.place found others island c.in-Ok.led c.requires.islands
+    c.remove-island.ensures.value c.remove-island.ensures.rest c.in-Ok.ensures.leads) in
     let net_is = net_at b.design b.items c.args.net found c.args.place island c.requires.islands
     c.remove-island.ensures.value in
     let of : IsOfferOf m cost b 16 c.args.net None c.in-Offer.offer = subst
     (λ n. IsOfferOf m cost b 16 n None c.in-Offer.offer) net_is led.0 in
-    subst (λ (x : BoardOf). HasFewer c.args.net x found) (sym c.in_ok-take-in-Offer.ensures.ok)
+    subst (λ (x : BoardOf). HasFewer c.args.net x found) (sym c.in-Ok-take.ensures.ok)
     (fewer_join m cost b c.in-Offer.offer c.args.net found c.joining_falls.ensures.fewer c.islands_are_one.ensures
     c.keeps.ensures
     (c.boards_serve.ensures.serves b c.keeps.ensures) (c.boards_serve.ensures.ascends b c.keeps.ensures)
     c.requires.islands of led.1)
 
-pub returns-clause-joins : goal.returns-clause-joins
-returns-clause-joins c =
+pub returns-in-Ok-take-clause-joins : goal.returns-in-Ok-take-clause-joins
+returns-in-Ok-take-clause-joins c =
     let b = c.args.board.now in
     let m = c.args.self.now.lat.now in
     let cost = c.args.self.now.via_cost in
@@ -104,17 +104,17 @@ returns-clause-joins c =
     let others = c.remove-island.new.self in
     let island = c.remove-island.result in
     let led = subst (LeadsFrom m cost b 16 island others) c.in-Offer.is
-    (led_on b m cost c.args.net c.args.place found others island c.in_ok-led.led c.requires.islands
-    c.remove-island.ensures.value c.remove-island.ensures.rest c.in_ok-led.ensures.leads) in
+    (led_on b m cost c.args.net c.args.place found others island c.in-Ok.led c.requires.islands
+    c.remove-island.ensures.value c.remove-island.ensures.rest c.in-Ok.ensures.leads) in
     let net_is = net_at b.design b.items c.args.net found c.args.place island c.requires.islands
     c.remove-island.ensures.value in
     let of : IsOfferOf m cost b 16 c.args.net None c.in-Offer.offer = subst
     (λ n. IsOfferOf m cost b 16 n None c.in-Offer.offer) net_is led.0 in
     joins_net m cost b c.take.new.board c.in-Offer.offer c.args.net c.keeps.ensures of led.1
-    c.in_ok-take-in-Offer.ensures.ok
+    c.in-Ok-take.ensures.ok
 
-pub returns-clause-ready : goal.returns-clause-ready
-returns-clause-ready c =
+pub returns-in-Ok-take-clause-ready : goal.returns-in-Ok-take-clause-ready
+returns-in-Ok-take-clause-ready c =
     let b = c.args.board.now in
     let m = c.args.self.now.lat.now in
     let cost = c.args.self.now.via_cost in
@@ -122,12 +122,17 @@ returns-clause-ready c =
     let others = c.remove-island.new.self in
     let island = c.remove-island.result in
     let led = subst (LeadsFrom m cost b 16 island others) c.in-Offer.is
-    (led_on b m cost c.args.net c.args.place found others island c.in_ok-led.led c.requires.islands
-    c.remove-island.ensures.value c.remove-island.ensures.rest c.in_ok-led.ensures.leads) in
+    (led_on b m cost c.args.net c.args.place found others island c.in-Ok.led c.requires.islands
+    c.remove-island.ensures.value c.remove-island.ensures.rest c.in-Ok.ensures.leads) in
     let net_is = net_at b.design b.items c.args.net found c.args.place island c.requires.islands
     c.remove-island.ensures.value in
     let of : IsOfferOf m cost b 16 c.args.net None c.in-Offer.offer = subst
     (λ n. IsOfferOf m cost b 16 n None c.in-Offer.offer) net_is led.0 in
     let joins = joins_net m cost b c.take.new.board c.in-Offer.offer c.args.net c.keeps.ensures of led.1
-    c.in_ok-take-in-Offer.ensures.ok in
-    ready_on m cost b c.take.new.board c.led_at.new.means joins.closes c.in_ok-led.ensures.ready
+    c.in-Ok-take.ensures.ok in
+    ready_on m cost b c.take.new.board c.led_at.new.means joins.closes c.in-Ok.ensures.ready
+
+pub put_back-requires : goal.put_back-requires
+put_back-requires c =
+    subst (λ (os : List Island). c.args.place ≤ length os) (sym c.remove-island.ensures.rest)
+    (place_within c.args.found c.args.place c.requires.place)

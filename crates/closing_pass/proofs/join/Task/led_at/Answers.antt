@@ -47,6 +47,8 @@ returns-clause-leads c =
 pub returns-clause-ready : goal.returns-clause-ready
 returns-clause-ready c = record {
   size = c.offer_by_maps-led.ensures.size ∙ c.requires.ready.size;
-  seen = seen_now c.args.self.now.lat.now c.args.board.now c.in_ok-snap.snap c.in_ok-seen.seen c.keeps.ensures
-      c.in_ok-snap.ensures c.in_ok-seen.ensures;
+  seen = subst (λ (o : Option Sight). IfSome o (IsSeenOn c.args.self.now.lat.now c.args.board.now))
+      (sym c.replace.ensures.after)
+      (seen_now c.args.self.now.lat.now c.args.board.now c.in_ok-snap.snap c.in_ok-seen.seen c.keeps.ensures
+      c.in_ok-snap.ensures c.in_ok-seen.ensures);
 }

@@ -1,6 +1,5 @@
 use Rattle.std.proofs.Common.{◌∙◌, sym, ap, subst}
 use Rattle.std.specs.Prelude.{min}
-use Rattle.std.specs.Bool.{OnTrue}
 use Rattle.route_lattice.specs.Legal.{probe_at}
 use Rattle.ripup.specs.Rips.{IsCharged}
 use Rattle.move_maps.specs.Windows.{IsOutOfAll}
@@ -22,8 +21,7 @@ returns-clause-counted g c =
     let s = c.args.self.now.moves in
     let t = s.by_map.legal in
     let items = g.C.Copper.items t.c.now in
-    let out : IsOutOfAll t.lat.now s.own c.args.node =
-    subst (λ b. OnTrue b (IsOutOfAll t.lat.now s.own c.args.node)) c.if-not-is_off.false c.is_off.ensures in
+    let out : IsOutOfAll t.lat.now s.own c.args.node = c.is_off.ensures.0 c.if-not-is_off.false in
     subst (IsCharged t.d.now items t.net (probe_at t.d.now t.lat.now t.net c.args.node c.args.i))
     (sym (c.at_most_charged.ensures ∙ ap (λ n. min n 16) c.saturating_sub.ensures))
     (off_here t.d.now t.lat.now items t.net s.by_map.map.now c.args.self.now.fixed.now s.own

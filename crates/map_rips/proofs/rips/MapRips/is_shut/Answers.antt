@@ -1,4 +1,5 @@
 use Rattle.std.proofs.Common.{◌<◌, arith}
+use Rattle.std.proofs.lemmas.Bool.{OnTrue_from}
 use Rattle.route_lattice.specs.Legal.{IsOpen, probe_at}
 use Rattle.move_maps.specs.Windows.{IsOutOfAll}
 use Rattle.move_maps.proofs.Foreign.{on_then}
@@ -17,4 +18,4 @@ returns g c =
     (fixed_shut t.d.now t.lat.now (g.C.Copper.items t.c.now) t.net s.by_map.map.now c.args.self.now.fixed.now s.own
     c.requires.maps c.requires.can_rip.can_move.sound
     (g.met.C.Copper.serving t.c.now t.d.now c.requires.serves) node i c.requires.node c.requires.index c.args.fixed few
-    c.requires.counted c.requires.tally) c.is_off.ensures
+    c.requires.counted c.requires.tally) (OnTrue_from c.is_off.result _ c.is_off.ensures.0)

@@ -1,4 +1,5 @@
 use Rattle.std.proofs.Common.{◌<◌, arith}
+use Rattle.std.proofs.lemmas.Bool.{OnTrue_from}
 use Rattle.route_lattice.specs.Legal.{IsOpen, probe_at}
 use Rattle.move_maps.specs.Windows.{IsOutOfAll}
 use Rattle.move_maps.proofs.Foreign.{on_then, map_shut}
@@ -14,4 +15,4 @@ returns g c =
     (probe_at s.legal.d.now s.legal.lat.now s.legal.net c.args.node c.args.i)))
     (map_shut s.legal.d.now s.legal.lat.now items s.map.now s.legal.net c.args.node c.args.i c.args.tally c.requires.map
     c.requires.alike c.requires.node c.requires.index c.requires.tally c.args.self.now.own c.requires.own few
-    c.requires.counted) c.is_off.ensures
+    c.requires.counted) (OnTrue_from c.is_off.result _ c.is_off.ensures.0)

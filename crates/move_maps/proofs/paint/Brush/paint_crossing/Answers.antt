@@ -1,5 +1,4 @@
 use Rattle.std.proofs.Common.{◌+◌, ◌*◌, List, All, sym, subst}
-use Rattle.std.proofs.lemmas.Bool.{OnTrue_at}
 use Rattle.route_lattice.specs.Mesh.{level}
 use Rattle.route_lattice.specs.Ways.{way_count}
 use Rattle.move_maps.specs.declared.window.Window.{Window}
@@ -13,8 +12,7 @@ pub returns-then-is_out_of_all : goal.returns-then-is_out_of_all
 returns-then-is_out_of_all g c =
     let s = c.args.self.now in let t = s.moves in
     let Out : List Window → Type 0 = λ ws. All (λ (w : Window). IsPlaceOut w c.args.column c.args.row) ws in
-    let out = OnTrue_at {b = c.is_out_of_all.result} {P = Out c.as_slice.result.now} c.if-is_out_of_all.true
-    c.is_out_of_all.ensures in
+    let out : Out c.as_slice.result.now = c.is_out_of_all.ensures.0 c.if-is_out_of_all.true in
     node_off s.stroke t.d.now t.lat.now t.net s.item.now c.args.node c.args.counts.now (λ i h.
     c.requires.ready.together.each c.args.node i c.requires.node h
     (node_out t.lat.now s.windows.items c.args.node c.args.column c.args.row c.requires.column c.requires.row

@@ -52,7 +52,7 @@ renew-requires-clause-within c =
     let changed : vec_len c.admit.new.changed ≡ length c.self.inside.changed.items = search rules in
     let all = c.self.invariant.indexed.all in
     subst (All (λ x. x < vec_len c.admit.new.changed))
-    (sym (c.as_slice-3.ensures.value ∙ c.in_ok-gone.ensures.gone))
+    (sym (c.as_slice-3.ensures.value ∙ c.in-Ok.ensures.gone))
     (λ k d within. let less = gone_within c.args.self.now c.args.offer
     (subst IsBoard c.self.view_is c.self.invariant.board) c.requires.heard.formed (get_or (gone c.args.offer) k d)
     (Contains-get_or (gone c.args.offer) k d within) in
@@ -68,7 +68,7 @@ after_parts c = record {
   given = c.append.new.self;
   started = c.self.inside.started;
   changed = c.renew.new.changed;
-  tiles = c.in_ok-gone.tiles;
+  tiles = c.in-Ok.entered.1;
 }
 
 abbrev come : goal.After-drop-gone → List Item
@@ -83,7 +83,7 @@ new_long c = c.len-2.ensures ∙ ap length c.requires.new
 history_is : (c : goal.After-drop-gone) → c.admit.new.history ≡ c.self.inside.history
     ++ Join c.args.offer (length c.self.inside.given.items) (length c.self.inside.given.items + length (come c)) ∷ []
 history_is c =
-    c.in_ok-gone.ensures.entered
+    c.in-Ok.ensures.entered
     ∙ ap (λ (xs : List Item). c.self.inside.history
     ++ Join c.args.offer (length c.self.inside.given.items) (length c.self.inside.given.items + length xs) ∷ [])
     (c.as_slice-2.ensures ∙ c.requires.new)
@@ -93,10 +93,10 @@ given_is c =
     let moved : c.append.new.self.items ≡ c.self.inside.given.items ++ c.into_vec-new.result.items = search rules in
     moved ∙ ap (λ (xs : List Item). c.self.inside.given.items ++ xs) (c.into_vec-new.ensures ∙ c.requires.new)
 
-tiles_are : (c : goal.After-drop-gone) → c.in_ok-gone.tiles
+tiles_are : (c : goal.After-drop-gone) → c.in-Ok.entered.1
     ≡ holding c.self.inside.tiles (without (gone c.args.offer) c.self.inside.tiles.items ++ come c)
 tiles_are c =
-    c.in_ok-gone.ensures.tiles
+    c.in-Ok.ensures.tiles
     ∙ ap (λ (xs : List Item). holding c.self.inside.tiles (without (gone c.args.offer) c.self.inside.tiles.items ++ xs))
     (c.as_slice-2.ensures ∙ c.requires.new)
 
@@ -108,7 +108,7 @@ changed_is c =
     let kept : c.admit.new.changed.items ≡ c.self.inside.changed.items = search rules in
     let count : vec_len c.admit.new.changed ≡ length c.self.inside.given.items =
     search (rules, c.self.invariant.indexed.all) in
-    let ids : c.as_slice-3.result.now ≡ gone c.args.offer = c.as_slice-3.ensures.value ∙ c.in_ok-gone.ensures.gone in
+    let ids : c.as_slice-3.result.now ≡ gone c.args.offer = c.as_slice-3.ensures.value ∙ c.in-Ok.ensures.gone in
     let entries : length c.as_slice.result.now ≡ length c.self.inside.history = ap length c.as_slice.ensures in
     subst (λ (n : ℕ). IsRenewed (gone c.args.offer) (length c.self.inside.given.items)
     (length c.self.inside.history + 1) c.self.inside.changed.items c.renew.new.changed.items
@@ -166,5 +166,5 @@ invariant_of-self c =
       started = c.self.inside.started;
       changed = c.admit.new.changed;
       tiles = c.self.inside.tiles;
-    }) refl refl c.in_err-gone.ensures.err.1 refl c.admit.ensures.given refl c.admit.ensures.changed refl
+    }) refl refl c.in-Err.ensures.err.1 refl c.admit.ensures.given refl c.admit.ensures.changed refl
     c.self.invariant

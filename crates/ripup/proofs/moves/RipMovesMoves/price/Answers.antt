@@ -1,4 +1,4 @@
-use Rattle.std.proofs.Common.{arith}
+use Rattle.std.proofs.Common.{ℕ, ◌+◌, ◌*◌, arith, ap}
 use Rattle.ripup.proofs.Pricing.{price_small, charge_small}
 use Rattle.ripup.proofs.moves.RipMovesMoves.price.Goals as goal
 
@@ -10,3 +10,10 @@ overflow_add-result g c =
     c.requires.node in
     let charge = charge_small s.penalty c.charged.result c.requires.ready.0.small_penalty c.charged.ensures.few in
     omega (arith, c.price.ensures, way, charge)
+
+pub returns : goal.returns
+returns g c = record {
+  count = c.charged.result;
+  counted = c.charged.ensures.counted;
+  price_is = ap (λ (way : ℕ). way + c.args.self.now.penalty * c.charged.result) c.price.ensures;
+}

@@ -1,4 +1,4 @@
-use Rattle.std.proofs.Common.{◌≡◌, ℕ, ◌<◌, ◌-◌, List, map, length, get_or, sym, ◌∙◌, subst}
+use Rattle.std.proofs.Common.{◌≡◌, ℕ, ◌<◌, ◌-◌, List, map, length, get_or, ap, arith, sym, ◌∙◌, subst}
 use Rattle.pcb_islands.specs.declared.net.Island.{Island}
 use Rattle.route_lattice.specs.Mesh.{node_count}
 use Rattle.route_lattice.specs.Walks.{Answers, IsLeastWalk, to_of}
@@ -8,57 +8,57 @@ use Rattle.route_plan.specs.Plans.{moves_of, IsAnchored, IsAnchoredIn}
 use Rattle.route_plan.proofs.Routing.{net_walk_of, ends_at, last_place, first_place, some_node}
 use Rattle.route_plan.proofs.route.Task.route.Goals as goal
 
-pub walk-requires-clause-starts : goal.walk-requires-clause-starts
-walk-requires-clause-starts g c = let s = c.args.self.now in
+pub walk-found-requires-clause-starts : goal.walk-found-requires-clause-starts
+walk-found-requires-clause-starts g c = let s = c.args.self.now in
     starts_in_lattice s.d.now s.lat.now s.snap.now.items c.args.island.now c.in_ok-starts.starts c.in_ok-starts.ensures
 
 pub anchored_among-requires-clause-node : goal.anchored_among-requires-clause-node
 anchored_among-requires-clause-node g c =
     let s = c.args.self.now in
     let least : IsLeastWalk
-    (moves_of s.d.now s.lat.now s.snap.now.items s.net s.via_cost s.penalty) c.in_ok-starts.starts c.in_ok-goals.goals
-    c.in-Walk.walk =
+    (moves_of s.d.now s.lat.now s.snap.now.items s.net s.via_cost s.penalty) c.in_ok-starts.starts c.in-Ok.goals
+    c.in-Ok-Walk.walk =
     subst (Answers (moves_of s.d.now s.lat.now s.snap.now.items s.net s.via_cost s.penalty) c.in_ok-starts.starts
-    c.in_ok-goals.goals) c.in-Walk.is c.in_ok-reach.ensures.answers in
+    c.in-Ok.goals) c.in-Ok-Walk.field-0-is c.in-Ok-Walk.ensures.answers in
     let net_walk = net_walk_of s.d.now s.lat.now s.snap.now.items s.net s.via_cost s.penalty c.in_ok-starts.starts
-    c.in_ok-goals.goals c.in-Walk.walk
+    c.in-Ok.goals c.in-Ok-Walk.walk
     (starts_in_lattice s.d.now s.lat.now s.snap.now.items c.args.island.now c.in_ok-starts.starts
     c.in_ok-starts.ensures) least.walk in
     subst (λ (ns : List ℕ). get_or ns 0 0 < node_count s.lat.now) (sym c.as_slice-nodes.ensures)
-    (net_walk.there 0 0 (some_node c.in-Walk.walk.nodes least.walk.from
+    (net_walk.there 0 0 (some_node c.in-Ok-Walk.walk.nodes least.walk.from
     (map to_of least.walk.hops) least.walk.nodes))
 
 pub anchored_at_goal-to-requires-clause-goal : goal.anchored_at_goal-to-requires-clause-goal
 anchored_at_goal-to-requires-clause-goal g c =
     let s = c.args.self.now in
     let graph = moves_of s.d.now s.lat.now s.snap.now.items s.net s.via_cost s.penalty in
-    let least : IsLeastWalk graph c.in_ok-starts.starts c.in_ok-goals.goals c.in-Walk.walk = subst
-    (Answers graph c.in_ok-starts.starts c.in_ok-goals.goals) c.in-Walk.is c.in_ok-reach.ensures.answers in
+    let least : IsLeastWalk graph c.in_ok-starts.starts c.in-Ok.goals c.in-Ok-Walk.walk = subst
+    (Answers graph c.in_ok-starts.starts c.in-Ok.goals) c.in-Ok-Walk.field-0-is c.in-Ok-Walk.ensures.answers in
     let w = least.walk in
-    let ends = ends_at graph c.in_ok-starts.starts c.in_ok-goals.goals c.in-Walk.walk w in
-    let is_goal = (c.in_ok-goals.ensures.exact _).0 ends in
+    let ends = ends_at graph c.in_ok-starts.starts c.in-Ok.goals c.in-Ok-Walk.walk w in
+    let is_goal = (c.in-Ok.ensures.exact _).0 ends in
     let node_is : get_or c.as_slice-nodes.result.now (length c.as_slice-nodes.result.now - 1) 0
     ≡ _ = last_place c.as_slice-nodes.result.now w.from (map to_of w.hops) 0 (c.as_slice-nodes.ensures ∙ w.nodes) in
     subst (λ (p : List Island × ℕ). IsGoal s.d.now s.lat.now s.snap.now.items p.0 p.1)
-    (λ i. (sym c.as_slice-in-Walk.ensures i, sym node_is i)) is_goal
+    (λ i. (sym c.as_slice-in-Ok-Walk.ensures i, sym node_is i)) is_goal
 
-pub walk_items-requires : goal.walk_items-requires
-walk_items-requires g c =
+pub walk_items-laid-requires : goal.walk_items-laid-requires
+walk_items-laid-requires g c =
     let s = c.args.self.now in
     let graph = moves_of s.d.now s.lat.now s.snap.now.items s.net s.via_cost s.penalty in
-    let least : IsLeastWalk graph c.in_ok-starts.starts c.in_ok-goals.goals c.in-Walk.walk = subst
-    (Answers graph c.in_ok-starts.starts c.in_ok-goals.goals) c.in-Walk.is c.in_ok-reach.ensures.answers in
-    net_walk_of s.d.now s.lat.now s.snap.now.items s.net s.via_cost s.penalty c.in_ok-starts.starts c.in_ok-goals.goals
-    c.in-Walk.walk
+    let least : IsLeastWalk graph c.in_ok-starts.starts c.in-Ok.goals c.in-Ok-Walk.walk = subst
+    (Answers graph c.in_ok-starts.starts c.in-Ok.goals) c.in-Ok-Walk.field-0-is c.in-Ok-Walk.ensures.answers in
+    net_walk_of s.d.now s.lat.now s.snap.now.items s.net s.via_cost s.penalty c.in_ok-starts.starts c.in-Ok.goals
+    c.in-Ok-Walk.walk
     (starts_in_lattice s.d.now s.lat.now s.snap.now.items c.args.island.now c.in_ok-starts.starts
     c.in_ok-starts.ensures) least.walk
 
-pub returns-clause-finds : goal.returns-clause-finds
-returns-clause-finds g c =
+pub returns-in-Ok-laid-clause-finds : goal.returns-in-Ok-laid-clause-finds
+returns-in-Ok-laid-clause-finds g c =
     let s = c.args.self.now in
     let graph = moves_of s.d.now s.lat.now s.snap.now.items s.net s.via_cost s.penalty in
-    let least : IsLeastWalk graph c.in_ok-starts.starts c.in_ok-goals.goals c.in-Walk.walk = subst
-    (Answers graph c.in_ok-starts.starts c.in_ok-goals.goals) c.in-Walk.is c.in_ok-reach.ensures.answers in
+    let least : IsLeastWalk graph c.in_ok-starts.starts c.in-Ok.goals c.in-Ok-Walk.walk = subst
+    (Answers graph c.in_ok-starts.starts c.in-Ok.goals) c.in-Ok-Walk.field-0-is c.in-Ok-Walk.ensures.answers in
     let w = least.walk in
     let nodes_are = c.as_slice-nodes.ensures ∙ w.nodes in
     let first_is = first_place c.as_slice-nodes.result.now w.from (map to_of w.hops) 0 nodes_are in
@@ -66,11 +66,11 @@ returns-clause-finds g c =
     record {
       starts = c.in_ok-starts.starts;
       starts_are = c.in_ok-starts.ensures;
-      goals = c.in_ok-goals.goals;
-      goals_are = c.in_ok-goals.ensures;
-      walk = c.in-Walk.walk;
+      goals = c.in-Ok.goals;
+      goals_are = c.in-Ok.ensures;
+      walk = c.in-Ok-Walk.walk;
       least = least;
-      metals_are = c.in_ok-metals-in-Walk.ensures;
+      metals_are = c.in-Ok-laid.ensures;
       start = w.from;
       rest = map to_of w.hops;
       nodes_are = w.nodes;
@@ -78,5 +78,35 @@ returns-clause-finds g c =
           (λ i. (c.as_slice.ensures i, first_is i)) c.in-Some.ensures;
       to_anchored = subst (λ (p : List Island
           × ℕ). IsAnchoredIn s.d.now s.lat.now s.snap.now.items p.0 p.1 c.anchored_at_goal-to.result)
-          (λ i. (c.as_slice-in-Walk.ensures i, last_is i)) c.anchored_at_goal-to.ensures;
+          (λ i. (c.as_slice-in-Ok-Walk.ensures i, last_is i)) c.anchored_at_goal-to.ensures;
     }
+
+pub bounds-nodes-0 : goal.bounds-nodes-0
+bounds-nodes-0 g c =
+    let s = c.args.self.now in
+    let graph = moves_of s.d.now s.lat.now s.snap.now.items s.net s.via_cost s.penalty in
+    let least : IsLeastWalk graph c.in_ok-starts.starts c.in-Ok.goals c.in-Ok-Walk.walk = subst
+    (Answers graph c.in_ok-starts.starts c.in-Ok.goals) c.in-Ok-Walk.field-0-is c.in-Ok-Walk.ensures.answers in
+    let w = least.walk in
+    let count = ap length (c.as_slice-nodes.ensures ∙ w.nodes) in
+    omega (arith, count)
+
+pub overflow_sub-nodes : goal.overflow_sub-nodes
+overflow_sub-nodes g c =
+    let s = c.args.self.now in
+    let graph = moves_of s.d.now s.lat.now s.snap.now.items s.net s.via_cost s.penalty in
+    let least : IsLeastWalk graph c.in_ok-starts.starts c.in-Ok.goals c.in-Ok-Walk.walk = subst
+    (Answers graph c.in_ok-starts.starts c.in-Ok.goals) c.in-Ok-Walk.field-0-is c.in-Ok-Walk.ensures.answers in
+    let w = least.walk in
+    let count = ap length (c.as_slice-nodes.ensures ∙ w.nodes) in
+    omega (arith, count)
+
+pub bounds-nodes-nodes : goal.bounds-nodes-nodes
+bounds-nodes-nodes g c =
+    let s = c.args.self.now in
+    let graph = moves_of s.d.now s.lat.now s.snap.now.items s.net s.via_cost s.penalty in
+    let least : IsLeastWalk graph c.in_ok-starts.starts c.in-Ok.goals c.in-Ok-Walk.walk = subst
+    (Answers graph c.in_ok-starts.starts c.in-Ok.goals) c.in-Ok-Walk.field-0-is c.in-Ok-Walk.ensures.answers in
+    let w = least.walk in
+    let count = ap length (c.as_slice-nodes.ensures ∙ w.nodes) in
+    omega (arith, count)

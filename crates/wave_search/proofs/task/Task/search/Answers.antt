@@ -129,3 +129,15 @@ search-init g c = record { size = refl; state = (0, c.requires.state) }
 
 pub returns-clause-size : goal.returns-clause-size
 returns-clause-size g c = c.search.invariant.size
+
+pub returns-then-is_goal-clause-size : goal.returns-then-is_goal-clause-size
+returns-then-is_goal-clause-size g c = c.end.ensures.size ∙ c.in_ok-place.ensures.size ∙ c.search.invariant.size
+
+pub returns-in_err-place-clause-size : goal.returns-in_err-place-clause-size
+returns-in_err-place-clause-size g c = c.place.ensures.size ∙ c.search.invariant.size
+
+pub returns-in_err-relax-clause-size : goal.returns-in_err-relax-clause-size
+returns-in_err-relax-clause-size g c = c.relax.ensures.size ∙ c.in_ok-place.ensures.size ∙ c.search.invariant.size
+
+pub returns-in_err-walk-clause-size : goal.returns-in_err-walk-clause-size
+returns-in_err-walk-clause-size g c = c.end.ensures.size ∙ c.in_ok-place.ensures.size ∙ c.search.invariant.size

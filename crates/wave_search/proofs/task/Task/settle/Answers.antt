@@ -1,4 +1,4 @@
-use Rattle.std.proofs.Common.{◌+◌, arith, ◌∙◌, length}
+use Rattle.std.proofs.Common.{◌+◌, arith, ◌∙◌, length, refl}
 use Rattle.wave_search.proofs.Steps.{whole}
 use Rattle.wave_search.proofs.Run.{node_in, node_below, price_small, origin_small, room, none_in, put_keeps, state_now}
 use Rattle.wave_search.proofs.Run.{skipped, taken_now, falls}
@@ -98,3 +98,21 @@ settle-preserved-in_default-waiting g c = record {
       (taken_now c.settle.front c.pop.new.self _ c.in-Some.entry c.in_ok-entry.ensures c.in-Some.is)
       c.in_default-waiting.ensures;
 }
+
+pub settle-init : goal.settle-init
+settle-init g c = record { size = refl; kept = λ v l h d. h; state = c.requires.state }
+
+pub returns-clause-kept : goal.returns-clause-kept
+returns-clause-kept g c = c.settle.invariant.kept
+
+pub returns-clause-size : goal.returns-clause-size
+returns-clause-size g c = c.settle.invariant.size
+
+pub returns-then-entry-limit-clause-kept : goal.returns-then-entry-limit-clause-kept
+returns-then-entry-limit-clause-kept g c = c.settle.invariant.kept
+
+pub returns-then-entry-limit-clause-roots : goal.returns-then-entry-limit-clause-roots
+returns-then-entry-limit-clause-roots g c = c.settle.invariant.state.1.roots
+
+pub returns-then-entry-limit-clause-size : goal.returns-then-entry-limit-clause-size
+returns-then-entry-limit-clause-size g c = c.settle.invariant.size

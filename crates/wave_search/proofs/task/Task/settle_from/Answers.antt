@@ -21,3 +21,12 @@ returns-clause-kept g c = λ v l h d. c.in_ok-settle.ensures.kept v l (c.in_ok-r
 
 pub returns-clause-size : goal.returns-clause-size
 returns-clause-size g c = c.in_ok-settle.ensures.size ∙ c.in_ok-relax.ensures.size
+
+pub returns-clause-roots : goal.returns-clause-roots
+returns-clause-roots g c = c.in_ok-settle.ensures.roots
+
+pub returns-clause-small : goal.returns-clause-small
+returns-clause-small g c = c.in_ok-settle.ensures.small
+
+pub returns-in_err-settle-clause-size : goal.returns-in_err-settle-clause-size
+returns-in_err-settle-clause-size g c = c.settle.ensures.size ∙ c.in_ok-relax.ensures.size

@@ -5,7 +5,8 @@ use Rattle.pcb_model.specs.declared.design.Design.{Design}
 use Rattle.pcb_model.specs.declared.design.FreeWire.{FreeWire}
 use Rattle.pcb_model.specs.declared.design.Padstack.{Padstack}
 use Rattle.dsn_design.specs.declared.parts.Parts.{Parts}
-use Rattle.dsn_design.specs.Counts.{IsCountedOf, counted_items, counted_with}
+use Rattle.dsn_design.specs.Counts.{IsCountedOf, bare_with, connected, counted_items, counted_with, labelled, outlined}
+use Rattle.dsn_design.specs.Counts.{populated}
 use Rattle.dsn_design.specs.Items.{free_wiring}
 use Rattle.dsn_design.specs.Made.{ArePadstacksOf, design_with}
 use Rattle.dsn_design.specs.Pins.{layer_count}
@@ -48,3 +49,12 @@ made p n stacks free frame d m a u g e is =
     subst (λ (x : Design). IsCountedOf p (record x { fixed = fixed })) (sym e)
     (refilled p stacks fixed free (filled p stacks fixed free f g h)) in
     subst (IsCountedOf p) (sym is) full
+
+-- filled part by part, the bare design is the frame
+pub framed : (p : Parts) (stacks : List Padstack) (free : List FreeWire) (a b c d e : Design)
+    → a ≡ bare_with p stacks free → b ≡ labelled p.head a → c ≡ outlined p.structure b
+    → d ≡ populated p c → e ≡ connected p d → e ≡ counted_with p stacks [] free
+unfolding design_with
+framed p stacks free a b c d e is_bare is_labelled is_outlined is_populated is_connected =
+    is_connected ∙ ap (connected p) (is_populated ∙ ap (populated p) (is_outlined
+    ∙ ap (outlined p.structure) (is_labelled ∙ ap (labelled p.head) is_bare)))

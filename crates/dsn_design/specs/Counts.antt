@@ -1,6 +1,6 @@
 -- What the private functions of `pins`, `nets`, `items` and `board` give: numbers that count up, and end at 2^32 - 1.
 use Rattle.std.specs.Prelude.{◌≡◌, ◌+◌, ◌-◌, ◌^◌, ◌++◌, min, ℕ, List, [], ◌∷◌, filter, length, map, slice_get}
-use Rattle.std.specs.Prelude.{unwrap_or, if◌then◌else◌}
+use Rattle.std.specs.Prelude.{None, unwrap_or, if◌then◌else◌}
 use Rattle.pcb_model.specs.declared.design.Component.{Component}
 use Rattle.pcb_model.specs.declared.design.Design.{Design}
 use Rattle.pcb_model.specs.declared.design.FreeWire.{FreeWire}
@@ -8,14 +8,16 @@ use Rattle.pcb_model.specs.declared.design.Net.{Net}
 use Rattle.pcb_model.specs.declared.design.Padstack.{Padstack}
 use Rattle.pcb_model.specs.declared.design.Pin.{Pin}
 use Rattle.pcb_model.specs.declared.item.Item.{Item}
+use Rattle.dsn_shapes.specs.declared.parts.Head.{Head}
 use Rattle.dsn_shapes.specs.declared.parts.ImagePin.{ImagePin}
 use Rattle.dsn_shapes.specs.declared.parts.Library.{Library}
 use Rattle.dsn_shapes.specs.declared.parts.PinRef.{PinRef}
 use Rattle.dsn_shapes.specs.declared.parts.Place.{Place}
+use Rattle.dsn_shapes.specs.declared.parts.Structure.{Structure}
 use Rattle.dsn_design.specs.declared.parts.Parts.{Parts}
 use Rattle.dsn_design.specs.Items.{ban_item, edge_item, fixed_wiring, free_wiring, numbered, pad_item, placed_ban}
-use Rattle.dsn_design.specs.Made.{ArePadstacksOf, design_with, structure_vias}
-use Rattle.dsn_design.specs.Nets.{net_of}
+use Rattle.dsn_design.specs.Made.{ArePadstacksOf, bounds_of, design_with, layers_of, notes_of, structure_vias}
+use Rattle.dsn_design.specs.Nets.{class_rules, net_of}
 use Rattle.dsn_design.specs.Pins.{component_of, image_bans, image_pins, is_placed, layer_count, pin_of, pin_ref}
 use Rattle.dsn_design.specs.Pins.{placed_as, placed_pin}
 
@@ -98,15 +100,61 @@ items_from parts stacks place number (p ∷ ps) =
     place_items parts stacks place number p ++ items_from parts stacks (plus place 1) (next_number parts number p) ps
 
 -- ---- the whole
-unfoldable pub counted_items : Parts → List Padstack → List Item
-counted_items parts stacks = numbered (map (edge_item (layer_count parts)) parts.structure.bounds
+-- the items of boundaries, keepouts, components and wiring
+abbrev pub listed_items : Parts → List Padstack → List Item
+listed_items parts stacks = map (edge_item (layer_count parts)) parts.structure.bounds
     ++ (map (ban_item (layer_count parts)) parts.structure.bans
     ++ (items_from parts stacks 0 0 parts.placing.places
-    ++ fixed_wiring stacks parts.wiring.wires)))
+    ++ fixed_wiring stacks parts.wiring.wires))
+
+unfoldable pub counted_items : Parts → List Padstack → List Item
+counted_items parts stacks = numbered (listed_items parts stacks)
 
 abbrev pub counted_with : Parts → List Padstack → List Item → List FreeWire → Design
 counted_with p stacks fixed free = design_with p stacks (counted_components p.library p.placing.places)
     (counted_pins p stacks) (counted_nets p stacks) fixed free
+
+-- the design that is filled: these padstacks and this free wiring, and what no memory is asked for
+abbrev pub bare_with : Parts → List Padstack → List FreeWire → Design
+bare_with p stacks free = record {
+  name = [];
+  unit = p.head.unit;
+  per = p.head.per;
+  host_cad = None;
+  host_version = None;
+  layers = [];
+  bounds = [];
+  padstacks = stacks;
+  components = [];
+  pins = [];
+  nets = [];
+  classes = [];
+  rules = record { width = None; plain = None; typed = [] };
+  via_at_smd = p.structure.via_at_smd;
+  fixed = [];
+  free = free;
+  notes = 0;
+}
+
+-- and its parts, as they are filled in: names, outline, components with their pins, and nets
+abbrev pub labelled : Head → Design → Design
+labelled h d = record d { name = h.name; host_cad = h.host_cad; host_version = h.host_version }
+
+abbrev pub outlined : Structure → Design → Design
+outlined s d = record d { layers = layers_of s.layers; bounds = bounds_of s.bounds; rules = s.rules }
+
+abbrev pub populated : Parts → Design → Design
+populated p d = record d {
+  components = counted_components p.library p.placing.places;
+  pins = counted_pins p d.padstacks;
+}
+
+abbrev pub connected : Parts → Design → Design
+connected p d = record d {
+  nets = counted_nets p d.padstacks;
+  classes = map class_rules p.network.classes;
+  notes = notes_of p d.padstacks;
+}
 
 abbrev pub counted_from : Parts → List Padstack → Design
 counted_from p stacks = counted_with p stacks (counted_items p stacks) (free_wiring p.wiring.wires)

@@ -1,17 +1,17 @@
 //! The design that the sections of a text make together.
 //! Each field is made by itself; the fixed items come last, since vias are of the design's padstacks.
 
-ghost use Rattle.std.specs.Prelude.{◌≡◌, [], map, All, IfOk};
+ghost use Rattle.std.specs.Prelude.{◌≡◌, ◌++◌, [], All, IfOk, OnOk};
 ghost use Rattle.dsn_shapes.specs.Lists.{capped};
 ghost use Rattle.pcb_model.specs.Bounds.{IsFit};
 ghost use Rattle.pcb_model.specs.declared.design.Padstack.{Padstack as TheStack};
-ghost use Rattle.dsn_design.specs.Counts.{IsCountedOf, counted_components, counted_items, counted_nets};
-ghost use Rattle.dsn_design.specs.Counts.{counted_pins, counted_with};
-ghost use Rattle.dsn_design.specs.Nets.{class_rules};
+ghost use Rattle.dsn_design.specs.Counts.{IsCountedOf, bare_with, connected, counted_items, counted_nets};
+ghost use Rattle.dsn_design.specs.Counts.{counted_pins, counted_with, items_from, labelled, listed_items, outlined};
+ghost use Rattle.dsn_design.specs.Counts.{populated};
 ghost use Rattle.dsn_design.specs.Usable.{AreUsable, padstacks_of, usables};
 ghost use Rattle.dsn_design.specs.Fit.{ArePartsFit};
 ghost use Rattle.dsn_design.specs.Items.{free_wiring, loops_of};
-ghost use Rattle.dsn_design.specs.Made.{ArePadstacksOf, board_layer, bounds_of, design_with, layers_of, notes_of};
+ghost use Rattle.dsn_design.specs.Made.{ArePadstacksOf, board_layer, bounds_of, layers_of, notes_of};
 ghost use Rattle.dsn_design.specs.Made.{section_notes, structure_vias};
 
 use crate::edges::loops_of;
@@ -24,7 +24,7 @@ use crate::wiring::{free_wiring, push_fixed};
 use dsn_network::Owners;
 use dsn_shapes::{Head, Layer, LayerShape, Structure};
 use geo_kernel::{List, Name, Point};
-use pcb_model::{BoardLayer, Component, Design, FreeWire, Item, Net, Padstack, Pin, RuleSet};
+use pcb_model::{BoardLayer, Design, FreeWire, Item, Net, Padstack, Pin, RuleSet};
 use std::alloc::{AllocError, Global};
 
 fn board_layer(alloc: Global, layer: &Layer) -> Result<BoardLayer, AllocError>
@@ -82,76 +82,38 @@ fn notes_of(parts: &Parts, stacks: &List<Padstack>, vias: &List<u32>) -> u64
     section_notes(parts).saturating_add(unusable)
 }
 
-// The nets and classes of a design, and how many lists were passed over.
-#[derive(Drop)]
-struct Netlist {
-    nets: List<Net>,
-    classes: List<RuleSet>,
-    notes: u64,
-}
-
-fn make_netlist(
+fn counted_nets(
     alloc: Global,
     parts: &Parts,
     stacks: &List<Padstack>,
-) -> Result<Netlist, AllocError>
-    ensures nets { IfOk result (λ v. v.nets ≡ counted_nets parts.now stacks.now) }
-    ensures classes { IfOk result (λ v. v.classes ≡ map class_rules parts.now.network.classes) }
-    ensures notes { IfOk result (λ v. v.notes ≡ notes_of parts.now stacks.now) }
+    vias: &List<u32>,
+) -> Result<List<Net>, AllocError>
+    requires { vias.now ≡ structure_vias parts.now }
+    ensures { IfOk result (λ nets. nets ≡ counted_nets parts.now stacks.now) }
 {
     let firsts = first_pins(alloc, &parts.library, parts.placing.places.as_slice())?;
+    let lists = Lists {
+        stacks,
+        firsts: &firsts,
+        vias,
+        classes: &parts.network.classes,
+    };
+    nets_of(alloc, &lists, parts.network.nets.as_slice())
+}
+
+// The nets and classes of a design, and how many lists were passed over.
+fn connect(alloc: Global, parts: &Parts, design: &mut Design) -> Result<(), AllocError>
+    ensures { OnOk result (design.new ≡ connected parts.now design.old) }
+{
     let vias = stack_numbers(
         alloc,
         &parts.library.stacks,
         parts.structure.vias.as_slice(),
     )?;
-    let lists = Lists {
-        stacks,
-        firsts: &firsts,
-        vias: &vias,
-        classes: &parts.network.classes,
-    };
-    let nets = nets_of(alloc, &lists, parts.network.nets.as_slice())?;
-    let classes = classes_of(alloc, parts.network.classes.as_slice())?;
-    let notes = notes_of(parts, stacks, &vias);
-    Ok(Netlist {
-        nets,
-        classes,
-        notes,
-    })
-}
-
-// The placed components of a design and their pins.
-#[derive(Drop)]
-struct Placed {
-    components: List<Component>,
-    pins: List<Pin>,
-}
-
-fn place_all(alloc: Global, parts: &Parts, stacks: &List<Padstack>) -> Result<Placed, AllocError>
-    requires { ArePartsFit parts.now }
-    ensures components { IfOk result
-        (λ v. v.components ≡ counted_components parts.now.library parts.now.placing.places) }
-    ensures pins { IfOk result (λ v. v.pins ≡ counted_pins parts.now stacks.now) }
-{
-    let board = board_of(alloc, parts, stacks)?;
-    let pins = match all_pins(alloc, &board) {
-        Ok(pins) => {
-            drop(board);
-            pins
-        }
-        Err(error) => {
-            drop(board);
-            return Err(error);
-        }
-    };
-    match components_of(alloc, &parts.library, parts.placing.places.as_slice()) {
-        Ok(components) => Ok(Placed { components, pins }),
-        Err(error) => {
-            drop(pins);
-            Err(error)
-        }
-    }
+    design.notes = notes_of(parts, &design.padstacks, &vias);
+    design.nets = counted_nets(alloc, parts, &design.padstacks, &vias)?;
+    design.classes = classes_of(alloc, parts.network.classes.as_slice())?;
+    Ok(())
 }
 
 fn board_of<'a>(
@@ -170,48 +132,76 @@ fn board_of<'a>(
     })
 }
 
-// The names of a design and of what wrote it.
-#[derive(Drop)]
-struct Labels {
-    name: Name,
-    host_cad: Option<Name>,
-    host_version: Option<Name>,
+fn pins_of(alloc: Global, parts: &Parts, stacks: &List<Padstack>) -> Result<List<Pin>, AllocError>
+    requires { ArePartsFit parts.now }
+    ensures { IfOk result (λ pins. pins ≡ counted_pins parts.now stacks.now) }
+{
+    let board = board_of(alloc, parts, stacks)?;
+    let pins = all_pins(alloc, &board);
+    drop(board);
+    pins
 }
 
-fn labels_of(alloc: Global, head: &Head) -> Result<Labels, AllocError>
-    ensures name { IfOk result (λ v. v.name ≡ head.now.name) }
-    ensures host_cad { IfOk result (λ v. v.host_cad ≡ head.now.host_cad) }
-    ensures host_version { IfOk result (λ v. v.host_version ≡ head.now.host_version) }
+// The placed components of a design and their pins.
+fn populate(alloc: Global, parts: &Parts, design: &mut Design) -> Result<(), AllocError>
+    requires { ArePartsFit parts.now }
+    ensures { OnOk result (design.new ≡ populated parts.now design.old) }
 {
-    Ok(Labels {
-        name: List::from_slice(alloc, head.name.as_slice())?,
-        host_cad: copy_name(alloc, &head.host_cad)?,
-        host_version: copy_name(alloc, &head.host_version)?,
-    })
+    design.pins = pins_of(alloc, parts, &design.padstacks)?;
+    design.components = components_of(alloc, &parts.library, parts.placing.places.as_slice())?;
+    Ok(())
+}
+
+// The names of a design and of what wrote it.
+fn label(alloc: Global, head: &Head, design: &mut Design) -> Result<(), AllocError>
+    ensures { OnOk result (design.new ≡ labelled head.now design.old) }
+{
+    design.name = List::from_slice(alloc, head.name.as_slice())?;
+    design.host_cad = copy_name(alloc, &head.host_cad)?;
+    design.host_version = copy_name(alloc, &head.host_version)?;
+    Ok(())
 }
 
 // The layers, boundaries and rules of a design.
-#[derive(Drop)]
-struct Outline {
-    layers: List<BoardLayer>,
-    bounds: List<List<List<Point>>>,
-    rules: RuleSet,
+fn outline(alloc: Global, structure: &Structure, design: &mut Design) -> Result<(), AllocError>
+    ensures { OnOk result (design.new ≡ outlined structure.now design.old) }
+{
+    design.layers = layers_of(alloc, structure.layers.as_slice())?;
+    design.bounds = bounds_of(alloc, structure.bounds.as_slice())?;
+    design.rules = copy_rules(alloc, &structure.rules)?;
+    Ok(())
 }
 
-fn outline_of(alloc: Global, structure: &Structure) -> Result<Outline, AllocError>
-    ensures layers { IfOk result (λ v. v.layers ≡ layers_of structure.now.layers) }
-    ensures bounds { IfOk result (λ v. v.bounds ≡ bounds_of structure.now.bounds) }
-    ensures rules { IfOk result (λ v. v.rules ≡ structure.now.rules) }
+// A design of these padstacks and this free wiring, with nothing else in it yet.
+fn bare(alloc: Global, parts: &Parts, padstacks: List<Padstack>, free: List<FreeWire>) -> Design
+    ensures { result ≡ bare_with parts.now padstacks free }
 {
-    Ok(Outline {
-        layers: layers_of(alloc, structure.layers.as_slice())?,
-        bounds: bounds_of(alloc, structure.bounds.as_slice())?,
-        rules: copy_rules(alloc, &structure.rules)?,
-    })
+    Design {
+        name: List::new(alloc),
+        unit: parts.head.unit,
+        per: parts.head.per,
+        host_cad: None,
+        host_version: None,
+        layers: List::new(alloc),
+        bounds: List::new(alloc),
+        padstacks,
+        components: List::new(alloc),
+        pins: List::new(alloc),
+        nets: List::new(alloc),
+        classes: List::new(alloc),
+        rules: RuleSet {
+            width: None,
+            plain: None,
+            typed: List::new(alloc),
+        },
+        via_at_smd: parts.structure.via_at_smd,
+        fixed: List::new(alloc),
+        free,
+        notes: 0,
+    }
 }
 
 // The design without fixed items.
-#[tactic(auto, unfolding(crate::specs::Made::design_with))]
 fn frame_of(
     alloc: Global,
     parts: &Parts,
@@ -221,69 +211,45 @@ fn frame_of(
     requires { ArePartsFit parts.now }
     ensures { IfOk result (λ d. d ≡ counted_with parts.now stacks [] free) }
 {
-    let placed = match place_all(alloc, parts, &stacks) {
-        Ok(placed) => placed,
-        Err(error) => {
-            drop((stacks, free));
-            return Err(error);
-        }
-    };
-    let netlist = match make_netlist(alloc, parts, &stacks) {
-        Ok(netlist) => netlist,
-        Err(error) => {
-            drop((stacks, free, placed));
-            return Err(error);
-        }
-    };
-    let outline = match outline_of(alloc, &parts.structure) {
-        Ok(outline) => outline,
-        Err(error) => {
-            drop((stacks, free, placed, netlist));
-            return Err(error);
-        }
-    };
-    let labels = match labels_of(alloc, &parts.head) {
-        Ok(labels) => labels,
-        Err(error) => {
-            drop((stacks, free, placed, netlist, outline));
-            return Err(error);
-        }
-    };
-    let Placed { components, pins } = placed;
-    let Netlist {
-        nets,
-        classes,
-        notes,
-    } = netlist;
-    let Outline {
-        layers,
-        bounds,
-        rules,
-    } = outline;
-    let Labels {
-        name,
-        host_cad,
-        host_version,
-    } = labels;
-    Ok(Design {
-        name,
-        unit: parts.head.unit,
-        per: parts.head.per,
-        host_cad,
-        host_version,
-        layers,
-        bounds,
-        padstacks: stacks,
-        components,
-        pins,
-        nets,
-        classes,
-        rules,
-        via_at_smd: parts.structure.via_at_smd,
-        fixed: List::new(alloc),
-        free,
-        notes,
-    })
+    let mut design = bare(alloc, parts, stacks, free);
+    label(alloc, &parts.head, &mut design)?;
+    outline(alloc, &parts.structure, &mut design)?;
+    populate(alloc, parts, &mut design)?;
+    connect(alloc, parts, &mut design)?;
+    Ok(design)
+}
+
+fn push_placed(
+    alloc: Global,
+    items: &mut List<Item>,
+    parts: &Parts,
+    stacks: &List<Padstack>,
+) -> Result<(), AllocError>
+    requires { ArePartsFit parts.now }
+    ensures { OnOk result
+        (items.new ≡ items.old ++ items_from parts.now stacks.now 0 0 parts.now.placing.places) }
+{
+    let board = board_of(alloc, parts, stacks)?;
+    let pushed = push_places(alloc, items, &board, parts.placing.places.as_slice());
+    drop(board);
+    pushed
+}
+
+fn push_items(
+    alloc: Global,
+    items: &mut List<Item>,
+    parts: &Parts,
+    frame: &Design,
+) -> Result<(), AllocError>
+    requires parts_fit { ArePartsFit parts.now }
+    requires stacks_fit { All (λ (s : TheStack). All IsFit s.pieces) frame.now.padstacks }
+    ensures { OnOk result (items.new ≡ items.old ++ listed_items parts.now frame.now.padstacks) }
+{
+    let n = layer_count(parts);
+    push_edges(alloc, items, n, parts.structure.bounds.as_slice())?;
+    push_bans(alloc, items, n, parts.structure.bans.as_slice())?;
+    push_placed(alloc, items, parts, &frame.padstacks)?;
+    push_fixed(alloc, items, frame, parts.wiring.wires.as_slice())
 }
 
 // The fixed items, in the order of their ids, on the frame of a design.
@@ -293,15 +259,8 @@ fn fixed_items(alloc: Global, parts: &Parts, frame: &Design) -> Result<List<Item
     requires stacks_fit { All (λ (s : TheStack). All IsFit s.pieces) frame.now.padstacks }
     ensures { IfOk result (λ items. items ≡ counted_items parts.now frame.now.padstacks) }
 {
-    let n = layer_count(parts);
     let mut items = List::new(alloc);
-    push_edges(alloc, &mut items, n, parts.structure.bounds.as_slice())?;
-    push_bans(alloc, &mut items, n, parts.structure.bans.as_slice())?;
-    let board = board_of(alloc, parts, &frame.padstacks)?;
-    let pushed = push_places(alloc, &mut items, &board, parts.placing.places.as_slice());
-    drop(board);
-    pushed?;
-    push_fixed(alloc, &mut items, frame, parts.wiring.wires.as_slice())?;
+    push_items(alloc, &mut items, parts, frame)?;
     numbered(alloc, items)
 }
 

@@ -1,8 +1,10 @@
 //! Decimals as text: an optional sign, one to 18 digits with an optional point, an optional exponent.
 //! Source: SPECCTRA reference, number descriptors; a power of ten has one or two digits.
 
+ghost use Rattle.std.specs.Prelude.{◌&&◌, ◌++◌, nat_le};
 ghost use Rattle.std.specs.Prelude.{true, IfSome, Some, ◌↔◌, pos, neg_ℤ, ◌≤ℤ◌, ◌+◌, ◌≡◌, ◌<◌, ◌≤◌, ◌^◌, length};
 ghost use Rattle.dsn_units.specs.Reading.{sign_of, digits_of, fraction_of, small_number, exponent_of, decimal_of};
+ghost use Rattle.dsn_units.specs.Reading.{with_exponent};
 ghost use Rattle.dsn_units.specs.Spelling.{number_on, Spells};
 ghost use Rattle.dsn_units.specs.declared.number.Decimal.{Decimal as TheDecimal};
 ghost use Rattle.std.specs.List.{list_all};
@@ -87,17 +89,27 @@ fn exponent(text: &[u8]) -> Option<i32>
     }
 }
 
-fn decimal(text: &[u8]) -> Option<Decimal>
-    ensures { result ≡ decimal_of text.now }
+// Whether there are one to 18 digits before and behind the point.
+fn are_digits_few(whole: &[u8], fraction: &[u8]) -> bool
+    ensures value { result ≡ (nat_le 1 (length (whole.now ++ fraction.now))
+        && nat_le (length (whole.now ++ fraction.now)) 18) }
+    ensures few { result ≡ true → length whole.now + length fraction.now ≤ 18 }
 {
-    let (negative, rest) = split_sign(text);
-    let (whole, rest) = split_digits(rest);
-    let (fraction, rest) = split_fraction(rest);
-    let shift = exponent(rest)?;
-    if whole.len() > 18 || fraction.len() > 18 || whole.len() + fraction.len() > 18 {
-        return None;
+    if whole.len() > 18 || fraction.len() > 18 {
+        return false;
     }
-    if whole.is_empty() && fraction.is_empty() {
+    let count = whole.len() + fraction.len();
+    1 <= count && count <= 18
+}
+
+// The decimal of its digits before and behind the point, of which there are one to 18, times a power of ten.
+fn with_exponent(negative: bool, whole: &[u8], fraction: &[u8], shift: i32) -> Option<Decimal>
+    requires whole { list_all is_ascii_digit whole.now ≡ true }
+    requires fraction { list_all is_ascii_digit fraction.now ≡ true }
+    requires small { (neg_ℤ (pos 99) ≤ℤ shift) × (shift ≤ℤ pos 99) }
+    ensures { result ≡ with_exponent negative whole.now fraction.now (Some shift) }
+{
+    if !are_digits_few(whole, fraction) {
         return None;
     }
     let start = number_on(0, 0, whole);
@@ -107,6 +119,16 @@ fn decimal(text: &[u8]) -> Option<Decimal>
         digits,
         exponent: shift - fraction.len() as i32,
     })
+}
+
+fn decimal(text: &[u8]) -> Option<Decimal>
+    ensures { result ≡ decimal_of text.now }
+{
+    let (negative, rest) = split_sign(text);
+    let (whole, rest) = split_digits(rest);
+    let (fraction, rest) = split_fraction(rest);
+    let shift = exponent(rest)?;
+    with_exponent(negative, whole, fraction, shift)
 }
 
 /// The decimal that the whole text spells; None exactly where it spells none.

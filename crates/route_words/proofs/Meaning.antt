@@ -4,11 +4,12 @@ use Rattle.std.proofs.Common.{List, [], ◌∷◌, length, Option, Some, None, s
 use Rattle.std.proofs.lemmas.Bool.{ltb-true}
 use Rattle.clap.specs.Matches.{first_value}
 use Rattle.clap.specs.declared.parser.matches.Found.{Found}
-use Rattle.route_words.specs.Forms.{Holds, HoldsRoute, knobs_found}
+use Rattle.route_words.specs.Forms.{FindsGen, FindsRoute, Holds, HoldsRoute, knobs_found}
 use Rattle.route_words.specs.Parts.{Form, Part, Word, fit_from, name, names_in, option, parts_of, stray}
-use Rattle.route_words.specs.Words.{gen_form, gen_of, gen_with, knobs_of, route_form, route_of, route_with}
+use Rattle.route_words.specs.Words.{Says, gen_form, gen_of, gen_with, knobs_of, route_form, route_of, route_with}
+use Rattle.route_words.specs.declared.command.WordFault.{WordFault}
 use Rattle.route_words.specs.declared.command.Knobs.{Knobs}
-use Rattle.route_words.specs.declared.command.WordFault.TheVariants.{Usage}
+use Rattle.route_words.specs.declared.command.WordFault.TheVariants.{Memory, NoCommand, UnknownCommand, Usage}
 use Rattle.route_words.proofs.Bools.{and_left, and_right}
 
 -- parts that fit have no more names than the form
@@ -80,7 +81,22 @@ module _ (words : List Word) (f : Found) (holds : HoldsRoute (parts_of route_for
       in
       route_is ∙ rw (names, given) refl
 
+-- words that don't fit the form of `route`
+pub route_misfit : (words : List Word) (fault : WordFault) → FindsRoute words (Err fault)
+    → Says (route_of words) (Err fault)
+route_misfit words (Memory e) found = tt
+route_misfit words Usage found = rw found refl
+route_misfit words NoCommand found = absurd found
+route_misfit words UnknownCommand found = absurd found
+
 -- ---- gen
+
+-- words that don't fit the form of `gen`
+pub gen_misfit : (words : List Word) (fault : WordFault) → FindsGen words (Err fault) → Says (gen_of words) (Err fault)
+gen_misfit words (Memory e) found = tt
+gen_misfit words Usage found = rw found refl
+gen_misfit words NoCommand found = absurd found
+gen_misfit words UnknownCommand found = absurd found
 
 one_name : (names : List Word) (a : Word) → length names ≤ 1 → slice_get names 0 ≡ Some a → names ≡ a ∷ []
 one_name [] a few first = cc

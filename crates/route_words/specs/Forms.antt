@@ -1,12 +1,13 @@
 -- The forms of the words as `clap` sees them, and what it finds; for private functions alone.
 use Rattle.std.specs.Prelude.{◌≡◌, ⊤, ℕ, Bool, true, false, codes, List, [], ◌∷◌, slice_get, Option, Some, is_some}
-use Rattle.std.specs.Prelude.{Result, Ok, Err, alloc_error}
+use Rattle.std.specs.Prelude.{Result, Ok, Err, alloc_error, fold, All}
 use Rattle.std.specs.Option.{option_map_or}
 use Rattle.std.specs.Str.{bytes_eq}
-use Rattle.clap.specs.Walk.{Rule, rows_of}
-use Rattle.clap.specs.Simple.{App, new_app, new_rule, with_rule, on_top, matches_of}
+use Rattle.clap.specs.Walk.{Rule, rows_of, rule_of}
+use Rattle.clap.specs.Simple.{App, new_app, new_rule, with_rule, on_top, matches_of, is_simple}
 use Rattle.clap.specs.Matches.{first_value, found_of}
-use Rattle.clap.specs.Faults.{fault_of}
+use Rattle.clap.specs.Faults.{fault_of, is_simple_and_free}
+use Rattle.clap.specs.declared.builder.arg.Arg.{Arg}
 use Rattle.clap.specs.Kinds.{HasKind}
 use Rattle.clap.specs.declared.builder.action.ArgAction.TheVariants.{SetTrue}
 use Rattle.clap.specs.declared.parser.matches.ArgMatches.{ArgMatches}
@@ -38,13 +39,34 @@ bare_app = on_top (λ s. record s {
   disable_version_flag = true;
 }) (new_app (codes "dsnroute"))
 
+-- the form with these rules behind its own
+abbrev pub with_rules : App → List Rule → App
+with_rules app [] = app
+with_rules app (rule ∷ rules) = with_rules (with_rule app rule) rules
+
+abbrev pub route_args : List Rule
+route_args = named (codes "input") ∷ named (codes "output") ∷ valued (codes "grid") ∷ valued (codes "workers")
+    ∷ valued (codes "passes") ∷ valued (codes "via-cost") ∷ flag (codes "omit-fixed") ∷ []
+
 abbrev pub route_app : App
-route_app = with_rule (with_rule (with_rule (with_rule (with_rule (with_rule (with_rule bare_app
-    (named (codes "input"))) (named (codes "output"))) (valued (codes "grid"))) (valued (codes "workers")))
-    (valued (codes "passes"))) (valued (codes "via-cost"))) (flag (codes "omit-fixed"))
+route_app = with_rules bare_app route_args
 
 abbrev pub gen_app : App
 gen_app = with_rule bare_app (named (codes "number"))
+
+-- the bare form with these arguments is this one, and none of them is global
+pub record Makes (args : List Arg) (app : App) : Type 0 where
+  pub is : fold (λ (a : App) (x : Arg). with_rule a (rule_of x)) bare_app args ≡ app
+  pub local : All (λ (a : Arg). a.global ≡ false) args
+
+-- arguments of these rules come behind the others
+abbrev pub Adds : List Rule → List Arg → List Arg → Type 0
+Adds rules old new = (app : App) → Makes old app → Makes new (with_rules app rules)
+
+-- what a form without subcommands and other plain options is for `clap`
+pub record IsPlainForm (app : App) : Type 0 where
+  pub simple : is_simple app ≡ true
+  pub free : is_simple_and_free app ≡ true
 
 -- ---- what is found
 
@@ -80,8 +102,11 @@ pub record HoldsRoute (parts : List Part) (f : Found) : Type 0 where
 abbrev pub FindsRoute : List Word → Result ArgMatches WordFault → Type 0
 FindsRoute = Finds route_form HoldsRoute
 
+abbrev pub HoldsGen : List Part → Found → Type 0
+HoldsGen = Holds gen_form (codes "number" ∷ [])
+
 abbrev pub FindsGen : List Word → Result ArgMatches WordFault → Type 0
-FindsGen = Finds gen_form (Holds gen_form (codes "number" ∷ []))
+FindsGen = Finds gen_form HoldsGen
 
 abbrev pub knobs_found : Found → Option Knobs
 knobs_found f = knobs_in (first_value f (codes "grid")) (first_value f (codes "workers"))

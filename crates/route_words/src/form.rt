@@ -1,12 +1,13 @@
 //! The forms of the words after a command, for `clap`, and what it finds in the words.
 //! A fault of `clap` other than want of memory is one of usage.
 
-ghost use Rattle.std.specs.Prelude.{◌≡◌, IfOk, codes, false};
-ghost use Rattle.clap.specs.Simple.{app_of, with_rule};
+ghost use Rattle.std.specs.Prelude.{◌≡◌, ◌∷◌, ◌++◌, [], IfOk, codes, false};
+ghost use Rattle.clap.specs.Simple.{App, app_of};
 ghost use Rattle.clap.specs.Walk.{rule_of};
 ghost use Rattle.clap.specs.Values.{kind_of};
 ghost use Rattle.route_words.specs.Words.{texts};
 ghost use Rattle.route_words.specs.Forms.{route_app, gen_app, bare_app, named, valued, flag, fault_by, Reads};
+ghost use Rattle.route_words.specs.Forms.{route_args, Adds, Makes, IsPlainForm};
 ghost use Rattle.route_words.specs.Forms.{FindsRoute, FindsGen};
 
 use crate::WordFault;
@@ -47,54 +48,84 @@ fn flag_arg<'a>(alloc: Global, name: &'a str) -> Arg<'a>
     Arg::new(alloc, name).long(name).action(ArgAction::SetTrue)
 }
 
-fn with_arg<'a>(form: Command<'a>, arg: Arg<'a>) -> Result<Command<'a>, AllocError>
-    requires own { arg.global ≡ false }
-    ensures { IfOk result (λ c. app_of c ≡ with_rule (app_of form.entry) (rule_of arg.entry)) }
+// Puts a value behind the others.
+fn push<T: Drop>(list: &mut Vec<T>, value: T) -> Result<(), AllocError>
+    ensures { IfOk result (λ _. list.new.items ≡ list.old.items ++ value ∷ []) }
 {
-    form.arg(arg)
+    list.push(value)?;
+    Ok(())
 }
 
-fn with_names<'a>(alloc: Global, form: Command<'a>) -> Result<Command<'a>, AllocError>
-    ensures { IfOk result (λ c. app_of c ≡ with_rule (with_rule (app_of form.entry) (named (codes "input")))
-        (named (codes "output"))) }
+fn push_name<'a>(alloc: Global, args: &mut Vec<Arg<'a>>, name: &'a str) -> Result<(), AllocError>
+    ensures { IfOk result (λ _. Adds (named name.entry.now ∷ []) args.old.items args.new.items) }
 {
-    with_arg(
-        with_arg(form, name_arg(alloc, "input"))?,
-        name_arg(alloc, "output"),
-    )
+    push(args, name_arg(alloc, name))
 }
 
-// The form of the words after `route`.
-fn route_command<'a>(alloc: Global) -> Result<Command<'a>, AllocError>
-    ensures { IfOk result (λ c. app_of c ≡ route_app) }
+fn push_valued<'a>(alloc: Global, args: &mut Vec<Arg<'a>>, name: &'a str) -> Result<(), AllocError>
+    ensures { IfOk result (λ _. Adds (valued name.entry.now ∷ []) args.old.items args.new.items) }
 {
-    let named = with_names(alloc, bare_form(alloc))?;
-    let with_grid = with_arg(named, valued_arg(alloc, "grid"))?;
-    let with_workers = with_arg(with_grid, valued_arg(alloc, "workers"))?;
-    let with_passes = with_arg(with_workers, valued_arg(alloc, "passes"))?;
-    let with_cost = with_arg(with_passes, valued_arg(alloc, "via-cost"))?;
-    with_arg(with_cost, flag_arg(alloc, "omit-fixed"))
+    push(args, valued_arg(alloc, name))
 }
 
-// The form of the words after `gen`.
-fn gen_command<'a>(alloc: Global) -> Result<Command<'a>, AllocError>
-    ensures { IfOk result (λ c. app_of c ≡ gen_app) }
+fn push_flag<'a>(alloc: Global, args: &mut Vec<Arg<'a>>, name: &'a str) -> Result<(), AllocError>
+    ensures { IfOk result (λ _. Adds (flag name.entry.now ∷ []) args.old.items args.new.items) }
 {
-    with_arg(bare_form(alloc), name_arg(alloc, "number"))
+    push(args, flag_arg(alloc, name))
+}
+
+fn push_counts<'a>(alloc: Global, args: &mut Vec<Arg<'a>>) -> Result<(), AllocError>
+    ensures { IfOk result (λ _. Adds (valued (codes "workers") ∷ valued (codes "passes") ∷ []) args.old.items
+        args.new.items) }
+{
+    push(args, valued_arg(alloc, "workers"))?;
+    push_valued(alloc, args, "passes")
+}
+
+// The arguments of the words after `route`.
+fn push_route<'a>(alloc: Global, args: &mut Vec<Arg<'a>>) -> Result<(), AllocError>
+    ensures { IfOk result (λ _. Adds route_args args.old.items args.new.items) }
+{
+    push_name(alloc, args, "input")?;
+    push_name(alloc, args, "output")?;
+    push_valued(alloc, args, "grid")?;
+    push_counts(alloc, args)?;
+    push_valued(alloc, args, "via-cost")?;
+    push_flag(alloc, args, "omit-fixed")
+}
+
+fn form_of<'a>(alloc: Global, args: Vec<Arg<'a>>) -> Result<Command<'a>, AllocError>
+    ensures { IfOk result (λ c. (app : App) → Makes args.entry.items app → app_of c ≡ app) }
+{
+    bare_form(alloc).args(args)
+}
+
+// What the words hold by the form with these arguments.
+fn parse<'a>(
+    alloc: Global,
+    args: Vec<Arg<'a>>,
+    words: &'a [String],
+) -> Result<ArgMatches<'a>, Error>
+    ensures { (app : App) → Makes args.entry.items app → IsPlainForm app → Reads app (texts words.entry.now) result }
+{
+    let form = form_of(alloc, args)?;
+    form.try_get_matches_from(words)
 }
 
 fn parse_route<'a>(alloc: Global, words: &'a [String]) -> Result<ArgMatches<'a>, Error>
     ensures { Reads route_app (texts words.entry.now) result }
 {
-    let form = route_command(alloc)?;
-    form.try_get_matches_from(words)
+    let mut args = Vec::new(alloc);
+    push_route(alloc, &mut args)?;
+    parse(alloc, args, words)
 }
 
 fn parse_gen<'a>(alloc: Global, words: &'a [String]) -> Result<ArgMatches<'a>, Error>
     ensures { Reads gen_app (texts words.entry.now) result }
 {
-    let form = gen_command(alloc)?;
-    form.try_get_matches_from(words)
+    let mut args = Vec::new(alloc);
+    push_name(alloc, &mut args, "number")?;
+    parse(alloc, args, words)
 }
 
 fn fault_by(error: &Error) -> WordFault

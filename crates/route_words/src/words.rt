@@ -1,11 +1,13 @@
 //! The words of the command line.
 //! `route` and `gen` are read by forms of their own; what a list of words means is one definition.
 
-ghost use Rattle.std.specs.Prelude.{◌≡◌, ◌∷◌, [], Some, IfOk};
+ghost use Rattle.std.specs.Prelude.{◌≡◌, ◌∷◌, [], List as Seq, Some, IfOk};
 ghost use Rattle.std.specs.Option.{option_map};
 ghost use Rattle.clap.specs.Matches.{found_of};
 ghost use Rattle.route_words.specs.Words.{texts, route_with, route_of, gen_with, gen_of, command_of, Says, IsWithin};
-ghost use Rattle.route_words.specs.Forms.{is_on, knobs_found};
+ghost use Rattle.route_words.specs.Words.{gen_form, route_form};
+ghost use Rattle.route_words.specs.Parts.{Word, parts_of};
+ghost use Rattle.route_words.specs.Forms.{is_on, knobs_found, HoldsGen, HoldsRoute};
 
 use crate::form::{find_gen, find_route};
 use crate::knobs::{read_knobs, read_number};
@@ -63,32 +65,52 @@ fn route_with(alloc: Global, input: &str, output: &str, knobs: Knobs) -> Result<
     })
 }
 
-fn read_route(alloc: Global, words: &[String]) -> Result<Command, WordFault>
-    ensures { Says (route_of (texts words.now)) result }
+// The command by what `clap` found in the words after `route`.
+fn route_found(alloc: Global, found: &ArgMatches) -> Result<Command, WordFault>
+    ensures { (words : Seq Word) → HoldsRoute (parts_of route_form words) (found_of found.now)
+        → Says (route_of words) result }
 {
-    let found = find_route(alloc, words)?;
     let Some(input) = found.get_str("input") else {
         return Err(WordFault::Usage);
     };
     let Some(output) = found.get_str("output") else {
         return Err(WordFault::Usage);
     };
-    let Some(knobs) = knobs_found(&found) else {
+    let Some(knobs) = knobs_found(found) else {
         return Err(WordFault::Usage);
     };
     route_with(alloc, input, output, knobs)
 }
 
-fn read_gen(alloc: Global, words: &[String]) -> Result<Command, WordFault>
-    ensures { Says (gen_of (texts words.now)) result }
+fn read_route(alloc: Global, words: &[String]) -> Result<Command, WordFault>
+    ensures { Says (route_of (texts words.now)) result }
 {
-    let found = find_gen(alloc, words)?;
+    match find_route(alloc, words) {
+        Ok(found) => route_found(alloc, &found),
+        Err(fault) => Err(fault),
+    }
+}
+
+// The command by what `clap` found in the words after `gen`.
+fn gen_found(found: &ArgMatches) -> Result<Command, WordFault>
+    ensures { (words : Seq Word) → HoldsGen (parts_of gen_form words) (found_of found.now)
+        → Says (gen_of words) result }
+{
     let Some(word) = found.get_str("number") else {
         return Err(WordFault::Usage);
     };
     match read_number(1, LAST_BOARD, word) {
         Some(n) => Ok(Command::Gen { n }),
         None => Err(WordFault::Usage),
+    }
+}
+
+fn read_gen(alloc: Global, words: &[String]) -> Result<Command, WordFault>
+    ensures { Says (gen_of (texts words.now)) result }
+{
+    match find_gen(alloc, words) {
+        Ok(found) => gen_found(&found),
+        Err(fault) => Err(fault),
     }
 }
 

@@ -1,21 +1,9 @@
-use Rattle.std.proofs.Common.{◌∙◌, refl, sym}
-use Rattle.clap.specs.Matches.{found_of}
 use Rattle.route_words.specs.Words.{texts}
-use Rattle.route_words.proofs.Meaning.{gen_named, no_number}
+use Rattle.route_words.proofs.Meaning.{gen_misfit}
 use Rattle.route_words.proofs.words.read_gen.Goals as goal
 
-pub returns-in_default : goal.returns-in_default
-returns-in_default c = no_number (texts c.args.words.now) (found_of c.in_ok-found.found) c.in_ok-found.ensures
-    (sym c.in_default.ensures)
+pub returns-in-Ok : goal.returns-in-Ok
+returns-in-Ok c = c.gen_found.ensures (texts c.args.words.now) c.in-Ok.ensures
 
-pub returns-in-Some-read_number : goal.returns-in-Some-read_number
-returns-in-Some-read_number c =
-    gen_named (texts c.args.words.now) (found_of c.in_ok-found.found) c.in_ok-found.ensures c.in-Some.word.now
-    (sym c.in-Some.ensures)
-    ∙ rw (sym c.in-Some-read_number.ensures) refl
-
-pub returns : goal.returns
-returns c =
-    gen_named (texts c.args.words.now) (found_of c.in_ok-found.found) c.in_ok-found.ensures c.in-Some.word.now
-    (sym c.in-Some.ensures)
-    ∙ rw (sym c.in-None.ensures) refl
+pub returns-in-Err : goal.returns-in-Err
+returns-in-Err c = gen_misfit (texts c.args.words.now) c.in-Err.fault c.in-Err.ensures

@@ -8,3 +8,4 @@ mod Faults
 pub mod Least
 pub mod Troubles
 mod Parting
+mod Tests

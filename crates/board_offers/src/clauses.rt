@@ -42,10 +42,19 @@ pub(crate) fn has_ends(d: &Design, given: &[Item], offer: &Offer) -> bool
         ((offer.now.net < length d.now.nets) × (offer.now.from ≢ offer.now.to)
         × IsOfNet given.now offer.now.net offer.now.from × IsOfNet given.now offer.now.net offer.now.to) }
 {
-    (offer.net as usize) < d.nets.len()
-        && offer.from != offer.to
-        && is_of_net(given, offer.net, offer.from)
-        && is_of_net(given, offer.net, offer.to)
+    let net = offer.net;
+    let from = offer.from;
+    let to = offer.to;
+    if net as usize >= d.nets.len() {
+        return false;
+    }
+    if from == to {
+        return false;
+    }
+    if !is_of_net(given, net, from) {
+        return false;
+    }
+    is_of_net(given, net, to)
 }
 
 fn leads_to(from: &Item, chain: &[Item], to: &Item) -> bool

@@ -35,8 +35,8 @@ fn copy_shoves(alloc: Global, shoves: &[Shoved]) -> Result<List<Shoved>, AllocEr
 pub fn copy_offer(alloc: Global, o: &Offer) -> Result<Offer, AllocError>
     ensures { IfOk result (λ p. p ≡ o.now) }
 {
-    let add = copy_metals(alloc, o.add.as_slice())?;
     let rip = List::from_slice(alloc, o.rip.as_slice())?;
+    let add = copy_metals(alloc, o.add.as_slice())?;
     let shoves = copy_shoves(alloc, o.shoves.as_slice())?;
     Ok(Offer {
         base: o.base,

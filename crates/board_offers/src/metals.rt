@@ -67,5 +67,8 @@ pub(crate) fn has_metals(d: &Design, net: u32, add: &[Metal]) -> bool
     requires design { IsDesignFit d.now }
     ensures { IsTrue result ↔ ((0 < length add.now) × All (IsAddable d.now net) add.now) }
 {
-    !add.is_empty() && are_addable(d, net, add)
+    if add.is_empty() {
+        return false;
+    }
+    are_addable(d, net, add)
 }

@@ -37,10 +37,16 @@ fn has_chain_for(d: &Design, net: u32, added: &[Item], s: &Shoved, a: &Item) -> 
         (IsInTheWayOf d.now net added.now a.now × IsWire a.now.metal
         × (2 ≤ length s.now.chain) × All (IsWithin (2 ^ 29)) s.now.chain) }
 {
-    is_in_the_way(d, net, added, a)
-        && is_wire(&a.metal)
-        && s.chain.len() >= 2
-        && are_near(s.chain.as_slice())
+    if !is_in_the_way(d, net, added, a) {
+        return false;
+    }
+    if !is_wire(&a.metal) {
+        return false;
+    }
+    if s.chain.len() < 2 {
+        return false;
+    }
+    are_near(s.chain.as_slice())
 }
 
 // The replacement of a shoved wire, or None where it may not be shoved so.

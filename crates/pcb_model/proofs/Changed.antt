@@ -1,6 +1,8 @@
 -- What a plain list of items keeps when one is added or taken out.
-use Rattle.std.proofs.Common.{ℕ, ◌<◌, ◌^◌, List, [], ◌∷◌, ◌++◌, length, take, drop, All}
-use Rattle.std.specs.Prelude.{remove}
+use Rattle.std.proofs.Common.{ℕ, ◌<◌, ◌^◌, List, [], ◌∷◌, ◌++◌, length, take, drop, All, ◌≡◌, ◌∙◌, sym, ap, arith}
+use Rattle.std.proofs.Common.{Option, Some, None}
+use Rattle.std.specs.Prelude.{remove, MatchOption}
+use Rattle.std.proofs.lemmas.List.{same_from_push, length_push}
 use Prim.Native.Nat.{suc}
 use Rattle.std.proofs.lemmas.List.Elements.{All-append, All-cons, All-nil, All-take, All-drop}
 use Rattle.std.proofs.lemmas.List.Quantifiers.{all_pairs_push, all_pairs_remove}
@@ -35,3 +37,10 @@ plain_remove items extents i h l = record {
       (All-drop IsItemFit (suc i) items h.fit);
   paired = zip_remove (λ (b : Item) (f : Extent). IsExtentOf b.pieces f) items extents i h.paired;
 }
+
+-- an element that was added and is taken off again
+pub popped : {X : Type 0} (xs more ys : List X) (e : X) (r : Option X) → more ≡ xs ++ e ∷ []
+    → MatchOption r ((more ≡ []) × (ys ≡ [])) (λ last. more ≡ ys ++ last ∷ []) → ys ≡ xs
+popped xs more ys e None m h =
+    let n = length_push xs e in let z = ap length (sym m ∙ h.0) in absurd (omega (arith, n, z))
+popped xs more ys e (Some last) m h = sym (same_from_push xs ys e last (sym m ∙ h)).0

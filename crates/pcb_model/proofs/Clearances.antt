@@ -1,11 +1,13 @@
 -- The greatest clearance: of all nets, and of none.
 use Rattle.std.proofs.Common.{◌≡◌, ℕ, ◌<◌, ◌≤◌, ◌^◌, ◌++◌, ◌∷◌, [], length, Option, Some, None, flat_map, max, ap, sym}
-use Rattle.std.proofs.Common.{subst, inl, inr, arith}
+use Rattle.std.proofs.Common.{subst, inl, inr, arith, ◌+◌}
 use Rattle.std.proofs.Math.Nat.{max-le, max-eq_left}
 use Rattle.std.proofs.lemmas.Option.{slice_get_past}
 use Rattle.pcb_model.specs.declared.item.Kind.{Kind}
 use Rattle.pcb_model.specs.declared.item.Kind.TheVariants.{Wire, Via, Pin, Smd, Area}
 use Rattle.pcb_model.specs.declared.design.Net.{Net}
+use Rattle.pcb_model.specs.declared.rules.Side.{Side}
+use Rattle.pcb_model.specs.Near.{IsSideOf, side_value}
 use Rattle.pcb_model.specs.declared.design.Design.{Design}
 use Rattle.pcb_model.specs.Rules.{value_of, levels, first_present, with_class}
 use Rattle.pcb_model.specs.Bounds.{IsValue, AreValuesWithin, HasRulesWithin, IsGreatestClearance}
@@ -53,3 +55,24 @@ pub greatest_within : (d : Design) (m : ℕ) → HasRulesWithin (2 ^ 28) d → I
 greatest_within d m rules g =
     let (a, b, ka, kb, is) = g.reached in
     subst (λ (v : ℕ). v ≤ 2 ^ 28) is ((clearances_within (2 ^ 28) d rules).each a b ka kb)
+
+-- what is within m is within what is more
+pub values_more : (d : Design) (net : Option ℕ) (m r : ℕ) → m ≤ r → AreValuesWithin d net m → AreValuesWithin d net r
+values_more d net m r h v = record { each = λ one other. let w = v.each one other in omega (arith, h, w) }
+
+-- one more net whose values are within r
+pub nets_more : (d : Design) (net m r : ℕ) → m ≤ r → ((n : ℕ) → n < net → AreValuesWithin d (Some n) m)
+    → AreValuesWithin d (Some net) r → (n : ℕ) → n < net + 1 → AreValuesWithin d (Some n) r
+nets_more d net m r h before v n l = elim (below_or_from n net) [
+  | inl a ↦ values_more d (Some n) m r h (before n a)
+  | inr a ↦ let e : net ≡ n = omega (arith, a, l) in subst (λ (k : ℕ). AreValuesWithin d (Some k) r) e v
+]
+
+-- the value of a side is that of its net
+pub side_is : (d : Design) (net : Option ℕ) (k : Kind) (s : Side) → IsSideOf d net k s → (other : Kind)
+    → side_value s other ≡ value_of d net k other
+side_is d net k s h Wire = h.wire_is
+side_is d net k s h Via = h.via_is
+side_is d net k s h Pin = h.pin_is
+side_is d net k s h Smd = h.smd_is
+side_is d net k s h Area = h.area_is

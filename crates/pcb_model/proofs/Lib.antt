@@ -12,3 +12,6 @@ pub mod Symmetry
 pub mod Counting
 pub mod Changed
 pub mod Laying
+pub mod Lookups
+pub mod Turned
+pub mod Boxed

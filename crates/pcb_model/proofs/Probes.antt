@@ -1,6 +1,6 @@
 -- Wires and vias that no item was made of.
 use Rattle.std.proofs.Common.{◌≡◌, ℕ, Bool, true, false, not, ◌&&◌, ◌⊎◌, inl, inr, ⊎_elim, List, [], ◌∷◌, map, All, Any}
-use Rattle.std.proofs.Common.{◌↔◌, refl, sym, ap, ◌∙◌, subst, Some, None, Option, slice_get, arith}
+use Rattle.std.proofs.Common.{◌↔◌, true≢false, refl, sym, ap, ◌∙◌, subst, Some, None, Option, slice_get, arith}
 use Prim.Native.Nat.{zero, suc}
 use Rattle.std.specs.Prelude.{IfSome}
 use Rattle.std.proofs.lemmas.List.Elements.{All-head, All-tail, All-cons, All-nil}
@@ -65,6 +65,14 @@ module _ (d : Design) (net layer width : ℕ) (chain : List Point) (b : Item) wh
         },
         λ h. All-head P p [] (h.keep (same ∙ m)).each,
       )
+
+  -- what need not keep from the wire agrees with it
+  pub wire_free : (not (is_same_net (Some net) b.net) && meets_wires b.metal) ≡ false
+      → Agrees d (item_of d 0 (Some net) false (Wire layer width chain)) b
+  wire_free m = record {
+    keep = λ k. absurd (true≢false (sym (sym same ∙ k) ∙ m));
+    stay_off = λ k. absurd (never (not d.via_at_smd) (is_same_net (Some net) b.net) k);
+  }
 
 -- what a via's pieces are
 module _ (d : Design) (net padstack : ℕ) (at : Point) (b : Item) (ps : List Piece) (e : ps ≡ padstack_pieces d padstack)

@@ -6,6 +6,7 @@ ghost use Rattle.std.specs.Prelude.{filter, length, ltb, slice_index_or, suc, ta
 ghost use Rattle.std.specs.Option.{option_copied};
 ghost use Rattle.pcb_model.specs.declared.item.Item.{Item as OneItem};
 ghost use Rattle.pcb_model.specs.Copper.{Ascends, IsFirstFrom};
+ghost use Rattle.pcb_tiles.specs.declared.shelf.TheConstants.{MOST};
 ghost use Rattle.pcb_tiles.specs.Cells.{with_item, without_item};
 ghost use Rattle.pcb_tiles.specs.Shelves.{flat, IsChunk, IsHome, IsRoom, last_id, chunk_at as chunk_number};
 
@@ -176,7 +177,7 @@ fn add_cut(
     items: List<Shared<Item>>,
     chunks: &mut List<Chunk>,
 ) -> Result<(), AllocError>
-    requires most { length items ≤ 129 }
+    requires most { length items ≤ MOST + 1 }
     requires chunks { All IsChunk chunks.old }
     ensures items { IfOk result (λ _. flat chunks.new ≡ flat chunks.old ++ items) }
     ensures chunks { IfOk result (λ _. All IsChunk chunks.new) }
@@ -194,7 +195,7 @@ fn add_cut(
 
 // The chunks of some items: two where they are one too many for one.
 fn cut(alloc: Global, items: List<Shared<Item>>) -> Result<List<Chunk>, AllocError>
-    requires { length items ≤ 129 }
+    requires { length items ≤ MOST + 1 }
     ensures items { IfOk result (λ s. flat s ≡ items) }
     ensures chunks { IfOk result (λ s. All IsChunk s) }
 {

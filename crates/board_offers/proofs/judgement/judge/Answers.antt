@@ -351,3 +351,15 @@ returns c =
       },
       c.from_vec.ensures ∙ new,
     )
+
+pub lie_inside-requires-clause-bounds_fit : goal.lie_inside-requires-clause-bounds_fit
+lie_inside-requires-clause-bounds_fit c = c.requires.sound.fits.bounds_fit
+
+pub may_rip_all-requires-clause-rules : goal.may_rip_all-requires-clause-rules
+may_rip_all-requires-clause-rules c = c.requires.sound.fits.rules_within
+
+pub replacements-requires-clause-sound : goal.replacements-requires-clause-sound
+replacements-requires-clause-sound c = c.requires.sound
+
+pub all_agree-requires-clause-rules : goal.all_agree-requires-clause-rules
+all_agree-requires-clause-rules c = c.requires.sound.fits.rules_within

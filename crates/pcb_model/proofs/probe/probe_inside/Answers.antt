@@ -1,4 +1,4 @@
-use Rattle.std.proofs.Common.{List, [], ◌∷◌, All, sym, subst}
+use Rattle.std.proofs.Common.{List, [], ◌∷◌, All, sym, subst, map}
 use Rattle.geo_kernel.specs.declared.point.Point.{Point}
 use Rattle.pcb_model.specs.declared.item.Piece.{Piece}
 use Rattle.pcb_model.specs.declared.item.Probe.{Probe}
@@ -47,4 +47,16 @@ returns-in-Step c =
     let s = c.as_slice-in-Step.ensures in (
       λ t. subst F (sym c.in-Step.is) (w.0 (subst B s (c.inside_each-in-Step.ensures.0 t))),
       λ h. c.inside_each-in-Step.ensures.1 (subst B (sym s) (w.1 (subst F c.in-Step.is h))),
+    )
+
+pub returns-in-Via : goal.returns-in-Via
+returns-in-Via c =
+    let F : Probe → Type 0 = λ q. AreInside c.args.d.now.bounds (pieces_of c.args.d.now (metal_of q)) in
+    let B : List (List (List Point)) → Type 0 = λ bs. AreInside bs
+    (map (moved_piece c.in-Via.at) c.padstack_pieces.result.now) in
+    let S : List Piece → Type 0 = λ ps. AreInside c.args.d.now.bounds (map (moved_piece c.in-Via.at) ps) in
+    let s = c.padstack_pieces.ensures in
+    let b = c.as_slice-in-Via.ensures in (
+      λ t. subst F (sym c.in-Via.is) (subst S s (subst B b (c.moved_are_inside.ensures.0 t))),
+      λ h. c.moved_are_inside.ensures.1 (subst B (sym b) (subst S (sym s) (subst F c.in-Via.is h))),
     )

@@ -1,11 +1,11 @@
-use Rattle.std.proofs.Common.{◌≡◌, ℕ, ◌^◌, List, Some, arith, sym, ◌∙◌, subst}
+use Rattle.std.proofs.Common.{◌≡◌, ℕ, ◌^◌, List, Some, arith, sym, ◌∙◌, subst, refl}
 use Rattle.pcb_model.specs.declared.item.Kind.TheVariants as kind
 use Rattle.pcb_model.specs.declared.item.Piece.{Piece}
 use Rattle.pcb_model.specs.Pairs.{KeepsFrom}
 use Rattle.pcb_model.specs.Pieces.{wire_piece}
 use Rattle.pcb_model.specs.Rules.{clearance_of}
 use Rattle.pcb_model.proofs.Within.{value_within}
-use Rattle.pcb_model.proofs.Probes.{wire_kept}
+use Rattle.pcb_model.proofs.Probes.{wire_kept, wire_free}
 use Rattle.pcb_model.proofs.probe.wire_ok.Goals as goal
 
 pub chain_keeps_all-requires-clause-c_within : goal.chain_keeps_all-requires-clause-c_within
@@ -33,3 +33,10 @@ returns-then-wire_must_keep c =
       λ t. k.0 (subst F clear (subst G c.as_slice.ensures (c.chain_keeps_all.ensures.0 t))),
       λ h. c.chain_keeps_all.ensures.1 (subst G (sym c.as_slice.ensures) (subst F (sym clear) (k.1 h))),
     )
+
+pub returns-else-wire_must_keep : goal.returns-else-wire_must_keep
+returns-else-wire_must_keep c = (
+  λ t. wire_free c.args.d.now c.args.net c.args.layer c.args.width c.args.points.now c.args.b.now
+      (sym c.wire_must_keep.ensures ∙ c.if-wire_must_keep.false),
+  λ h. refl,
+)

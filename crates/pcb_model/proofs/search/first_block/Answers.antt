@@ -5,6 +5,7 @@ use Rattle.pcb_model.specs.Bounds.{IsItemFit}
 use Rattle.pcb_model.specs.Pairs.{ProbeAgrees}
 use Rattle.pcb_model.specs.Near.{IsExtentOf}
 use Rattle.pcb_model.proofs.First.{found_id, one_more, none_found, item_at, extent_at, no_extent, zip_length}
+use Rattle.pcb_model.proofs.First.{none_below}
 use Rattle.pcb_model.proofs.search.first_block.Goals as goal
 
 pub bounds-extents-i : goal.bounds-extents-i
@@ -49,3 +50,13 @@ pub returns-clause-finds : goal.returns-clause-finds
 returns-clause-finds g c =
     none_found (ProbeAgrees c.args.d.now c.args.net c.args.p.now) c.args.from None c.args.items.now c.loop-i.i
     c.loop-i-test.false c.loop-i.invariant.passed
+
+pub loop-i-init : goal.loop-i-init
+loop-i-init g c = record {
+  passed = none_below (ProbeAgrees c.args.d.now c.args.net c.args.p.now) c.args.from None c.args.items.now
+      c.place_of-i.result c.place_of-i.ensures.below;
+  cost = omega arith;
+}
+
+pub place_of-i-requires : goal.place_of-i-requires
+place_of-i-requires g c = c.requires.ascends

@@ -3,7 +3,7 @@ use Rattle.pcb_model.specs.declared.item.Piece.{Piece}
 use Rattle.pcb_model.specs.declared.item.Probe.{Probe}
 use Rattle.pcb_model.specs.Bounds.{IsFit}
 use Rattle.pcb_model.specs.Pieces.{moved_piece, pieces_of, metal_of}
-use Rattle.pcb_model.specs.Near.{extent_of}
+use Rattle.pcb_model.specs.Near.{extent_of, IsExtentOf}
 use Rattle.pcb_model.proofs.Inside.{wire_within, wire_end_within}
 use Rattle.pcb_model.proofs.Least.{disc_extent}
 use Rattle.pcb_model.proofs.Probes.{disc_fit, step_fit, via_fit, stack_fit}
@@ -66,3 +66,19 @@ returns-in-Via-clause-least c =
     let is = ap (λ (q : Probe). extent_of (pieces_of c.args.d.now (metal_of q))) c.in-Via.is in
     let stack = ap (λ (ps : List Piece). extent_of (map (moved_piece c.in-Via.at) ps)) c.padstack_pieces.ensures in
     c.of_moved.ensures.least ∙ (stack ∙ sym is)
+
+pub returns-in-Disc-clause-has : goal.returns-in-Disc-clause-has
+returns-in-Disc-clause-has c =
+    subst (λ (q : Probe). IsExtentOf (pieces_of c.args.d.now (metal_of q)) c.of_wire.result) (sym c.in-Disc.is)
+    c.of_wire.ensures.one
+
+pub returns-in-Step-clause-has : goal.returns-in-Step-clause-has
+returns-in-Step-clause-has c =
+    subst (λ (q : Probe). IsExtentOf (pieces_of c.args.d.now (metal_of q)) c.of_wire-in-Step.result) (sym c.in-Step.is)
+    c.of_wire-in-Step.ensures.two
+
+pub returns-in-Via-clause-has : goal.returns-in-Via-clause-has
+returns-in-Via-clause-has c =
+    let S : List Piece → Type 0 = λ ps. IsExtentOf (map (moved_piece c.in-Via.at) ps) c.of_moved.result in
+    subst (λ (q : Probe). IsExtentOf (pieces_of c.args.d.now (metal_of q)) c.of_moved.result) (sym c.in-Via.is)
+    (subst S c.padstack_pieces.ensures c.of_moved.ensures.has)

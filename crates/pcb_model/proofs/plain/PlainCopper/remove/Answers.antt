@@ -4,7 +4,7 @@ use Rattle.std.proofs.lemmas.Option.{get_or_from_slice_get}
 use Rattle.pcb_model.specs.declared.item.Item.{Item}
 use Rattle.pcb_model.specs.declared.near.Extent.{Extent}
 use Rattle.pcb_model.specs.Near.{IsExtentOf}
-use Rattle.pcb_model.specs.Copper.{IsPlain, Removes}
+use Rattle.pcb_model.specs.Copper.{IsPlain, Removes, Ascends}
 use Rattle.pcb_model.proofs.First.{zip_length}
 use Rattle.pcb_model.proofs.Changed.{plain_remove}
 use Rattle.pcb_model.proofs.plain.PlainCopper.remove.Goals as goal
@@ -41,3 +41,6 @@ returns-in-Some-clause-some c =
             rest_is = c.remove-in-Some.ensures.rest;
           }),
     )
+
+pub index_of-requires : goal.index_of-requires
+index_of-requires c = subst Ascends (sym c.as_slice.ensures) c.self.invariant.ascends

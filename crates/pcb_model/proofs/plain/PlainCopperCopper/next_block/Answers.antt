@@ -1,7 +1,7 @@
-use Rattle.std.proofs.Common.{◌≡◌, ◌+◌, ◌≤◌, List, length, None, subst}
+use Rattle.std.proofs.Common.{◌≡◌, ◌+◌, ◌≤◌, List, length, None, subst, sym}
 use Rattle.pcb_model.specs.declared.item.Item.{Item}
 use Rattle.pcb_model.specs.Pairs.{ProbeAgrees}
-use Rattle.pcb_model.specs.Copper.{Finds}
+use Rattle.pcb_model.specs.Copper.{Finds, Ascends}
 use Rattle.pcb_model.proofs.plain.PlainCopperCopper.next_block.Goals as goal
 
 pub returns-clause-finds : goal.returns-clause-finds
@@ -20,3 +20,6 @@ returns-clause-cost g c =
     let e : c.as_slice.result.now ≡ c.args.self.now = cc in
     subst (λ (items : List Item). c.first_block.new.steps ≤ c.args.steps.now + length items) e
     c.first_block.ensures.cost
+
+pub first_block-requires-clause-ascends : goal.first_block-requires-clause-ascends
+first_block-requires-clause-ascends g c = subst Ascends (sym c.as_slice.ensures) c.self.invariant.ascends

@@ -1,7 +1,7 @@
-use Rattle.std.proofs.Common.{◌≡◌, ◌+◌, ◌≤◌, List, length, Some, subst}
+use Rattle.std.proofs.Common.{◌≡◌, ◌+◌, ◌≤◌, List, length, Some, subst, sym}
 use Rattle.pcb_model.specs.declared.item.Item.{Item}
 use Rattle.pcb_model.specs.Pairs.{Agrees}
-use Rattle.pcb_model.specs.Copper.{Finds}
+use Rattle.pcb_model.specs.Copper.{Finds, Ascends}
 use Rattle.pcb_model.proofs.plain.PlainCopperCopper.next_clash.Goals as goal
 
 pub returns-clause-finds : goal.returns-clause-finds
@@ -19,3 +19,6 @@ returns-clause-cost g c =
     let e : c.as_slice.result.now ≡ c.args.self.now = cc in
     subst (λ (items : List Item). c.first_clash.new.steps ≤ c.args.steps.now + length items) e
     c.first_clash.ensures.cost
+
+pub first_clash-requires-clause-ascends : goal.first_clash-requires-clause-ascends
+first_clash-requires-clause-ascends g c = subst Ascends (sym c.as_slice.ensures) c.self.invariant.ascends

@@ -21,18 +21,10 @@ mod of_geo_kernel;
 #[cfg(test)]
 mod of_head;
 #[cfg(test)]
-mod of_library;
-#[cfg(test)]
-mod of_network;
-#[cfg(test)]
 mod of_placement;
 #[cfg(test)]
 mod of_route_words;
 #[cfg(test)]
 mod of_shapes;
-#[cfg(test)]
-mod of_structure;
-#[cfg(test)]
-mod of_wiring;
 #[cfg(test)]
 mod sections;

@@ -6,8 +6,8 @@ use desk_io::{
 };
 use std::alloc::{AllocError, Global};
 use std::fmt::Display;
-use std::io;
 use std::rt::Files;
+use std::{fs, io};
 
 /// Whether a read gives that text.
 fn gives<D: Desk>(desk: &mut D, name: &str, limit: u64, text: &str) -> bool {
@@ -40,79 +40,39 @@ fn is_text(bytes: Option<&[u8]>, text: &str) -> bool {
 
 // ---- desks and a sink in memory
 
-fn file(alloc: Global, name: &str, text: &str) -> Result<(String, Vec<u8>), AllocError> {
-    let name = String::from_str(alloc, name)?;
-    Ok((name, text.as_bytes().to_vec(alloc)?))
-}
-
-fn files_of(alloc: Global, pairs: &[(&str, &str)]) -> Result<Vec<(String, Vec<u8>)>, AllocError> {
-    let mut files = Vec::new(alloc);
-    for &(name, text) in pairs {
-        files.push(file(alloc, name, text)?)?;
-    }
-    Ok(files)
-}
-
-fn calm_desk(alloc: Global) -> Result<CalmDesk, AllocError> {
-    let files = files_of(alloc, &[("a", "one"), ("b", "two"), ("a", "three")])?;
-    CalmDesk::new(alloc, files)
-}
-
-/// Whether the last file of a name is read within its limit, and an absent file is a fault.
-fn reads_the_last(desk: &mut CalmDesk) -> bool {
-    gives(desk, "a", 5, "three")
+/// Whether what is written is kept and read within its limit, and an absent file is a fault.
+fn keeps_and_reads(desk: &mut CalmDesk) -> bool {
+    takes(desk, "a", "three")
+        && is_text(desk.file("a"), "three")
+        && gives(desk, "a", 5, "three")
         && refuses(desk, "a", 4, DeskFail::TooLong { seen: 5 })
-        && desk.faults() == 0
         && refuses(desk, "c", 9, DeskFail::Failed)
         && desk.faults() == 1
 }
 
-fn calm_reads_the_last(alloc: Global) -> bool {
-    match calm_desk(alloc) {
-        Ok(mut desk) => reads_the_last(&mut desk),
+fn calm_keeps_and_reads(alloc: Global) -> bool {
+    match CalmDesk::new(alloc, Vec::new(alloc)) {
+        Ok(mut desk) => keeps_and_reads(&mut desk),
         Err(_) => false,
     }
 }
 
 #[test]
-fn a_calm_desk_reads_the_last_file_of_a_name(rt: HostRuntime) {
-    assert!(rt; calm_reads_the_last(rt.alloc()));
+fn a_calm_desk_reads_what_is_written(rt: HostRuntime) {
+    assert!(rt; calm_keeps_and_reads(rt.alloc()));
 }
 
-fn keeps_what_is_written(desk: &mut CalmDesk) -> bool {
-    takes(desk, "c", "four")
-        && takes(desk, "a", "")
-        && is_text(desk.file("a"), "")
-        && is_text(desk.file("b"), "two")
-        && is_text(desk.file("c"), "four")
-        && desk.file("d").is_none()
-}
-
-fn calm_keeps_what_is_written(alloc: Global) -> bool {
-    match calm_desk(alloc) {
-        Ok(mut desk) => keeps_what_is_written(&mut desk),
-        Err(_) => false,
-    }
-}
-
-#[test]
-fn a_calm_desk_keeps_what_is_written(rt: HostRuntime) {
-    assert!(rt; calm_keeps_what_is_written(rt.alloc()));
-}
-
+/// A desk that holds no file, and whose call of this number fails.
 fn desk_failing_at(alloc: Global, number: u64) -> Result<MemDesk, AllocError> {
-    let files = files_of(alloc, &[("b", "first"), ("a", "in"), ("b", "old")])?;
-    MemDesk::new(alloc, files, vec![in alloc; number]?)
+    MemDesk::new(alloc, Vec::new(alloc), vec![in alloc; number]?)
 }
 
-/// Whether the first call, a read, and the second, a write, fail where that is the call of this number,
-/// and the file written holds `left` then.
+/// Whether the first call, a write, leaves `left`, and the second, a read, gives that, where neither is the call of
+/// this number.
 fn fails_once(desk: &mut MemDesk, number: u64, left: &str) -> bool {
-    is_text(desk.file("b"), "old")
-        && gives(desk, "a", 2, "in") == (number != 1)
-        && takes(desk, "b", "12345") == (number != 2)
+    takes(desk, "b", "12345") == (number != 1)
         && is_text(desk.file("b"), left)
-        && is_text(desk.file("a"), "in")
+        && gives(desk, "b", 5, left) == (number != 2)
 }
 
 fn fails_at(alloc: Global, number: u64, left: &str, faults: u64) -> bool {
@@ -124,7 +84,7 @@ fn fails_at(alloc: Global, number: u64, left: &str, faults: u64) -> bool {
 
 #[test]
 fn a_listed_call_of_a_desk_fails_and_no_other(rt: HostRuntime) {
-    for &(number, left, faults) in &[(1, "12345", 1), (2, "12", 1), (3, "12345", 0)] {
+    for &(number, left, faults) in &[(1, "12", 1), (2, "12345", 1), (3, "12345", 0)] {
         assert!(rt; fails_at(rt.alloc(), number, left, faults), "at {number}");
     }
 }
@@ -159,49 +119,15 @@ fn a_put_that_fails_leaves_a_prefix(rt: HostRuntime) {
 
 // ---- the host's files and its standard output
 
-fn remove<R: Files>(rt: &R, name: &str) -> bool {
-    std::fs::remove_file(rt, name).is_ok()
-}
-
 const HOST_FILE: &str = "desk_io_test_file";
 
-/// Whether the second of two texts that are written is read then.
-fn keeps_the_last<D: Desk>(desk: &mut D) -> bool {
-    takes(desk, HOST_FILE, "longer before")
+/// Whether a long text and then a short one are written and read, each within its limit alone.
+fn keeps_the_last<D: Desk>(desk: &mut D, long: &str) -> bool {
+    takes(desk, HOST_FILE, long)
+        && gives(desk, HOST_FILE, 70000, long)
+        && refuses(desk, HOST_FILE, 69999, DeskFail::TooLong { seen: 70000 })
         && takes(desk, HOST_FILE, "short")
         && gives(desk, HOST_FILE, 5, "short")
-        && refuses(desk, HOST_FILE, 0, DeskFail::TooLong { seen: 1 })
-}
-
-fn host_keeps_the_last<R: Files + AllocGlobal>(rt: &R) -> bool {
-    let mut desk = HostDesk::new(rt);
-    keeps_the_last(&mut desk) && desk.faults() == 0 && remove(rt, HOST_FILE)
-}
-
-#[test]
-fn the_host_reads_what_was_written_last(rt: HostRuntime) {
-    assert!(rt; host_keeps_the_last(&rt));
-}
-
-const LONG_FILE: &str = "desk_io_test_long_file";
-
-/// Whether the text of 70,000 bytes is written and read, and is too long for a limit of one byte less.
-fn keeps_all<D: Desk>(desk: &mut D, text: &str) -> bool {
-    takes(desk, LONG_FILE, text)
-        && gives(desk, LONG_FILE, 70000, text)
-        && refuses(desk, LONG_FILE, 69999, DeskFail::TooLong { seen: 70000 })
-}
-
-fn host_keeps_all<R: Files + AllocGlobal>(rt: &R) -> bool {
-    match "seven..".repeat(rt.alloc(), 10000) {
-        Ok(text) => keeps_all(&mut HostDesk::new(rt), text.as_str()) && remove(rt, LONG_FILE),
-        Err(_) => false,
-    }
-}
-
-#[test]
-fn the_host_reads_a_file_longer_than_a_piece(rt: HostRuntime) {
-    assert!(rt; host_keeps_all(&rt));
 }
 
 /// Whether an absent file and a folder are not read, and an absent folder and a full device are not written.
@@ -212,14 +138,26 @@ fn fails_four_times<D: Desk>(desk: &mut D) -> bool {
         && !takes(desk, "/dev/full", "1")
 }
 
-fn host_fails_four_times<R: Files + AllocGlobal>(rt: &R) -> bool {
+fn host_keeps_and_fails<R: Files + AllocGlobal>(rt: &R, long: &str) -> bool {
     let mut desk = HostDesk::new(rt);
-    fails_four_times(&mut desk) && desk.faults() == 4
+    keeps_the_last(&mut desk, long)
+        && fs::remove_file(rt, HOST_FILE).is_ok()
+        && desk.faults() == 0
+        && fails_four_times(&mut desk)
+        && desk.faults() == 4
+}
+
+/// The text is longer than the pieces that a file is read in.
+fn host_keeps_long_texts_and_fails<R: Files + AllocGlobal>(rt: &R) -> bool {
+    match "seven..".repeat(rt.alloc(), 10000) {
+        Ok(text) => host_keeps_and_fails(rt, text.as_str()),
+        Err(_) => false,
+    }
 }
 
 #[test]
-fn the_host_fails_where_a_file_cannot_be_read_or_written(rt: HostRuntime) {
-    assert!(rt; host_fails_four_times(&rt));
+fn the_host_reads_what_was_written_last_and_fails_where_it_cannot(rt: HostRuntime) {
+    assert!(rt; host_keeps_long_texts_and_fails(&rt));
 }
 
 #[test]

@@ -41,45 +41,12 @@ const REFUSED: Fault = Fault::Told(Said::Refused {
     place: 15,
 });
 
+const UNREAD: Fault = Fault::Told(Said::ReadFault);
+
 const FINE: Fault = Fault::Told(Said::Limit {
     counted: Counted::Nodes,
     number: 20_000_000,
 });
-
-#[test]
-fn tells_faults(rt: HostRuntime) {
-    for &(fault, text, note) in &[
-        (
-            REFUSED,
-            Some(DESIGN),
-            "a.dsn:3:8: refused: the unit isn't inch, mil, cm, mm or um (refusal 11)\n",
-        ),
-        (
-            REFUSED,
-            None,
-            "a.dsn: refused at byte 15: the unit isn't inch, mil, cm, mm or um (refusal 11)\n",
-        ),
-        (
-            Fault::Told(Said::ReadFault),
-            None,
-            "a.dsn: the file can't be read\n",
-        ),
-        (
-            FINE,
-            None,
-            "a.dsn: too large: 20000000 nodes in the lattice, where 16777216 are the most: give a coarser --grid\n",
-        ),
-        (Fault::Session, None, "a.ses: the file can't be written\n"),
-        (
-            Fault::Report,
-            None,
-            "dsnroute: standard output can't be written\n",
-        ),
-        (Fault::Memory, None, "dsnroute: memory was wanting\n"),
-    ] {
-        assert!(rt; is_noted(rt.alloc(), fault, text, note), "{note}");
-    }
-}
 
 /// Whether the note of words without a command ends with the usage.
 fn shows_usage(alloc: Global) -> bool {
@@ -95,6 +62,30 @@ fn shows_usage(alloc: Global) -> bool {
 }
 
 #[test]
-fn tells_the_usage(rt: HostRuntime) {
-    assert!(rt; shows_usage(rt.alloc()));
+fn tells_faults(rt: HostRuntime) {
+    for &(fault, note) in &[
+        (
+            REFUSED,
+            "a.dsn: refused at byte 15: the unit isn't inch, mil, cm, mm or um (refusal 11)\n",
+        ),
+        (UNREAD, "a.dsn: the file can't be read\n"),
+        (
+            FINE,
+            "a.dsn: too large: 20000000 nodes in the lattice, where 16777216 are the most: give a coarser --grid\n",
+        ),
+        (Fault::Session, "a.ses: the file can't be written\n"),
+        (
+            Fault::Report,
+            "dsnroute: standard output can't be written\n",
+        ),
+        (Fault::Memory, "dsnroute: memory was wanting\n"),
+    ] {
+        assert!(rt; is_noted(rt.alloc(), fault, None, note), "{note}");
+    }
+}
+
+#[test]
+fn tells_the_line_of_a_refusal_and_the_usage(rt: HostRuntime) {
+    let note = "a.dsn:3:8: refused: the unit isn't inch, mil, cm, mm or um (refusal 11)\n";
+    assert!(rt; is_noted(rt.alloc(), REFUSED, Some(DESIGN), note) && shows_usage(rt.alloc()));
 }

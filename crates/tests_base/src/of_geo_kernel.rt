@@ -40,6 +40,16 @@ fn is_so(pair: Pair, k: u16, keeps: bool, touches: bool) -> bool {
     seg_keeps(a, b, c, d, k as u64) == keeps && seg_touches(a, b, c, d, k as u64) == touches
 }
 
+const FAR: i64 = 536870912;
+
+/// The diagonal of all that may be asked for, and the upper left corner.
+fn diagonal_keeps_from_corner() -> bool {
+    let low = Point { x: -FAR, y: -FAR };
+    let high = Point { x: FAR, y: FAR };
+    let corner = Point { x: -FAR, y: FAR };
+    seg_keeps(low, high, corner, corner, 1073741824)
+}
+
 #[test]
 fn segments_keep_and_touch_by_worked_distances(rt: HostRuntime) {
     for &(a, b, c, d, k, keeps, touches) in &[
@@ -52,20 +62,6 @@ fn segments_keep_and_touch_by_worked_distances(rt: HostRuntime) {
     ] {
         assert!(rt; is_so(Pair { a, b, c, d }, k, keeps, touches), "at {k}");
     }
-}
-
-const FAR: i64 = 536870912;
-
-/// The diagonal of all that may be asked for, and the upper left corner.
-fn diagonal_keeps_from_corner() -> bool {
-    let low = Point { x: -FAR, y: -FAR };
-    let high = Point { x: FAR, y: FAR };
-    let corner = Point { x: -FAR, y: FAR };
-    seg_keeps(low, high, corner, corner, 1073741824)
-}
-
-#[test]
-fn the_farthest_segments_keep_the_farthest_distance(rt: HostRuntime) {
     assert!(rt; diagonal_keeps_from_corner());
 }
 
@@ -154,13 +150,20 @@ struct Figure {
     ghost within: { IsSpineWithin (2 ^ 29) spine } by { spine_within_prop (2 ^ 29) spine },
 }
 
-fn chain(alloc: Global, points: &[Point]) -> Result<Figure, AllocError>
-    requires some { 0 < length points.now }
-    requires within { All (IsWithin (2 ^ 29)) points.now }
-{
+/// The chain from (5, 5) to (5, 6).
+fn line(alloc: Global) -> Result<Figure, AllocError> {
     Ok(Figure {
-        spine: Spine::Chain(List::from_slice(alloc, points)?),
+        spine: Spine::Chain(List::from_slice(alloc, &[at(5, 5), at(5, 6)])?),
     })
+}
+
+/// The chain of the one point (5, 5).
+fn dot(alloc: Global) -> Result<Spine, AllocError>
+    ensures { IfOk result (λ s. s ≡ Spine.Chain (record { x = pos 5; y = pos 5 } ∷ [])) }
+{
+    let mut points = List::new(alloc);
+    points.push(Point { x: 5, y: 5 })?;
+    Ok(Spine::Chain(points))
 }
 
 fn ring(alloc: Global, corners: &[Point; 4]) -> Result<List<Point>, AllocError>
@@ -179,7 +182,7 @@ fn square(alloc: Global, low: i16, high: i16) -> Result<List<Point>, AllocError>
     )
 }
 
-/// The square from 0 to 10, and one with a square hole from 3 to 7.
+/// The loop of the square from 0 to 10, and that of a square hole from 3 to 7.
 fn loops(alloc: Global, hole: bool) -> Result<List<List<Point>>, AllocError>
     ensures some { IfOk result (λ loops. 0 < length loops) }
     ensures close { IfOk result (All (λ points. 3 ≤ length points)) }
@@ -199,34 +202,7 @@ fn area(alloc: Global, hole: bool) -> Result<Figure, AllocError> {
     })
 }
 
-// ---- chains beside areas
-
-/// Whether the point (5, 5) keeps `k / 2` from a figure exactly where `keeps` says so.
-fn point_is_so(alloc: Global, figure: &Figure, k: u16, keeps: bool) -> bool {
-    match chain(alloc, &[at(5, 5)]) {
-        Ok(point) => spine_keeps(&point.spine, &figure.spine, k as u64) == keeps,
-        Err(_) => false,
-    }
-}
-
-fn point_in_square_is_so(alloc: Global, hole: bool, k: u16, keeps: bool) -> bool {
-    match area(alloc, hole) {
-        Ok(figure) => point_is_so(alloc, &figure, k, keeps),
-        Err(_) => false,
-    }
-}
-
-#[test]
-fn a_point_in_a_square_keeps_from_it_only_where_there_is_a_hole(rt: HostRuntime) {
-    for &(hole, k, keeps) in &[(false, 1, false), (true, 4, true), (true, 5, false)] {
-        assert!(rt; point_in_square_is_so(rt.alloc(), hole, k, keeps), "at {k}");
-    }
-}
-
-/// The chain from (5, 5) to (5, 6).
-fn line(alloc: Global) -> Result<Figure, AllocError> {
-    chain(alloc, &[at(5, 5), at(5, 6)])
-}
+// ---- the line and the point beside the squares
 
 /// Whether the line's points keep `k / 2` from the ring where `keeps` says so, and it touches the ring where
 /// `touches` does.
@@ -235,11 +211,18 @@ fn line_is_so(line: &Figure, ring: &Figure, k: u16, keeps: bool, touches: bool) 
         && spine_touch(&line.spine, &ring.spine, k as u64) == touches
 }
 
+fn has_its_points(line: &Figure) -> bool {
+    on_spine(at(5, 6), &line.spine)
+        && !on_spine(at(5, 7), &line.spine)
+        && first_point(&line.spine) == at(5, 5)
+}
+
 /// Whether the line keeps and touches by its distance: it ends 1 below the hole's upper edge.
 fn line_keeps_and_touches(alloc: Global, ring: &Figure) -> bool {
     match line(alloc) {
         Ok(line) => {
-            line_is_so(&line, ring, 1, true, false)
+            has_its_points(&line)
+                && line_is_so(&line, ring, 1, true, false)
                 && line_is_so(&line, ring, 2, true, true)
                 && line_is_so(&line, ring, 3, false, true)
         }
@@ -247,82 +230,14 @@ fn line_keeps_and_touches(alloc: Global, ring: &Figure) -> bool {
     }
 }
 
-fn line_keeps_and_touches_in_hole(alloc: Global) -> bool {
-    match area(alloc, true) {
-        Ok(ring) => line_keeps_and_touches(alloc, &ring),
-        Err(_) => false,
-    }
-}
-
-#[test]
-fn a_line_in_a_hole_keeps_and_touches_by_the_distance_of_its_nearest_point(rt: HostRuntime) {
-    assert!(rt; line_keeps_and_touches_in_hole(rt.alloc()));
-}
-
-fn has_its_points(line: &Figure) -> bool {
-    on_spine(at(5, 6), &line.spine)
-        && !on_spine(at(5, 7), &line.spine)
-        && first_point(&line.spine) == at(5, 5)
-}
-
-fn line_has_its_points(alloc: Global) -> bool {
-    match line(alloc) {
-        Ok(line) => has_its_points(&line),
-        Err(_) => false,
-    }
-}
-
-#[test]
-fn a_line_holds_its_points_and_begins_at_the_first(rt: HostRuntime) {
-    assert!(rt; line_has_its_points(rt.alloc()));
-}
-
-fn is_inside(x: i16, figure: &Figure) -> bool {
-    match &figure.spine {
-        Spine::Chain(_) => false,
-        Spine::Area(loops) => inside(at(x, 5), loops),
-    }
-}
-
-fn rect(x0: i64, y0: i64, x1: i64, y1: i64) -> Rect4 {
-    Rect4 { x0, y0, x1, y1 }
-}
-
-fn has_its_hole(ring: &Figure) -> bool {
-    is_inside(2, ring) && !is_inside(5, ring) && box_of(&ring.spine) == rect(0, 0, 10, 10)
-}
-
-fn square_has_its_hole(alloc: Global) -> bool {
-    match area(alloc, true) {
-        Ok(ring) => has_its_hole(&ring),
-        Err(_) => false,
-    }
-}
-
-#[test]
-fn a_hole_is_outside_and_the_least_box_is_that_of_the_outer_square(rt: HostRuntime) {
-    assert!(rt; square_has_its_hole(rt.alloc()));
-}
-
-#[test]
-fn boxes_are_parted_by_up_to_twice_their_gap(rt: HostRuntime) {
-    let left = rect(0, 0, 10, 10);
-    let right = rect(12, 0, 20, 9);
-    assert!(rt; parted(left, right, 4) && !parted(right, left, 5));
-}
-
-// ---- moved spines
-
-/// The chain of the one point (5, 5).
-fn dot(alloc: Global) -> Result<Spine, AllocError>
-    ensures { IfOk result (λ s. s ≡ Spine.Chain (record { x = pos 5; y = pos 5 } ∷ [])) }
+/// Whether the point keeps `k / 2` from the figure.
+fn dot_keeps(dot: &Spine, figure: &Figure, k: u16) -> bool
+    requires { dot.now ≡ Spine.Chain (record { x = pos 5; y = pos 5 } ∷ []) }
 {
-    let mut points = List::new(alloc);
-    points.push(Point { x: 5, y: 5 })?;
-    Ok(Spine::Chain(points))
+    spine_keeps(dot, &figure.spine, k as u64)
 }
 
-/// Whether that point, moved to the right by `x`, keeps from the ring where `keeps` says so, and touches where
+/// Whether the point, moved to the right by `x`, keeps from the ring where `keeps` says so, and touches where
 /// `touches` does.
 fn moved_is_so(dot: &Spine, ring: &Figure, x: i16, k: u16, keeps: bool, touches: bool) -> bool
     requires { dot.now ≡ Spine.Chain (record { x = pos 5; y = pos 5 } ∷ []) }
@@ -332,11 +247,13 @@ fn moved_is_so(dot: &Spine, ring: &Figure, x: i16, k: u16, keeps: bool, touches:
         && spine_touch_moved(dot, by, &ring.spine, k as u64) == touches
 }
 
-/// Whether the moved point is 5 beyond the ring, or lies in its copper.
-fn moved_keeps_and_touches(alloc: Global, ring: &Figure) -> bool {
+/// Whether the point keeps and touches by its distance: 2 from the hole's edges, 5 beyond the ring, and in its copper.
+fn dot_keeps_and_touches(alloc: Global, ring: &Figure) -> bool {
     match dot(alloc) {
         Ok(dot) => {
-            moved_is_so(&dot, ring, 10, 9, true, false)
+            dot_keeps(&dot, ring, 4)
+                && !dot_keeps(&dot, ring, 5)
+                && moved_is_so(&dot, ring, 10, 9, true, false)
                 && moved_is_so(&dot, ring, 10, 10, true, true)
                 && moved_is_so(&dot, ring, 10, 11, false, true)
                 && moved_is_so(&dot, ring, 3, 0, false, true)
@@ -345,16 +262,62 @@ fn moved_keeps_and_touches(alloc: Global, ring: &Figure) -> bool {
     }
 }
 
-fn moved_keeps_and_touches_square(alloc: Global) -> bool {
+fn rect(x0: i64, y0: i64, x1: i64, y1: i64) -> Rect4 {
+    Rect4 { x0, y0, x1, y1 }
+}
+
+/// Whether the hole of the ring is outside, and the least box is that of the outer square.
+fn has_its_hole(ring: &Figure) -> bool {
+    match &ring.spine {
+        Spine::Chain(_) => false,
+        Spine::Area(loops) => {
+            inside(at(2, 5), loops)
+                && !inside(at(5, 5), loops)
+                && box_of(&ring.spine) == rect(0, 0, 10, 10)
+        }
+    }
+}
+
+fn ring_is_so(alloc: Global) -> bool {
     match area(alloc, true) {
-        Ok(ring) => moved_keeps_and_touches(alloc, &ring),
+        Ok(ring) => {
+            has_its_hole(&ring)
+                && line_keeps_and_touches(alloc, &ring)
+                && dot_keeps_and_touches(alloc, &ring)
+        }
         Err(_) => false,
     }
 }
 
 #[test]
-fn a_moved_point_keeps_and_touches_by_its_distance_unless_it_is_inside(rt: HostRuntime) {
-    assert!(rt; moved_keeps_and_touches_square(rt.alloc()));
+fn a_line_and_a_point_keep_from_a_ring_and_touch_it_by_their_distances(rt: HostRuntime) {
+    assert!(rt; ring_is_so(rt.alloc()));
+}
+
+fn dot_is_in(alloc: Global, square: &Figure) -> bool {
+    match dot(alloc) {
+        Ok(dot) => !dot_keeps(&dot, square, 1),
+        Err(_) => false,
+    }
+}
+
+fn square_is_so(alloc: Global) -> bool {
+    match area(alloc, false) {
+        Ok(square) => dot_is_in(alloc, &square),
+        Err(_) => false,
+    }
+}
+
+#[test]
+fn a_point_in_a_square_keeps_nothing_from_it(rt: HostRuntime) {
+    assert!(rt; square_is_so(rt.alloc()));
+}
+
+#[test]
+fn boxes_are_parted_by_up_to_twice_their_gap(rt: HostRuntime) {
+    let left = rect(0, 0, 10, 10);
+    let right = rect(12, 0, 20, 9);
+    assert!(rt; parted(left, right, 4) && !parted(right, left, 5));
 }
 
 // ---- lists
@@ -363,26 +326,18 @@ fn letters(alloc: Global, text: &str) -> Result<List<u8>, AllocError> {
     Ok(List::from_vec(text.as_bytes().to_vec(alloc)?))
 }
 
-/// Whether the list of four letters gives them back.
-fn gives_back(mut list: List<u8>) -> bool {
-    if list.len() != 4 {
-        return false;
-    }
-    let second = list.remove(1);
-    let last = list.pop();
-    let third = list.get(1).copied();
-    let is_empty = list.is_empty();
-    let rest = list.into_vec();
-    second == b'b'
-        && last == Some(b'd')
-        && third == Some(b'c')
-        && !is_empty
-        && rest.as_slice() == "ac".as_bytes()
+/// Whether the list of these four letters gives the second, the last and the third.
+fn gives_back(list: &mut List<u8>) -> bool {
+    list.len() == 4
+        && list.remove(1) == b'b'
+        && list.pop() == Some(b'd')
+        && list.get(1) == Some(&b'c')
+        && !list.is_empty()
 }
 
 fn letters_come_back(alloc: Global) -> bool {
     match letters(alloc, "abcd") {
-        Ok(list) => gives_back(list),
+        Ok(mut list) => gives_back(&mut list) && list.into_vec().as_slice() == "ac".as_bytes(),
         Err(_) => false,
     }
 }

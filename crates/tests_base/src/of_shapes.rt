@@ -1,78 +1,96 @@
 //! Shapes: the layers, width and vertices of each form.
-//! They stand on the layers of the board, F.Cu, the power layer GND, and B.Cu.
+//! They stand on the layers of the board of `sections`: F.Cu, the power layer GND, and B.Cu.
 
-use crate::sections::{UM, structure};
+use crate::sections::UM;
 use dsn_shapes::{Layer, LayerShape, read_shape};
 use dsn_tree::read_tree;
 use geo_kernel::{List, Point, Spine};
 use std::alloc::Global;
 
-fn shape_on(alloc: Global, text: &str, layers: &List<Layer>) -> Option<LayerShape> {
-    let tree = read_tree(alloc, text.as_bytes()).ok()?;
-    read_shape(alloc, &tree, UM, layers).ok()
-}
+/// A form, its layers and its width, whether it is a chain, and its vertices.
+type Form = (&'static str, u32, u64, bool, &'static [Point]);
 
-fn shape(alloc: Global, text: &str) -> Option<LayerShape> {
-    let structure = structure(alloc)?;
-    shape_on(alloc, text, &structure.layers)
-}
+const ORIGIN: Point = Point { x: 0, y: 0 };
 
-/// The points of a chain, or of an area's only loop.
-fn points(spine: &Spine) -> &[Point] {
+const FORMS: [Form; 9] = [
+    ("(circle F.Cu 1000)", 0b001, 1_000_000, true, &[ORIGIN]),
+    ("(Circle PCB 1000)", 0b111, 1_000_000, true, &[ORIGIN]),
+    ("(circle signal 1000)", 0b101, 1_000_000, true, &[ORIGIN]),
+    ("(circle power 1000)", 0b010, 1_000_000, true, &[ORIGIN]),
+    ("(circle F.Cu 5)", 0b001, 5_000, true, &[ORIGIN]),
+    (
+        "(circle F.Cu 5 -2 0.0005)",
+        0b001,
+        5_000,
+        true,
+        &[Point { x: -2_000, y: 1 }],
+    ),
+    (
+        "(rect B.Cu 1 2 3 4)",
+        0b100,
+        0,
+        false,
+        &[
+            Point { x: 1_000, y: 2_000 },
+            Point { x: 3_000, y: 2_000 },
+            Point { x: 3_000, y: 4_000 },
+            Point { x: 1_000, y: 4_000 },
+        ],
+    ),
+    (
+        "(path F.Cu 1700 0 0 0 0)",
+        0b001,
+        1_700_000,
+        true,
+        &[ORIGIN, ORIGIN],
+    ),
+    // A width is rounded up, a closing vertex goes from a loop, and a list between its numbers is passed over.
+    (
+        "(polygon F.Cu 0.0004 0 0 (x) 9 0 9 9 0 0)",
+        0b001,
+        1,
+        false,
+        &[
+            ORIGIN,
+            Point { x: 9_000, y: 0 },
+            Point { x: 9_000, y: 9_000 },
+        ],
+    ),
+];
+
+/// Whether the spine is the chain, or else the area of one loop, of these vertices.
+fn is_spine(spine: &Spine, is_chain: bool, vertices: &[Point]) -> bool {
     match spine {
-        Spine::Chain(points) => points.as_slice(),
+        Spine::Chain(points) => is_chain && points.as_slice() == vertices,
         Spine::Area(loops) => match loops.as_slice() {
-            [points] => points.as_slice(),
-            _ => &[],
+            [points] => !is_chain && points.as_slice() == vertices,
+            _ => false,
         },
     }
 }
 
-fn is_chain(spine: &Spine) -> bool {
-    matches!(spine, Spine::Chain(_))
+fn shape(alloc: Global, text: &str, layers: &List<Layer>) -> Option<LayerShape> {
+    let tree = read_tree(alloc, text.as_bytes()).ok()?;
+    read_shape(alloc, &tree, UM, layers).ok()
 }
 
-/// The layers and the width of a form, whether it is a chain, and how many vertices it has.
-fn form(alloc: Global, text: &str) -> Option<(u32, u64, bool, usize)> {
-    let shape = shape(alloc, text)?;
-    let count = points(&shape.spine).len();
-    Some((shape.layers, shape.width, is_chain(&shape.spine), count))
-}
-
-#[test]
-fn each_form_has_the_layers_of_its_word_and_its_width_rounded_up(rt: HostRuntime) {
-    for &(text, wanted) in &[
-        ("(circle F.Cu 1000)", (0b001, 1_000_000, true, 1)),
-        ("(Circle PCB 1000)", (0b111, 1_000_000, true, 1)),
-        ("(circle signal 1000)", (0b101, 1_000_000, true, 1)),
-        ("(circle power 1000)", (0b010, 1_000_000, true, 1)),
-        ("(rect B.Cu 1 2 3 4)", (0b100, 0, false, 4)),
-        ("(path F.Cu 1700 0 0 0 0)", (0b001, 1_700_000, true, 2)),
-        // A closing vertex goes from a loop, and a list between its numbers is passed over.
-        (
-            "(polygon F.Cu 0.0004 0 0 (x) 9 0 9 9 0 0)",
-            (0b001, 1, false, 3),
-        ),
-    ] {
-        assert!(rt; form(rt.alloc(), text) == Some(wanted), "{text}");
+fn has_form(alloc: Global, on: &List<Layer>, form: Form) -> bool {
+    let (text, layers, width, is_chain, vertices) = form;
+    match shape(alloc, text, on) {
+        Some(shape) => {
+            (shape.layers, shape.width) == (layers, width)
+                && is_spine(&shape.spine, is_chain, vertices)
+        }
+        None => false,
     }
 }
 
-fn vertex(alloc: Global, text: &str, i: usize) -> Option<Point> {
-    points(&shape(alloc, text)?.spine).get(i).copied()
-}
-
-#[test]
-fn a_rect_has_its_four_corners_and_a_circle_its_centre(rt: HostRuntime) {
-    let rect = "(rect B.Cu 1 2 3 4)";
-    for &(text, i, x, y) in &[
-        (rect, 0, 1_000, 2_000),
-        (rect, 1, 3_000, 2_000),
-        (rect, 2, 3_000, 4_000),
-        (rect, 3, 1_000, 4_000),
-        ("(circle F.Cu 5)", 0, 0, 0),
-        ("(circle F.Cu 5 -2 0.0005)", 0, -2_000, 1),
-    ] {
-        assert!(rt; vertex(rt.alloc(), text, i) == Some(Point { x, y }));
+/// Whether each form is read as it is listed, on the layers of the board.
+pub(crate) fn has_forms(alloc: Global, layers: &List<Layer>) -> bool {
+    for &form in &FORMS {
+        if !has_form(alloc, layers, form) {
+            return false;
+        }
     }
+    true
 }

@@ -1,24 +1,26 @@
-//! A board with several sections of each kind, and what its readers answer.
-//! The tests beside this module state the values, which are worked out by hand.
+//! A board with several sections of each kind, and what its readers hold of it, one after another.
+//! The values are worked out by hand. Lengths are in nm; indices count from 0.
 
-ghost use Rattle.std.specs.Prelude.{IfSome};
 ghost use Rattle.dsn_shapes.specs.Within.{IsLibraryWithin};
 
+use crate::of_placement::has_copper;
+use crate::of_shapes::has_forms;
 use dsn_library::read_library;
-use dsn_network::read_network;
+use dsn_network::{read_network, split_pin};
 use dsn_placement::read_placement;
-use dsn_shapes::{Library, Network, Placing, Structure, Wiring};
+use dsn_shapes::{Library, Network, PinRef, Placing, Split, Structure, Wiring};
 use dsn_structure::read_structure;
 use dsn_tree::{Tree, read_tree};
 use dsn_units::Scale;
 use dsn_wiring::read_wiring;
+use geo_kernel::List;
 use std::alloc::Global;
 
 /// The numbers of the board are micrometres.
 pub(crate) const UM: Scale = Scale { nm: 1_000 };
 
 /// The board. Its layers are F.Cu, the power layer GND, and B.Cu.
-pub(crate) const BOARD: &str = "(pcb b
+const BOARD: &str = "(pcb b
   (structure (layer F.Cu (type signal) (property (index 0))) (layer GND (type Power))
     (boundary (rect pcb 0 0 10 20)) (plane GND (qarc)) (via V (spare X) W)
     (rule (width 250) (clearance 200.1))
@@ -44,107 +46,145 @@ pub(crate) const BOARD: &str = "(pcb b
   (wiring (via V 5 6 9) (wire (type route) (net VCC) (path B.Cu 0.25 0 0 2 0 (q) 2 2) (net GND) (type fix))
     (Via P 0 0 (net \"\") (type Protect))))";
 
-fn tree(alloc: Global) -> Option<Tree> {
-    read_tree(alloc, BOARD.as_bytes()).ok()
+/// Whether there are so many layers, padstacks of vias, boundaries and keepouts, and the last width and clearance.
+fn is_structure(s: &Structure) -> bool {
+    (s.layers.len(), s.vias.len()) == (3, 3)
+        && (s.bounds.len(), s.bans.len()) == (2, 3)
+        && (s.rules.width, s.rules.plain) == (Some(300), Some(200_100))
+        // A plane, (note), (x), three (z) and a clearance for a pair of kinds that isn't known.
+        && s.notes == 7
 }
 
-/// The structure of the board.
-pub(crate) fn structure(alloc: Global) -> Option<Structure> {
-    let tree = tree(alloc)?;
-    read_structure(alloc, &tree, UM).ok()
+/// Whether there are so many padstacks and images, and each (z) of an image, a library, a shape and a padstack.
+fn is_library(library: &Library) -> bool {
+    (library.stacks.len(), library.images.len(), library.notes) == (3, 2, 4)
 }
 
-fn library_with(alloc: Global, structure: &Structure) -> Option<Library>
-    ensures { IfSome result IsLibraryWithin }
-{
-    let tree = tree(alloc)?;
-    read_library(alloc, &tree, UM, &structure.layers).ok()
+/// Whether there are so many components, and each (z) of a section and of a component.
+fn is_placing(placing: &Placing) -> bool {
+    (placing.places.len(), placing.notes) == (6, 2)
 }
 
-/// The library of the board.
-pub(crate) fn library(alloc: Global) -> Option<Library>
-    ensures { IfSome result IsLibraryWithin }
-{
-    let structure = structure(alloc)?;
-    library_with(alloc, &structure)
+/// Whether there are so many nets and classes, and notes of two (z) in lists, of a net that a class names and that
+/// isn't there, and of a (z) in a section.
+fn is_network(network: &Network) -> bool {
+    (network.nets.len(), network.classes.len(), network.notes) == (3, 3, 4)
 }
 
-fn placing_with(alloc: Global, structure: &Structure, library: &Library) -> Option<Placing>
-    requires { IsLibraryWithin library.now }
-{
-    let tree = tree(alloc)?;
-    read_placement(alloc, &tree, UM, structure, library).ok()
+/// Whether there are so many wires and vias, and each list in a via and in a section.
+fn is_wiring(wiring: &Wiring) -> bool {
+    (wiring.wires.len(), wiring.notes) == (5, 2)
 }
 
-fn placing_on(alloc: Global, structure: &Structure) -> Option<Placing> {
-    let library = library_with(alloc, structure)?;
-    placing_with(alloc, structure, &library)
-}
-
-/// The placement of the board.
-pub(crate) fn placing(alloc: Global) -> Option<Placing> {
-    let structure = structure(alloc)?;
-    placing_on(alloc, &structure)
-}
-
-fn network_with(alloc: Global, library: &Library, placing: &Placing) -> Option<Network> {
-    let tree = tree(alloc)?;
-    read_network(alloc, &tree, UM, library, placing).ok()
-}
-
-fn network_of(alloc: Global, structure: &Structure, library: &Library) -> Option<Network>
-    requires { IsLibraryWithin library.now }
-{
-    let placing = placing_with(alloc, structure, library)?;
-    network_with(alloc, library, &placing)
-}
-
-fn network_on(alloc: Global, structure: &Structure) -> Option<Network> {
-    let library = library_with(alloc, structure)?;
-    network_of(alloc, structure, &library)
-}
-
-/// The network of the board.
-pub(crate) fn network(alloc: Global) -> Option<Network> {
-    let structure = structure(alloc)?;
-    network_on(alloc, &structure)
-}
-
-fn wiring_with(
+/// Whether a reference to a pin is split so.
+fn is_split(
     alloc: Global,
+    library: &Library,
+    placing: &Placing,
+    text: &str,
+    wanted: Split,
+) -> bool {
+    match List::from_slice(alloc, text.as_bytes()) {
+        Ok(text) => split_pin(&text, library, placing) == wanted,
+        Err(_) => false,
+    }
+}
+
+/// Whether each reference is split at each of its hyphens.
+fn are_split(alloc: Global, library: &Library, placing: &Placing) -> bool {
+    for &(text, wanted) in &[
+        ("R1-2", Split::One(PinRef { place: 0, pin: 1 })),
+        ("J-1-1", Split::One(PinRef { place: 5, pin: 0 })),
+        ("K-1-2", Split::One(PinRef { place: 4, pin: 0 })),
+        ("J-1-2", Split::Many),
+        ("J-2", Split::Unknown),
+        ("R1", Split::Unknown),
+    ] {
+        if !is_split(alloc, library, placing, text, wanted) {
+            return false;
+        }
+    }
+    true
+}
+
+// ---- the readers, each over what those before it hold
+
+fn reads_wiring(
+    alloc: Global,
+    tree: &Tree,
     structure: &Structure,
     library: &Library,
     placing: &Placing,
     network: &Network,
-) -> Option<Wiring> {
-    let tree = tree(alloc)?;
-    read_wiring(alloc, &tree, UM, structure, library, placing, network).ok()
+) -> bool {
+    match read_wiring(alloc, tree, UM, structure, library, placing, network) {
+        Ok(wiring) => is_wiring(&wiring),
+        Err(_) => false,
+    }
 }
 
-fn wiring_placed(
+fn reads_network(
     alloc: Global,
+    tree: &Tree,
     structure: &Structure,
     library: &Library,
     placing: &Placing,
-) -> Option<Wiring> {
-    let network = network_with(alloc, library, placing)?;
-    wiring_with(alloc, structure, library, placing, &network)
+) -> bool {
+    match read_network(alloc, tree, UM, library, placing) {
+        Ok(network) => {
+            is_network(&network) && reads_wiring(alloc, tree, structure, library, placing, &network)
+        }
+        Err(_) => false,
+    }
 }
 
-fn wiring_of(alloc: Global, structure: &Structure, library: &Library) -> Option<Wiring>
+fn reads_placement(alloc: Global, tree: &Tree, structure: &Structure, library: &Library) -> bool
     requires { IsLibraryWithin library.now }
 {
-    let placing = placing_with(alloc, structure, library)?;
-    wiring_placed(alloc, structure, library, &placing)
+    match read_placement(alloc, tree, UM, structure, library) {
+        Ok(placing) => {
+            is_placing(&placing)
+                && are_split(alloc, library, &placing)
+                && reads_network(alloc, tree, structure, library, &placing)
+        }
+        Err(_) => false,
+    }
 }
 
-fn wiring_on(alloc: Global, structure: &Structure) -> Option<Wiring> {
-    let library = library_with(alloc, structure)?;
-    wiring_of(alloc, structure, &library)
+fn reads_library(alloc: Global, tree: &Tree, structure: &Structure) -> bool {
+    match read_library(alloc, tree, UM, &structure.layers) {
+        Ok(library) => {
+            let is_so = is_library(&library)
+                && has_copper(alloc, &library)
+                && reads_placement(alloc, tree, structure, &library);
+            drop(library);
+            is_so
+        }
+        Err(_) => false,
+    }
 }
 
-/// The wiring of the board.
-pub(crate) fn wiring(alloc: Global) -> Option<Wiring> {
-    let structure = structure(alloc)?;
-    wiring_on(alloc, &structure)
+fn reads_structure(alloc: Global, tree: &Tree) -> bool {
+    match read_structure(alloc, tree, UM) {
+        Ok(structure) => {
+            let is_so = is_structure(&structure)
+                && has_forms(alloc, &structure.layers)
+                && reads_library(alloc, tree, &structure);
+            drop(structure);
+            is_so
+        }
+        Err(_) => false,
+    }
+}
+
+fn reads_board(alloc: Global) -> bool {
+    match read_tree(alloc, BOARD.as_bytes()) {
+        Ok(tree) => reads_structure(alloc, &tree),
+        Err(_) => false,
+    }
+}
+
+#[test]
+fn each_reader_holds_what_stands_in_all_its_sections_of_the_board(rt: HostRuntime) {
+    assert!(rt; reads_board(rt.alloc()));
 }

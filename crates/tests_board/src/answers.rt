@@ -1,218 +1,150 @@
-//! What a board answers to one offer after another, and where it goes back.
-//! Lengths are in um.
+//! What a board answers to one offer after another, what it tells of what went and came, and where it goes back.
+//! The first net's wire is item 5, and the second net's, laid over it, is item 6.
 
 use crate::board::{opened, start};
-use crate::offer_board::{
-    CROSS, DROPPING, across, along, answer, commits, refusal, shown, shows, stand, with_rips,
-    with_wire,
-};
-use pcb_board::{Answer, BackFault, Board, Offer, run_offers};
+use crate::offer_board::{CROSS, Join, across, along, answers, offer_of, stand, takes_first};
+use geo_kernel::List;
+use pcb_board::{Answer, BackFault, Board, Offer, Snap, run_offers};
+use pcb_model::Item;
 use std::alloc::{AllocError, Global};
 
-/// Whether the one wire was dropped, the four items stand, and no entry was made.
-fn has_dropped(alloc: Global, board: &Board, dropped: &[u64]) -> bool {
-    dropped == [519].as_slice() && stand(alloc, board, &[0, 1, 2, 3]) && board.history().is_empty()
-}
-
-#[test]
-fn free_wiring_that_breaks_a_rule_is_dropped(rt: HostRuntime) {
-    let alloc = rt.alloc();
-    let (board, dropped) = start(alloc, DROPPING, 1).expect(&rt, "no board");
-    assert!(rt; has_dropped(alloc, &board, dropped.as_slice()));
-}
-
-fn push(offers: &mut Vec<Offer>, offer: Offer) -> Result<(), AllocError> {
-    offers.push(offer)?;
-    Ok(())
-}
-
-fn add(offers: &mut Vec<Offer>, offer: Result<Offer, AllocError>) -> Result<(), AllocError> {
-    push(offers, offer?)
-}
-
-/// The first net's wire and that of the second net.
+/// The first net's wire and that of the second net, both planned on the board without entries.
 fn both(alloc: Global) -> Result<Vec<Offer>, AllocError> {
     let mut offers = Vec::new(alloc);
-    add(&mut offers, along(alloc, 0))?;
-    add(&mut offers, across(alloc, 0))?;
-    Ok(offers)
-}
-
-/// What a board answers to the first net's wire and then to that of the second net, or None where memory is wanting.
-fn answers_to_both(alloc: Global, board: &mut Board) -> Option<[Answer; 2]> {
-    let offers = both(alloc).ok()?;
-    let answers = run_offers(alloc, board, offers).ok()?;
-    match answers.as_slice() {
-        [first, second] => Some([*first, *second]),
-        _ => None,
+    for join in &[along(0), across(0, &[])] {
+        offers.push(offer_of(alloc, join)?)?;
     }
+    Ok(offers)
 }
 
 /// Whether a board takes the first net's wire, and then says that the second net's is stale.
 fn takes_the_first_alone(alloc: Global, board: &mut Board) -> bool {
-    let both = [
-        Answer::Committed { number: 1 },
-        Answer::Stale { item: 5, commit: 1 },
+    let Ok(offers) = both(alloc) else {
+        return false;
+    };
+    match run_offers(alloc, board, offers) {
+        Ok(answers) => {
+            answers.as_slice()
+                == [
+                    Answer::Committed { number: 1 },
+                    Answer::Stale { item: 5, commit: 1 },
+                ]
+                .as_slice()
+        }
+        Err(_) => false,
+    }
+}
+
+/// Whether a board takes the second net's wire over the first's only where it rips that one.
+fn takes_the_second(alloc: Global, board: &mut Board) -> bool {
+    let steps = [
+        (across(1, &[]), Answer::Wrong { item: 5, commit: 1 }),
+        (across(1, &[5]), Answer::Committed { number: 2 }),
     ];
-    answers_to_both(alloc, board) == Some(both)
-}
-
-/// Whether the second net's wire is wrong where it is planned on the board of the first one's, without ripping it.
-fn is_wrong_across(alloc: Global, board: &mut Board) -> bool {
-    answer(board, across(alloc, 1)) == Some(Answer::Wrong { item: 5, commit: 1 })
-}
-
-/// Whether a board takes the first net's wire, refuses the second's twice, and takes it where it rips the first.
-fn answers_in_turn(alloc: Global, board: &mut Board) -> bool {
-    takes_the_first_alone(alloc, board)
-        && is_wrong_across(alloc, board)
-        && crosses(alloc, board)
-        && stand(alloc, board, &[0, 1, 2, 3, 4, 6])
+    answers(alloc, board, &steps) && stand(board, &[0, 1, 2, 3, 4, 6])
 }
 
 #[test]
 fn offers_are_answered_one_after_another(rt: HostRuntime) {
     let alloc = rt.alloc();
     let (mut board, dropped) = start(alloc, CROSS, 524_288).expect(&rt, "no board");
-    assert!(rt; dropped.is_empty() && answers_in_turn(alloc, &mut board));
+    assert!(rt; dropped.is_empty());
+    assert!(rt; takes_the_first_alone(alloc, &mut board) && takes_the_second(alloc, &mut board));
+}
+
+/// Whether the one item of a list has this id.
+fn is_only(items: &List<Item>, id: u64) -> bool {
+    match items.as_slice() {
+        [item] => item.id == id,
+        _ => false,
+    }
+}
+
+/// Whether the first net's wire went since a snapshot, and the second net's came.
+fn tells_since(new: &Snap, old: &Snap) -> bool {
+    match new.since(old) {
+        Ok(since) => is_only(&since.gone, 5) && is_only(&since.come, 6),
+        Err(_) => false,
+    }
+}
+
+/// Whether a board tells so.
+fn tells(board: &Board, old: &Snap) -> bool {
+    match board.snap() {
+        Ok(new) => tells_since(&new, old),
+        Err(_) => false,
+    }
+}
+
+/// Whether a board takes the second net's wire over the first's, and tells what went and what came.
+fn changes(alloc: Global, board: &mut Board) -> bool {
+    match board.snap() {
+        Ok(old) => takes_the_second(alloc, board) && tells(board, &old),
+        Err(_) => false,
+    }
 }
 
 /// Whether a board goes back to what it was after so many entries, and these ids stand then.
-fn goes_back(alloc: Global, board: &mut Board, to: u64, want: &[u64]) -> bool {
-    board.back(to).is_ok() && stand(alloc, board, want)
+fn goes_back(board: &mut Board, to: u64, want: &[u64]) -> bool {
+    board.back(to).is_ok() && stand(board, want)
 }
 
-/// Whether a board of three entries says that the ninth would be a later one.
-fn is_later(board: &mut Board) -> bool {
-    matches!(board.back(9), Err(BackFault::Later { entries: 3 }))
-}
-
-/// Whether a board of three entries doesn't go back to the ninth, and shows the same afterwards.
-fn has_no_ninth(alloc: Global, board: &mut Board) -> bool {
-    match shown(alloc, board) {
-        Ok(before) => is_later(board) && shows(alloc, board, before.as_str()),
-        Err(_) => false,
-    }
-}
-
-/// Whether a board's copy shows this text.
-fn shows_copied(alloc: Global, board: &Board, text: &str) -> bool {
+/// Whether a board's copy has these ids and its three entries.
+fn is_copied(board: &Board, ids: &[u64]) -> bool {
     match board.copy() {
-        Ok(copy) => shows(alloc, &copy, text),
+        Ok(copy) => stand(&copy, ids) && copy.history().len() == 3,
         Err(_) => false,
     }
 }
 
-/// Whether a board's copy shows what the board does.
-fn is_copied(alloc: Global, board: &Board) -> bool {
-    match shown(alloc, board) {
-        Ok(text) => shows_copied(alloc, board, text.as_str()),
-        Err(_) => false,
-    }
-}
-
-/// It takes what can be sent to another thread, and nothing else.
-fn needs_send<T: Send>(_value: &T) {}
-
-/// Whether a board gives a snapshot of so many entries, which can be sent.
-fn has_snap(board: &Board, number: u64) -> bool {
-    match board.snap() {
-        Ok(snap) => {
-            needs_send(&snap);
-            snap.number() == number
-        }
-        Err(_) => false,
-    }
-}
-
-/// Whether a board takes the second net's wire, laid over that of the first net, with the second entry.
-fn crosses(alloc: Global, board: &mut Board) -> bool {
-    let over = with_rips(alloc, across(alloc, 1), &[5]);
-    commits(board, over, 2)
-}
-
-/// Whether a board takes both: two entries.
-fn takes_both(alloc: Global, board: &mut Board) -> bool {
-    commits(board, along(alloc, 0), 1) && crosses(alloc, board)
-}
-
-/// Whether the second net's wire meets the first net's, which came back with the fourth entry after the offer's base.
-fn is_stale_across(alloc: Global, board: &mut Board) -> bool {
-    answer(board, across(alloc, 1)) == Some(Answer::Stale { item: 5, commit: 4 })
-}
-
-/// Whether a board of two entries goes back, and is copied and shown on the way.
-fn goes_back_and_is_copied(alloc: Global, board: &mut Board) -> bool {
-    goes_back(alloc, board, 0, &[0, 1, 2, 3, 4])
-        && has_no_ninth(alloc, board)
-        && is_copied(alloc, board)
-        && has_snap(board, 3)
-        && goes_back(alloc, board, 1, &[0, 1, 2, 3, 4, 5])
-        && is_stale_across(alloc, board)
-}
-
-/// Whether the board does so, once it has taken both.
-fn goes_back_from_both(alloc: Global, board: &mut Board) -> bool {
-    takes_both(alloc, board) && goes_back_and_is_copied(alloc, board)
+/// Whether a board of two entries goes back to its start, and from there to its first entry but to no later one; and
+/// then the second net's wire meets the first's, which came back with the fourth entry after the offer's base.
+fn goes_back_twice(alloc: Global, board: &mut Board) -> bool {
+    let stale = Answer::Stale { item: 5, commit: 4 };
+    goes_back(board, 0, &[0, 1, 2, 3, 4])
+        && is_copied(board, &[0, 1, 2, 3, 4])
+        && matches!(board.back(9), Err(BackFault::Later { entries: 3 }))
+        && goes_back(board, 1, &[0, 1, 2, 3, 4, 5])
+        && answers(alloc, board, &[(across(1, &[]), stale)])
 }
 
 #[test]
-fn a_board_goes_back_and_is_copied(rt: HostRuntime) {
+fn a_board_tells_what_changed_goes_back_and_is_copied(rt: HostRuntime) {
     let alloc = rt.alloc();
     let mut board = opened(alloc, CROSS).expect(&rt, "no board");
-    assert!(rt; goes_back_from_both(alloc, &mut board));
+    assert!(rt; takes_first(alloc, &mut board) && changes(alloc, &mut board));
+    assert!(rt; goes_back_twice(alloc, &mut board));
 }
 
-/// Whether a board says that it is full to the second net's wire.
-fn is_full(alloc: Global, board: &mut Board) -> bool {
-    answer(board, across(alloc, 0)) == Some(Answer::Full)
+/// The closing pass's offer of the second net's wire from its first pin to another point.
+fn of_closer(base: u64, wire: &'static [(u16, u16)]) -> Join {
+    let mut join = across(base, &[]);
+    join.worker = 16;
+    join.wire = wire;
+    join
 }
 
-/// Whether a board takes the first net's wire, and is full then.
-fn takes_one(alloc: Global, board: &mut Board) -> bool {
-    commits(board, along(alloc, 0), 1) && is_full(alloc, board)
+/// Whether a board that has its one entry is full to workers alone, and names the first clause that fails.
+fn refuses(alloc: Global, board: &mut Board) -> bool {
+    let too_short = &[(5_000, 2_000), (5_000, 3_000)];
+    let outside = &[
+        (5_000, 2_000),
+        (11_000, 2_000),
+        (11_000, 8_000),
+        (5_000, 8_000),
+    ];
+    let steps = [
+        (across(2, &[]), Answer::Full),
+        (of_closer(2, outside), Answer::Malformed { clause: 1 }),
+        (of_closer(1, too_short), Answer::Malformed { clause: 4 }),
+        (of_closer(1, outside), Answer::Wrong { item: 0, commit: 0 }),
+    ];
+    answers(alloc, board, &steps) && stand(board, &[0, 1, 2, 3, 4, 5])
 }
 
 #[test]
-fn a_board_takes_so_many_offers_of_workers(rt: HostRuntime) {
+fn a_full_board_says_so_to_workers_and_the_first_clause_that_fails_is_named(rt: HostRuntime) {
     let alloc = rt.alloc();
     let (mut board, _) = start(alloc, CROSS, 1).expect(&rt, "no board");
-    assert!(rt; takes_one(alloc, &mut board));
-}
-
-/// The first net's wire, led round that of the second net.
-fn round(alloc: Global) -> Result<Offer, AllocError> {
-    with_wire(
-        alloc,
-        along(alloc, 1),
-        &[
-            (1_000, 5_000),
-            (1_000, 9_000),
-            (9_000, 9_000),
-            (9_000, 5_000),
-        ],
-    )
-}
-
-/// Whether the same is refused where it rips that of the second net, which isn't in its way.
-fn rips_in_vain(alloc: Global, board: &mut Board) -> bool {
-    let ripping = with_rips(alloc, round(alloc), &[5]);
-    refusal(alloc, board, ripping) == Some(Answer::Malformed { clause: 7 })
-}
-
-/// Whether a board takes the wire that is led round.
-fn goes_round(alloc: Global, board: &mut Board) -> bool {
-    commits(board, round(alloc), 2)
-}
-
-/// Whether the wire that is led round is taken on the board of the second net's wire, and only without ripping it.
-fn rips_what_is_in_the_way(alloc: Global, board: &mut Board) -> bool {
-    commits(board, across(alloc, 0), 1) && rips_in_vain(alloc, board) && goes_round(alloc, board)
-}
-
-#[test]
-fn only_what_is_in_the_way_is_ripped(rt: HostRuntime) {
-    let alloc = rt.alloc();
-    let mut board = opened(alloc, CROSS).expect(&rt, "no board");
-    assert!(rt; rips_what_is_in_the_way(alloc, &mut board));
+    assert!(rt; takes_first(alloc, &mut board) && refuses(alloc, &mut board));
 }

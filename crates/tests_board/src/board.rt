@@ -43,7 +43,7 @@ pub(crate) fn held<S: Says>(alloc: Global, text: &str, rows: &[S]) -> u64 {
 }
 
 /// The design of a short text, or None where it is refused.
-pub(crate) fn design_of(alloc: Global, text: &str) -> Option<Design>
+pub(crate) fn board(alloc: Global, text: &str) -> Option<Design>
     ensures sound { IfSome result IsSound }
     ensures plain { IfSome result IsPlainCopper }
 {
@@ -57,28 +57,19 @@ pub(crate) fn design_of(alloc: Global, text: &str) -> Option<Design>
     }
 }
 
-/// The same, where what its copper is doesn't matter.
-pub(crate) fn board(alloc: Global, text: &str) -> Option<Design>
-    ensures { IfSome result IsSound }
-{
-    design_of(alloc, text)
-}
-
 /// The board of a short text and the places of what was dropped, or None where it is refused or memory is wanting.
 pub(crate) fn start(alloc: Global, text: &str, cap: u64) -> Option<(Board, List<u64>)>
     requires { cap ≤ 2 ^ 19 }
 {
-    let design = design_of(alloc, text)?;
+    let design = board(alloc, text)?;
     Board::start(alloc, design, cap).ok()
 }
 
 /// The board of a short text with room for as many ids as there can be, or None where it is refused or memory is
 /// wanting.
 pub(crate) fn opened(alloc: Global, text: &str) -> Option<Board> {
-    match start(alloc, text, 524_288) {
-        Some((board, _)) => Some(board),
-        None => None,
-    }
+    let (board, _) = start(alloc, text, 524_288)?;
+    Some(board)
 }
 
 /// A fixed item.

@@ -19,15 +19,6 @@ pub(crate) struct Cells {
     ghost ways: { length offsets ≤ 4 },
 }
 
-/// The prices that a map shows: a digit's, and 0 elsewhere.
-fn prices_of(alloc: Global, map: &str) -> Result<List<u32>, AllocError> {
-    let mut prices = List::new(alloc);
-    for mark in map.as_bytes() {
-        prices.push(u32::from(mark.saturating_sub(b'0')))?;
-    }
-    Ok(prices)
-}
-
 impl Cells {
     /// Cells of these prices, in rows of the width; none of more than 1,000.
     pub(crate) fn of(alloc: Global, width: u8, prices: List<u32>) -> Result<Cells, AllocError> {
@@ -47,7 +38,10 @@ impl Cells {
 
     /// Cells that a map shows by their prices, `.` for a wall.
     pub(crate) fn drawn(alloc: Global, width: u8, map: &str) -> Result<Cells, AllocError> {
-        let prices = prices_of(alloc, map)?;
+        let mut prices = List::new(alloc);
+        for mark in map.as_bytes() {
+            prices.push(u32::from(mark.saturating_sub(b'0')))?;
+        }
         Cells::of(alloc, width, prices)
     }
 

@@ -22,79 +22,66 @@ const RULES: &str = "(pcb rules
     (net GREATER_LAST (rule (width 150) (clearance 40 (type default_smd)) (clearance 300 (type default_smd))))
     (class plain OF_CLASS (rule (width 400) (clearance 120)))))";
 
-/// The clearance in nm of items of two nets, or of none, and of these kinds.
-struct Clearance(Option<u32>, Kind, Option<u32>, Kind, u64);
+/// What a test says of the rules.
+enum Rule {
+    /// The clearance in nm of items of two nets, or of none, and of these kinds.
+    Clearance(Option<u32>, Kind, Option<u32>, Kind, u64),
+    /// The width of a net.
+    Width(u32, u64),
+    /// The reach of the board, which no clearance passes.
+    Reach(u64),
+}
 
-impl Says for Clearance {
+impl Says for Rule {
     fn holds(&self, _alloc: Global, d: &Design) -> bool {
-        clearance(d, self.0, self.1, self.2, self.3) == self.4
+        match self {
+            Rule::Clearance(a, ka, b, kb, nm) => clearance(d, *a, *ka, *b, *kb) == *nm,
+            Rule::Width(net, nm) => width_of(d, *net) == *nm,
+            Rule::Reach(nm) => reach_of(d) == *nm,
+        }
     }
 }
 
-const OF_STRUCTURE_AND_CLASS: [Clearance; 5] = [
-    Clearance(Some(0), Kind::Smd, Some(0), Kind::Smd, 50_000),
-    Clearance(Some(0), Kind::Smd, Some(0), Kind::Wire, 250_000),
-    Clearance(Some(0), Kind::Wire, Some(0), Kind::Wire, 200_100),
-    Clearance(Some(1), Kind::Smd, Some(1), Kind::Smd, 120_000),
-    Clearance(Some(1), Kind::Wire, Some(1), Kind::Wire, 120_000),
+/// A class comes before the structure.
+const OF_STRUCTURE_AND_CLASS: [Rule; 5] = [
+    Rule::Clearance(Some(0), Kind::Smd, Some(0), Kind::Smd, 50_000),
+    Rule::Clearance(Some(0), Kind::Smd, Some(0), Kind::Wire, 250_000),
+    Rule::Clearance(Some(0), Kind::Wire, Some(0), Kind::Wire, 200_100),
+    Rule::Clearance(Some(1), Kind::Smd, Some(1), Kind::Smd, 120_000),
+    Rule::Clearance(Some(1), Kind::Wire, Some(1), Kind::Wire, 120_000),
+];
+
+/// An exact pair comes before any kind and counts in either order, and of like clearances the last read counts.
+const OF_PAIRS: [Rule; 8] = [
+    Rule::Clearance(Some(2), Kind::Smd, Some(2), Kind::Smd, 50_000),
+    Rule::Clearance(Some(3), Kind::Smd, Some(3), Kind::Smd, 50_000),
+    Rule::Clearance(Some(3), Kind::Smd, Some(3), Kind::Area, 300_000),
+    Rule::Clearance(Some(3), Kind::Pin, Some(3), Kind::Wire, 200_100),
+    Rule::Clearance(Some(4), Kind::Via, Some(4), Kind::Smd, 70_000),
+    Rule::Clearance(Some(4), Kind::Smd, Some(4), Kind::Via, 70_000),
+    Rule::Clearance(Some(5), Kind::Pin, Some(5), Kind::Smd, 40_000),
+    Rule::Clearance(Some(6), Kind::Pin, Some(6), Kind::Smd, 300_000),
+];
+
+/// Two nets keep the greater of their clearances.
+const OF_TWO_NETS: [Rule; 3] = [
+    Rule::Clearance(Some(0), Kind::Smd, Some(1), Kind::Smd, 120_000),
+    Rule::Clearance(Some(1), Kind::Smd, Some(0), Kind::Smd, 120_000),
+    Rule::Clearance(Some(0), Kind::Smd, None, Kind::Smd, 50_000),
+];
+
+/// A net has its own width or its class's.
+const WIDTHS_AND_REACH: [Rule; 4] = [
+    Rule::Width(0, 200_000),
+    Rule::Width(1, 400_000),
+    Rule::Width(6, 150_000),
+    Rule::Reach(300_000),
 ];
 
 #[test]
-fn a_class_comes_before_the_structure(rt: HostRuntime) {
+fn of_several_clearances_and_widths_one_counts(rt: HostRuntime) {
     assert_eq!(rt; held(rt.alloc(), RULES, &OF_STRUCTURE_AND_CLASS), 5);
-}
-
-const OF_PAIRS: [Clearance; 6] = [
-    Clearance(Some(2), Kind::Smd, Some(2), Kind::Smd, 50_000),
-    Clearance(Some(3), Kind::Smd, Some(3), Kind::Smd, 50_000),
-    Clearance(Some(3), Kind::Smd, Some(3), Kind::Area, 300_000),
-    Clearance(Some(3), Kind::Pin, Some(3), Kind::Wire, 200_100),
-    Clearance(Some(4), Kind::Via, Some(4), Kind::Smd, 70_000),
-    Clearance(Some(4), Kind::Smd, Some(4), Kind::Via, 70_000),
-];
-
-#[test]
-fn an_exact_pair_comes_before_any_kind_and_counts_in_either_order(rt: HostRuntime) {
-    assert_eq!(rt; held(rt.alloc(), RULES, &OF_PAIRS), 6);
-}
-
-const READ_LAST: [Clearance; 2] = [
-    Clearance(Some(5), Kind::Pin, Some(5), Kind::Smd, 40_000),
-    Clearance(Some(6), Kind::Pin, Some(6), Kind::Smd, 300_000),
-];
-
-#[test]
-fn of_like_clearances_the_last_read_counts(rt: HostRuntime) {
-    assert_eq!(rt; held(rt.alloc(), RULES, &READ_LAST), 2);
-}
-
-const OF_TWO_NETS: [Clearance; 3] = [
-    Clearance(Some(0), Kind::Smd, Some(1), Kind::Smd, 120_000),
-    Clearance(Some(1), Kind::Smd, Some(0), Kind::Smd, 120_000),
-    Clearance(Some(0), Kind::Smd, None, Kind::Smd, 50_000),
-];
-
-#[test]
-fn two_nets_keep_the_greater_of_their_clearances(rt: HostRuntime) {
+    assert_eq!(rt; held(rt.alloc(), RULES, &OF_PAIRS), 8);
     assert_eq!(rt; held(rt.alloc(), RULES, &OF_TWO_NETS), 3);
-}
-
-/// The width of a net, and the reach of its board.
-struct WidthAndReach(u32, u64, u64);
-
-impl Says for WidthAndReach {
-    fn holds(&self, _alloc: Global, d: &Design) -> bool {
-        width_of(d, self.0) == self.1 && reach_of(d) == self.2
-    }
-}
-
-const WIDTHS: [WidthAndReach; 3] = [
-    WidthAndReach(0, 200_000, 300_000),
-    WidthAndReach(1, 400_000, 300_000),
-    WidthAndReach(6, 150_000, 300_000),
-];
-
-#[test]
-fn a_net_has_its_own_width_or_its_classs_and_no_clearance_is_above_the_reach(rt: HostRuntime) {
-    assert_eq!(rt; held(rt.alloc(), RULES, &WIDTHS), 3);
+    assert_eq!(rt; held(rt.alloc(), RULES, &WIDTHS_AND_REACH), 4);
 }

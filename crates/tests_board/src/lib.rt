@@ -17,8 +17,6 @@ mod cell_walks;
 #[cfg(test)]
 mod cells;
 #[cfg(test)]
-mod changes;
-#[cfg(test)]
 mod clearances;
 #[cfg(test)]
 mod copper;
@@ -37,8 +35,6 @@ mod of_maps;
 #[cfg(test)]
 mod of_nets;
 #[cfg(test)]
-mod of_rips;
-#[cfg(test)]
 mod of_tiles;
 #[cfg(test)]
 mod offer_board;
@@ -47,13 +43,9 @@ mod pairs;
 #[cfg(test)]
 mod pictures;
 #[cfg(test)]
-mod plan_board;
-#[cfg(test)]
 mod plans;
 #[cfg(test)]
 mod random_boards;
-#[cfg(test)]
-mod refusals;
 #[cfg(test)]
 mod reports;
 #[cfg(test)]
@@ -66,5 +58,3 @@ mod searches;
 mod sessions;
 #[cfg(test)]
 mod turns;
-#[cfg(test)]
-mod ways;

@@ -13,18 +13,13 @@ impl Numbers {
         Numbers { seed }
     }
 
-    /// The next one, below 2^31.
-    fn next(&mut self) -> u64 {
+    /// The next one, below 2^31 and a limit, or 0 where the limit is 0.
+    pub(crate) fn below(&mut self, limit: u64) -> u64 {
         self.seed = self
             .seed
             .wrapping_mul(6_364_136_223_846_793_005)
             .wrapping_add(1_442_695_040_888_963_407);
-        self.seed >> 33
-    }
-
-    /// The next one below a limit, or 0 where the limit is 0.
-    pub(crate) fn below(&mut self, limit: u64) -> u64 {
-        let next = self.next();
+        let next = self.seed >> 33;
         if limit == 0 { 0 } else { next % limit }
     }
 }

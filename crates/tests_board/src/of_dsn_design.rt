@@ -65,99 +65,18 @@ const SMALL: &str = "(pcb b
   (wiring (wire (path F 4 1 1 9 1) (net A)) (via V 10 20 (net A) (type fix)) (wire (path B 4 1 1 9 1))
     (via T 3 4 (net N) (type PROTECT)) (via V 50 50 (net N) (type route))))";
 
-/// How many notes, components, pins, fixed items and free wiring there are.
-struct Counts([u64; 5]);
-
-impl Says for Counts {
-    fn holds(&self, _alloc: Global, d: &Design) -> bool {
-        self.0
-            == [
-                d.notes,
-                d.components.len() as u64,
-                d.pins.len() as u64,
-                d.fixed.len() as u64,
-                d.free.len() as u64,
-            ]
-    }
-}
-
-/// The net of a pin, whether it is surface-mounted, and its centre.
-struct PinAt(usize, Option<u32>, bool, Point);
-
-impl Says for PinAt {
-    fn holds(&self, _alloc: Global, d: &Design) -> bool {
-        match d.pins.get(self.0) {
-            Some(pin) => pin.net == self.1 && pin.smd == self.2 && pin.centre == self.3,
-            None => false,
-        }
-    }
-}
-
-const PINS: [PinAt; 4] = [
-    PinAt(
-        0,
-        Some(0),
-        false,
-        Point {
-            x: 105_000_000,
-            y: -105_000_000,
-        },
-    ),
-    PinAt(
-        3,
-        Some(2),
-        true,
-        Point {
-            x: 125_800_000,
-            y: -105_000_000,
-        },
-    ),
-    PinAt(
-        6,
-        Some(2),
-        true,
-        Point {
-            x: 140_000_000,
-            y: -114_200_000,
-        },
-    ),
-    PinAt(
-        7,
-        Some(3),
-        true,
-        Point {
-            x: 140_000_000,
-            y: -115_800_000,
-        },
-    ),
-];
-
-#[test]
-fn a_board_of_kicad(rt: HostRuntime) {
-    assert_eq!(rt; held(rt.alloc(), KICAD, &[Counts([1, 4, 8, 10, 0])]), 1);
-    assert_eq!(rt; held(rt.alloc(), KICAD, &PINS), 4);
-}
-
-/// The pins and the vias of a net.
-struct Lists(usize, &'static [u32], &'static [u32]);
-
-impl Says for Lists {
-    fn holds(&self, _alloc: Global, d: &Design) -> bool {
-        match d.nets.get(self.0) {
-            Some(net) => net.pins.as_slice() == self.1 && net.vias.as_slice() == self.2,
-            None => false,
-        }
-    }
-}
-
-const LISTS_OF_KICAD: [Lists; 2] = [Lists(0, &[0, 2], &[2]), Lists(3, &[5, 7], &[2])];
-
-const LISTS_OF_SMALL: [Lists; 2] = [Lists(0, &[0, 3], &[2, 2]), Lists(1, &[], &[])];
-
-#[test]
-fn nets_have_their_pins_and_the_vias_of_their_last_class(rt: HostRuntime) {
-    assert_eq!(rt; held(rt.alloc(), KICAD, &LISTS_OF_KICAD), 2);
-    assert_eq!(rt; held(rt.alloc(), SMALL, &LISTS_OF_SMALL), 2);
+/// What a test says of a design.
+enum Told {
+    /// How many notes, components, pins, fixed items and free wiring there are.
+    Counts([u64; 5]),
+    /// The net of a pin, whether it is surface-mounted, and its centre.
+    Pin(usize, Option<u32>, bool, Point),
+    /// The pins and the vias of a net.
+    Net(usize, &'static [u32], &'static [u32]),
+    /// The kind and the net of a fixed item, what it bans, and its pieces.
+    Fixed(usize, Kind, Option<u32>, Option<(bool, bool)>, (u64, u64, usize)),
+    /// The place in the text and the net of free wiring, and what it is made of.
+    Free(usize, u64, u32, (u32, u64, Point)),
 }
 
 fn layers(pieces: &[Piece]) -> u64 {
@@ -198,47 +117,15 @@ fn bans(item: &Item) -> Option<(bool, bool)> {
     }
 }
 
-/// What the fixed item at a place is: its kind and net, what it bans, and its pieces.
-struct Told(
-    usize,
-    Kind,
-    Option<u32>,
-    Option<(bool, bool)>,
-    (u64, u64, usize),
-);
-
-impl Says for Told {
-    fn holds(&self, _alloc: Global, d: &Design) -> bool {
-        match d.fixed.get(self.0) {
-            Some(item) => {
-                item.kind == self.1
-                    && item.net == self.2
-                    && bans(item) == self.3
-                    && summary(item.pieces.as_slice()) == self.4
-            }
-            None => false,
-        }
-    }
-}
-
-const FIXED: [Told; 12] = [
-    Told(0, Kind::Area, None, Some((true, true)), (123_123, 2_000, 4)),
-    Told(1, Kind::Area, None, Some((false, true)), (2, 4_000, 1)),
-    Told(2, Kind::Area, None, Some((true, true)), (1, 0, 4)),
-    Told(3, Kind::Area, None, Some((true, false)), (1, 0, 4)),
-    Told(4, Kind::Smd, Some(0), None, (1, 2_000, 1)),
-    Told(5, Kind::Pin, None, None, (13, 2_000, 1)),
-    Told(6, Kind::Area, None, Some((true, false)), (3, 0, 4)),
-    Told(7, Kind::Smd, None, None, (3, 2_000, 1)),
-    Told(8, Kind::Pin, Some(0), None, (31, 2_000, 1)),
-    Told(9, Kind::Via, Some(0), None, (13, 2_000, 1)),
-    Told(10, Kind::Wire, None, None, (3, 4_000, 2)),
-    Told(11, Kind::Via, Some(1), None, (13, 2_000, 1)),
-];
-
-#[test]
-fn fixed_items_in_the_order_of_their_ids(rt: HostRuntime) {
-    assert_eq!(rt; held(rt.alloc(), SMALL, &FIXED), 12);
+fn has_counts(d: &Design, counts: &[u64; 5]) -> bool {
+    *counts
+        == [
+            d.notes,
+            d.components.len() as u64,
+            d.pins.len() as u64,
+            d.fixed.len() as u64,
+            d.free.len() as u64,
+        ]
 }
 
 /// Of free wiring the layer or the padstack, the width of a wire, and the first vertex.
@@ -254,23 +141,102 @@ fn metal_of(metal: &Metal) -> Option<(u32, u64, Point)> {
     }
 }
 
-/// The place in the text and the net of free wiring, and what it is made of.
-struct Free(usize, u64, u32, (u32, u64, Point));
-
-impl Says for Free {
+impl Says for Told {
     fn holds(&self, _alloc: Global, d: &Design) -> bool {
-        match d.free.get(self.0) {
-            Some(free) => {
-                free.at == self.1 && free.net == self.2 && metal_of(&free.metal) == Some(self.3)
-            }
-            None => false,
+        match self {
+            Told::Counts(counts) => has_counts(d, counts),
+            Told::Pin(at, net, smd, centre) => match d.pins.get(*at) {
+                Some(pin) => pin.net == *net && pin.smd == *smd && pin.centre == *centre,
+                None => false,
+            },
+            Told::Net(at, pins, vias) => match d.nets.get(*at) {
+                Some(net) => net.pins.as_slice() == *pins && net.vias.as_slice() == *vias,
+                None => false,
+            },
+            Told::Fixed(at, kind, net, ban, pieces) => match d.fixed.get(*at) {
+                Some(item) => {
+                    item.kind == *kind
+                        && item.net == *net
+                        && bans(item) == *ban
+                        && summary(item.pieces.as_slice()) == *pieces
+                }
+                None => false,
+            },
+            Told::Free(at, place, net, metal) => match d.free.get(*at) {
+                Some(free) => {
+                    free.at == *place && free.net == *net && metal_of(&free.metal) == Some(*metal)
+                }
+                None => false,
+            },
         }
     }
 }
 
-const FREE: [Free; 2] = [
-    Free(0, 751, 0, (0, 4_000, Point { x: 1_000, y: 1_000 })),
-    Free(
+const OF_KICAD: [Told; 7] = [
+    Told::Counts([1, 4, 8, 10, 0]),
+    Told::Pin(
+        0,
+        Some(0),
+        false,
+        Point {
+            x: 105_000_000,
+            y: -105_000_000,
+        },
+    ),
+    Told::Pin(
+        3,
+        Some(2),
+        true,
+        Point {
+            x: 125_800_000,
+            y: -105_000_000,
+        },
+    ),
+    Told::Pin(
+        6,
+        Some(2),
+        true,
+        Point {
+            x: 140_000_000,
+            y: -114_200_000,
+        },
+    ),
+    Told::Pin(
+        7,
+        Some(3),
+        true,
+        Point {
+            x: 140_000_000,
+            y: -115_800_000,
+        },
+    ),
+    Told::Net(0, &[0, 2], &[2]),
+    Told::Net(3, &[5, 7], &[2]),
+];
+
+#[test]
+fn a_board_of_kicad(rt: HostRuntime) {
+    assert_eq!(rt; held(rt.alloc(), KICAD, &OF_KICAD), 7);
+}
+
+/// The fixed items are in the order of their ids, and a net has the vias of its last class.
+const OF_SMALL: [Told; 16] = [
+    Told::Net(0, &[0, 3], &[2, 2]),
+    Told::Net(1, &[], &[]),
+    Told::Fixed(0, Kind::Area, None, Some((true, true)), (123_123, 2_000, 4)),
+    Told::Fixed(1, Kind::Area, None, Some((false, true)), (2, 4_000, 1)),
+    Told::Fixed(2, Kind::Area, None, Some((true, true)), (1, 0, 4)),
+    Told::Fixed(3, Kind::Area, None, Some((true, false)), (1, 0, 4)),
+    Told::Fixed(4, Kind::Smd, Some(0), None, (1, 2_000, 1)),
+    Told::Fixed(5, Kind::Pin, None, None, (13, 2_000, 1)),
+    Told::Fixed(6, Kind::Area, None, Some((true, false)), (3, 0, 4)),
+    Told::Fixed(7, Kind::Smd, None, None, (3, 2_000, 1)),
+    Told::Fixed(8, Kind::Pin, Some(0), None, (31, 2_000, 1)),
+    Told::Fixed(9, Kind::Via, Some(0), None, (13, 2_000, 1)),
+    Told::Fixed(10, Kind::Wire, None, None, (3, 4_000, 2)),
+    Told::Fixed(11, Kind::Via, Some(1), None, (13, 2_000, 1)),
+    Told::Free(0, 751, 0, (0, 4_000, Point { x: 1_000, y: 1_000 })),
+    Told::Free(
         1,
         883,
         1,
@@ -286,6 +252,6 @@ const FREE: [Free; 2] = [
 ];
 
 #[test]
-fn free_wiring_of_a_board(rt: HostRuntime) {
-    assert_eq!(rt; held(rt.alloc(), SMALL, &FREE), 2);
+fn a_board_with_each_kind_of_item(rt: HostRuntime) {
+    assert_eq!(rt; held(rt.alloc(), SMALL, &OF_SMALL), 16);
 }

@@ -2,6 +2,7 @@
 //! The boards are squares with a corner at the origin.
 
 use crate::lattices::{Says, holds};
+use geo_kernel::Point;
 use pcb_model::Design;
 use route_lattice::Lattice;
 use std::alloc::Global;
@@ -26,84 +27,6 @@ const LARGE_WITH_POWER: &str =
     "(pcb b (resolution um 10) (structure (layer T (type signal)) (layer P (type power))
   (boundary (rect pcb 0 0 200000 200000))))";
 
-/// The number of nodes, of lines across and of lines up, the grid, and the unit of the session.
-struct Size(u32, usize, usize, u64, u64);
-
-impl Says for Size {
-    fn holds(&self, _alloc: Global, _d: &Design, lat: &Lattice) -> bool {
-        lat.count() == self.0
-            && lat.xs().len() == self.1
-            && lat.ys().len() == self.2
-            && lat.grid() == self.3
-            && lat.unit() == self.4
-    }
-}
-
-const SIZES: [(&str, u32, Size); 4] = [
-    (TEN_MM, 1_000_000, Size(162, 9, 9, 1_000_000, 100)),
-    (TEN_MM_WITH_POWER, 1_000_000, Size(81, 9, 9, 1_000_000, 100)),
-    (SMALL, 0, Size(139_392, 264, 264, 100_000, 100)),
-    (LARGE, 0, Size(1_122_002, 749, 749, 400_000, 100)),
-];
-
-#[test]
-fn a_node_is_a_crossing_of_two_lines_on_a_signal_layer(rt: HostRuntime) {
-    for (text, grid, size) in &SIZES {
-        assert!(rt; holds(rt.alloc(), text, *grid, size) == Ok(true), "{text}");
-    }
-}
-
-#[test]
-fn too_many_nodes_are_counted_exactly(rt: HostRuntime) {
-    for (text, count) in [
-        (LARGE, 179_998_800_002),
-        (LARGE_WITH_POWER, 39_999_600_001),
-        (TEN_MM, 199_960_002),
-        (SMALL, 1_404_394_002),
-    ] {
-        assert!(rt;
-            holds(rt.alloc(), text, 1_000, &Size(0, 0, 0, 0, 0)) == Err(count),
-            "{text}"
-        );
-    }
-}
-
-/// The nodes that lie at an x and y in mm, on a layer.
-struct NodesAt([(u32, i64, i64, u8); 5]);
-
-/// Whether a node lies at this x and y in mm, on this layer.
-fn is_at(lat: &Lattice, node: u32, x: i64, y: i64, layer: u8) -> bool {
-    if node >= lat.count() {
-        return false;
-    }
-    let at = lat.point(node);
-    at.x / 1_000_000 == x && at.y / 1_000_000 == y && lat.layer(node) == layer
-}
-
-impl Says for NodesAt {
-    fn holds(&self, _alloc: Global, _d: &Design, lat: &Lattice) -> bool {
-        for (node, x, y, layer) in &self.0 {
-            if !is_at(lat, *node, *x, *y, *layer) {
-                return false;
-            }
-        }
-        true
-    }
-}
-
-const NODES: NodesAt = NodesAt([
-    (0, 1, 1, 0),
-    (21, 4, 3, 0),
-    (80, 9, 9, 0),
-    (81, 1, 1, 1),
-    (161, 9, 9, 1),
-]);
-
-#[test]
-fn nodes_are_numbered_by_rows_and_then_by_layers(rt: HostRuntime) {
-    assert!(rt; holds(rt.alloc(), TEN_MM, 1_000_000, &NODES) == Ok(true));
-}
-
 /// A board of 5 um whose session's unit is 1 um.
 const FIVE_UM: &str =
     "(pcb b (resolution um 1) (structure (layer T) (boundary (rect pcb 0 0 5 5))))";
@@ -114,28 +37,116 @@ const HALVES: &str = "(pcb b (resolution um 1) (structure (layer T) (boundary (r
   (library (image I (pin S 1 1.5 -1.5) (pin S 2 2.499 -2.501) (pin S 3 -4 -4)) (padstack S (shape (circle T 1))))
   (network (net A (pins C-1 C-2))))";
 
-/// The lines across and up.
-struct Lines(&'static [i64], &'static [i64]);
+/// What a test says of a lattice.
+enum Told {
+    /// The number of nodes, of lines across and of lines up, the grid, and the unit of the session.
+    Size(u32, usize, usize, u64, u64),
+    /// The lines across and up.
+    Lines(&'static [i64], &'static [i64]),
+    /// A node, its x and y in mm, and its layer.
+    Node(u32, i64, i64, u8),
+    /// Nothing, since there is no lattice.
+    Nothing,
+}
 
-impl Says for Lines {
+impl Says for Told {
     fn holds(&self, _alloc: Global, _d: &Design, lat: &Lattice) -> bool {
-        lat.xs().as_slice() == self.0 && lat.ys().as_slice() == self.1
+        match self {
+            Told::Size(nodes, xs, ys, grid, unit) => {
+                lat.count() == *nodes
+                    && lat.xs().len() == *xs
+                    && lat.ys().len() == *ys
+                    && lat.grid() == *grid
+                    && lat.unit() == *unit
+            }
+            Told::Lines(xs, ys) => lat.xs().as_slice() == *xs && lat.ys().as_slice() == *ys,
+            Told::Node(node, x, y, layer) => {
+                *node < lat.count() && is_at(lat.point(*node), *x, *y) && lat.layer(*node) == *layer
+            }
+            Told::Nothing => false,
+        }
     }
 }
 
-const ALL: Lines = Lines(&[1_000, 2_000, 3_000, 4_000], &[1_000, 2_000, 3_000, 4_000]);
-
-const SOME: Lines = Lines(&[1_000, 3_000, 4_000], &[1_000, 3_000, 4_000]);
-
-#[test]
-fn lines_are_multiples_of_the_grid_rounded_down_to_the_unit(rt: HostRuntime) {
-    assert!(rt; holds(rt.alloc(), FIVE_UM, 300, &ALL) == Ok(true));
-    assert!(rt; holds(rt.alloc(), FIVE_UM, 1_500, &SOME) == Ok(true));
+/// Whether a point is at this x and y in mm.
+fn is_at(at: Point, x: i64, y: i64) -> bool {
+    at.x / 1_000_000 == x && at.y / 1_000_000 == y
 }
 
-const ANCHORS: Lines = Lines(&[0, 2_000], &[-3_000, -1_000, 0]);
+/// A text, a grid, what its lattice is, and that it is so, or the exact number of nodes where these are too many.
+struct Row(&'static str, u32, Told, Result<bool, u128>);
+
+/// A node is a crossing of two lines on a signal layer.
+const SIZES: [Row; 8] = [
+    Row(
+        TEN_MM,
+        1_000_000,
+        Told::Size(162, 9, 9, 1_000_000, 100),
+        Ok(true),
+    ),
+    Row(
+        TEN_MM_WITH_POWER,
+        1_000_000,
+        Told::Size(81, 9, 9, 1_000_000, 100),
+        Ok(true),
+    ),
+    Row(
+        SMALL,
+        0,
+        Told::Size(139_392, 264, 264, 100_000, 100),
+        Ok(true),
+    ),
+    Row(
+        LARGE,
+        0,
+        Told::Size(1_122_002, 749, 749, 400_000, 100),
+        Ok(true),
+    ),
+    Row(LARGE, 1_000, Told::Nothing, Err(179_998_800_002)),
+    Row(LARGE_WITH_POWER, 1_000, Told::Nothing, Err(39_999_600_001)),
+    Row(TEN_MM, 1_000, Told::Nothing, Err(199_960_002)),
+    Row(SMALL, 1_000, Told::Nothing, Err(1_404_394_002)),
+];
+
+/// Nodes are numbered by rows and then by layers.
+const NODES: [Row; 5] = [
+    Row(TEN_MM, 1_000_000, Told::Node(0, 1, 1, 0), Ok(true)),
+    Row(TEN_MM, 1_000_000, Told::Node(21, 4, 3, 0), Ok(true)),
+    Row(TEN_MM, 1_000_000, Told::Node(80, 9, 9, 0), Ok(true)),
+    Row(TEN_MM, 1_000_000, Told::Node(81, 1, 1, 1), Ok(true)),
+    Row(TEN_MM, 1_000_000, Told::Node(161, 9, 9, 1), Ok(true)),
+];
+
+const FIRST: [i64; 4] = [1_000, 2_000, 3_000, 4_000];
+
+const SOME: [i64; 3] = [1_000, 3_000, 4_000];
+
+/// Lines are multiples of the grid rounded down to the unit, and anchors of pins with a net, rounded half upwards.
+const LINES: [Row; 3] = [
+    Row(FIVE_UM, 300, Told::Lines(&FIRST, &FIRST), Ok(true)),
+    Row(FIVE_UM, 1_500, Told::Lines(&SOME, &SOME), Ok(true)),
+    Row(
+        HALVES,
+        10_000,
+        Told::Lines(&[0, 2_000], &[-3_000, -1_000, 0]),
+        Ok(true),
+    ),
+];
+
+/// How many rows are so before the first that isn't.
+fn count(alloc: Global, rows: &[Row]) -> usize {
+    for i in 0..rows.len() {
+        let row = &rows[i];
+        if holds(alloc, row.0, row.1, &row.2) != row.3 {
+            return i;
+        }
+    }
+    rows.len()
+}
 
 #[test]
-fn anchors_of_pins_with_a_net_are_rounded_half_upwards(rt: HostRuntime) {
-    assert!(rt; holds(rt.alloc(), HALVES, 10_000, &ANCHORS) == Ok(true));
+fn lattices_have_these_nodes_and_lines(rt: HostRuntime) {
+    assert_eq!(rt; count(rt.alloc(), &SIZES), 8);
+    assert_eq!(rt; count(rt.alloc(), &NODES), 5);
+    assert_eq!(rt; count(rt.alloc(), &LINES), 3);
 }

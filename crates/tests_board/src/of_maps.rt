@@ -1,10 +1,12 @@
-//! The moves by maps beside the legal moves, over all moves of both nets of small boards: once the maps are made, once
-//! they followed to copper of which an item went while another came, and once they are back.
+//! The moves by maps beside those that ask the copper, over all moves of both nets of small boards: the legal ones, and
+//! those past routed items; once the maps are made, once they followed to copper of which an item went while another
+//! came, and once they are back.
 
-ghost use Rattle.std.specs.Prelude.{◌≡◌, ◌<◌, ◌≤◌, ◌∷◌, [], length, IfOk, IfSome, OnOk};
+ghost use Rattle.std.specs.Prelude.{◌≡◌, ◌<◌, ◌≤◌, ◌∷◌, [], length, IfOk, IsTrue, OnOk};
 ghost use Rattle.pcb_model.specs.Sound.{IsSound, Serves};
 ghost use Rattle.route_lattice.specs.Fits.{FitsDesign};
 ghost use Rattle.route_lattice.specs.Legal.{CanMove};
+ghost use Rattle.ripup.specs.Rips.{CanRip};
 ghost use Rattle.move_maps.specs.Maps.{AreMapsOf};
 ghost use Rattle.tests_board.specs.Laying.{IsLaidOn};
 
@@ -12,13 +14,15 @@ use crate::board::board;
 use crate::lattices::lattice_of;
 use crate::laying::{CROSS, Routed, WALL, laid};
 use geo_kernel::List;
+use map_rips::{fixed_maps, rips_of};
 use move_maps::{Counts, MoveMaps};
 use pcb_model::{Design, Item, PlainCopper, copy_item};
+use ripup::RipMoves;
 use route_lattice::{Lattice, LegalMoves, Moves};
 use std::alloc::{AllocError, Global};
 
 /// How many moves of a net were compared, how many of them are open, and how many the map opens by itself.
-pub(crate) type Seen = (u32, u32, u32);
+type Seen = (u32, u32, u32);
 
 /// Whether two kinds of moves answer alike for a move.
 fn are_alike<M: Moves, L: Moves>(moves: &M, legal: &L, node: u32, i: u32) -> bool
@@ -70,7 +74,7 @@ fn seen_at<M: Moves, L: Moves>(
 }
 
 /// What is seen of all moves, or None where the two answer otherwise.
-pub(crate) fn seen_by<M: Moves, L: Moves>(moves: &M, legal: &L, counts: &Counts) -> Option<Seen>
+fn seen_by<M: Moves, L: Moves>(moves: &M, legal: &L, counts: &Counts) -> Option<Seen>
     requires ready { M.ready moves.now }
     requires legal_ready { L.ready legal.now }
 {
@@ -110,36 +114,61 @@ fn seen_of(
     }
 }
 
-/// What is seen of the two nets.
-fn seen_on(
+/// What is seen of a net past routed items, or None where it has no map, or the copper answers otherwise.
+fn passed_of<'a>(
+    alloc: Global,
+    maps: &'a MoveMaps,
+    fixed: &'a MoveMaps,
+    lat: &'a Lattice,
+    d: &'a Design,
+    c: &'a PlainCopper,
+    net: u32,
+) -> Option<Seen>
+    requires can_rip { CanRip d.now lat.now net 2000000 500000 }
+    requires serves { Serves c.now d.now }
+    requires maps { AreMapsOf d.now lat.now c.now maps.now }
+    requires fixed { AreMapsOf d.now lat.now d.now.fixed fixed.now }
+{
+    let rips = RipMoves::of(lat, d, c, net, 2_000_000, 500_000);
+    match rips_of(alloc, maps, fixed, lat, d, c, net, 2_000_000, 500_000) {
+        Ok(Some(moves)) => {
+            let map = moves.fixed;
+            seen_by(&moves, &rips, &map.counts)
+        }
+        _ => None,
+    }
+}
+
+/// What is to be seen of the legal moves of each of the two nets, and of those past routed items.
+#[derive(Clone, Copy)]
+struct Views {
+    first: Seen,
+    first_past: Seen,
+    second: Seen,
+    second_past: Seen,
+}
+
+/// Whether that is seen on this copper.
+fn is_seen(
     alloc: Global,
     maps: &MoveMaps,
+    fixed: &MoveMaps,
     lat: &Lattice,
     d: &Design,
     c: &PlainCopper,
-) -> Option<[Seen; 2]>
+    want: Views,
+) -> bool
     requires sound { IsSound d.now }
     requires fits { FitsDesign d.now lat.now }
     requires two { 2 ≤ length d.now.nets }
     requires serves { Serves c.now d.now }
     requires maps { AreMapsOf d.now lat.now c.now maps.now }
+    requires fixed { AreMapsOf d.now lat.now d.now.fixed fixed.now }
 {
-    let first = seen_of(alloc, maps, lat, d, c, 0)?;
-    let second = seen_of(alloc, maps, lat, d, c, 1)?;
-    Some([first, second])
-}
-
-/// The maps of the copper.
-pub(crate) fn maps_of(alloc: Global, lat: &Lattice, d: &Design, c: &PlainCopper) -> Option<MoveMaps>
-    requires sound { IsSound d.now }
-    requires fits { FitsDesign d.now lat.now }
-    requires serves { Serves c.now d.now }
-    ensures { IfSome result (AreMapsOf d.now lat.now c.now) }
-{
-    match MoveMaps::of(alloc, lat, d, c) {
-        Ok(maps) => Some(maps),
-        Err(_) => None,
-    }
+    seen_of(alloc, maps, lat, d, c, 0) == Some(want.first)
+        && passed_of(alloc, maps, fixed, lat, d, c, 0) == Some(want.first_past)
+        && seen_of(alloc, maps, lat, d, c, 1) == Some(want.second)
+        && passed_of(alloc, maps, fixed, lat, d, c, 1) == Some(want.second_past)
 }
 
 fn only(alloc: Global, item: &Item) -> Result<List<Item>, AllocError>
@@ -171,104 +200,171 @@ fn exchange(
     maps.follow(lat, d, &new.copper, &gone, &come)
 }
 
-/// What is seen of the two nets once the maps followed.
-fn seen_after(
+/// Whether that is seen of the two nets once the maps followed.
+fn is_seen_after(
     alloc: Global,
     maps: &mut MoveMaps,
+    fixed: &MoveMaps,
     lat: &Lattice,
     d: &Design,
     old: &Routed,
     new: &Routed,
-) -> Option<[Seen; 2]>
+    want: Views,
+) -> bool
     requires sound { IsSound d.now }
     requires fits { FitsDesign d.now lat.now }
     requires two { 2 ≤ length d.now.nets }
     requires before { IsLaidOn d.now old.now.item old.now.copper }
     requires after { IsLaidOn d.now new.now.item new.now.copper }
     requires maps { AreMapsOf d.now lat.now old.now.copper maps.old }
-    ensures { IfSome result (λ seen. AreMapsOf d.now lat.now new.now.copper maps.new) }
+    requires fixed { AreMapsOf d.now lat.now d.now.fixed fixed.now }
+    ensures { IsTrue result → AreMapsOf d.now lat.now new.now.copper maps.new }
 {
     match exchange(alloc, maps, lat, d, old, new) {
-        Ok(()) => seen_on(alloc, maps, lat, d, &new.copper),
-        Err(_) => None,
+        Ok(()) => is_seen(alloc, maps, fixed, lat, d, &new.copper, want),
+        Err(_) => false,
     }
 }
 
-/// What is seen on the copper with the first item, on that with the second in its place, and on the first copper again.
-fn seen_in_turn(
+/// Whether the one is seen on the copper with the first item, the other on that with the second in its place, and the
+/// one again on the first copper.
+fn are_seen_in_turn(
     alloc: Global,
+    fixed: &MoveMaps,
     lat: &Lattice,
     d: &Design,
     first: &Routed,
     second: &Routed,
-) -> Option<[[Seen; 2]; 3]>
+    one: Views,
+    other: Views,
+) -> bool
     requires sound { IsSound d.now }
     requires fits { FitsDesign d.now lat.now }
     requires two { 2 ≤ length d.now.nets }
     requires first { IsLaidOn d.now first.now.item first.now.copper }
     requires second { IsLaidOn d.now second.now.item second.now.copper }
+    requires fixed { AreMapsOf d.now lat.now d.now.fixed fixed.now }
 {
-    let mut maps = maps_of(alloc, lat, d, &first.copper)?;
-    let made = seen_on(alloc, &maps, lat, d, &first.copper)?;
-    let followed = seen_after(alloc, &mut maps, lat, d, first, second)?;
-    let back = seen_after(alloc, &mut maps, lat, d, second, first)?;
-    Some([made, followed, back])
+    match MoveMaps::of(alloc, lat, d, &first.copper) {
+        Ok(made) => {
+            let mut maps = made;
+            is_seen(alloc, &maps, fixed, lat, d, &first.copper, one)
+                && is_seen_after(alloc, &mut maps, fixed, lat, d, first, second, other)
+                && is_seen_after(alloc, &mut maps, fixed, lat, d, second, first, one)
+        }
+        Err(_) => false,
+    }
 }
 
-/// What is seen from the copper with the first item on.
-fn seen_from(alloc: Global, lat: &Lattice, d: &Design, first: &Routed) -> Option<[[Seen; 2]; 3]>
+/// The same from the copper with the first item on, by maps of the fixed items.
+fn are_seen_from(
+    alloc: Global,
+    fixed: &MoveMaps,
+    lat: &Lattice,
+    d: &Design,
+    first: &Routed,
+    one: Views,
+    other: Views,
+) -> bool
     requires sound { IsSound d.now }
     requires fits { FitsDesign d.now lat.now }
     requires two { 2 ≤ length d.now.nets }
     requires first { IsLaidOn d.now first.now.item first.now.copper }
+    requires fixed { AreMapsOf d.now lat.now d.now.fixed fixed.now }
 {
-    let second = laid(alloc, d, 1)?;
-    seen_in_turn(alloc, lat, d, first, &second)
+    match laid(alloc, d, 1) {
+        Some(second) => are_seen_in_turn(alloc, fixed, lat, d, first, &second, one, other),
+        None => false,
+    }
 }
 
-/// What is seen over a lattice of the board.
-fn seen_over(alloc: Global, lat: &Lattice, d: &Design) -> Option<[[Seen; 2]; 3]>
+/// The same, where the first item is still to be laid.
+fn are_seen_with(
+    alloc: Global,
+    fixed: &MoveMaps,
+    lat: &Lattice,
+    d: &Design,
+    one: Views,
+    other: Views,
+) -> bool
+    requires sound { IsSound d.now }
+    requires fits { FitsDesign d.now lat.now }
+    requires two { 2 ≤ length d.now.nets }
+    requires fixed { AreMapsOf d.now lat.now d.now.fixed fixed.now }
+{
+    match laid(alloc, d, 0) {
+        Some(first) => are_seen_from(alloc, fixed, lat, d, &first, one, other),
+        None => false,
+    }
+}
+
+/// The same on the lattice of a board.
+fn are_seen_along(alloc: Global, lat: &Lattice, d: &Design, one: Views, other: Views) -> bool
     requires sound { IsSound d.now }
     requires fits { FitsDesign d.now lat.now }
     requires two { 2 ≤ length d.now.nets }
 {
-    let first = laid(alloc, d, 0)?;
-    seen_from(alloc, lat, d, &first)
+    match fixed_maps(alloc, lat, d) {
+        Ok(fixed) => are_seen_with(alloc, &fixed, lat, d, one, other),
+        Err(_) => false,
+    }
 }
 
-/// What is seen on a board, or None where it has other than two nets.
-fn seen_with(alloc: Global, d: &Design) -> Option<[[Seen; 2]; 3]>
+/// The same on a board, which has two nets.
+fn are_seen_on(alloc: Global, d: &Design, one: Views, other: Views) -> bool
     requires { IsSound d.now }
 {
     if d.nets.len() != 2 {
-        return None;
+        return false;
     }
-    let lat = lattice_of(alloc, d)?;
-    seen_over(alloc, &lat, d)
+    match lattice_of(alloc, d) {
+        Some(lat) => are_seen_along(alloc, &lat, d, one, other),
+        None => false,
+    }
 }
 
-/// What is seen on a board of two nets, whose free wiring is laid in turn.
-fn seen(alloc: Global, text: &str) -> Option<[[Seen; 2]; 3]> {
-    let d = board(alloc, text)?;
-    seen_with(alloc, &d)
+/// Whether both are seen on a board of two nets, whose free wiring is laid in turn.
+fn are_seen(alloc: Global, text: &str, one: Views, other: Views) -> bool {
+    match board(alloc, text) {
+        Some(d) => are_seen_on(alloc, &d, one, other),
+        None => false,
+    }
 }
 
 // Each layer has 81 nodes, and each node 4 numbers of steps and 2 of vias: 576 steps and 162 vias are there. The wall
 // shuts 104 of the steps and 18 of the vias for both nets. For the second net each pad shuts 18 moves, the wire 14
 // more, and the via 18. A map opens by itself what is open for a net without copper, at the 98 inner nodes: of the 490
-// moves there the wall shuts 98, each pad 16, the wire 14 more, and the via 18.
+// moves there the wall shuts 98, each pad 16, the wire 14 more, and the via 18. Routed items shut no moves past them.
 #[test]
-fn maps_tell_the_legal_moves_beside_a_wall(rt: HostRuntime) {
-    let wire = [(972, 616, 346), (972, 566, 346)];
-    let via = [(972, 616, 342), (972, 562, 342)];
-    assert_eq!(rt; seen(rt.alloc(), WALL), Some([wire, via, wire]));
+fn maps_tell_the_moves_beside_a_wall(rt: HostRuntime) {
+    let wire = Views {
+        first: (972, 616, 346),
+        first_past: (972, 616, 360),
+        second: (972, 566, 346),
+        second_past: (972, 580, 360),
+    };
+    let via = Views {
+        first: (972, 616, 342),
+        second: (972, 562, 342),
+        ..wire
+    };
+    assert!(rt; are_seen(rt.alloc(), WALL, wire, via));
 }
 
 // Of 288 steps the pads of the first net shut 6 each, and its wire 40 more; those of the second net 8 each, and its
 // wire 28 more. At the 49 inner nodes these are, of 196 steps, 1 each and 40 more, and 7 each and 28 more.
 #[test]
-fn maps_tell_the_legal_moves_around_crossing_wires(rt: HostRuntime) {
-    let along = [(324, 272, 140), (324, 236, 140)];
-    let across = [(324, 244, 152), (324, 276, 152)];
-    assert_eq!(rt; seen(rt.alloc(), CROSS), Some([along, across, along]));
+fn maps_tell_the_moves_around_crossing_wires(rt: HostRuntime) {
+    let along = Views {
+        first: (324, 272, 140),
+        first_past: (324, 272, 180),
+        second: (324, 236, 140),
+        second_past: (324, 276, 180),
+    };
+    let across = Views {
+        first: (324, 244, 152),
+        second: (324, 276, 152),
+        ..along
+    };
+    assert!(rt; are_seen(rt.alloc(), CROSS, along, across));
 }

@@ -1,7 +1,7 @@
 //! The first net of small boards: its islands, what anchors its items, and a walk's copper.
 //! The lattice of each has a line at each mm: four across and three up.
 
-ghost use Rattle.std.specs.Prelude.{◌<◌, ◌≤◌, All, IfOk, IfSome, unsigned_abs};
+ghost use Rattle.std.specs.Prelude.{◌<◌, ◌≤◌, All, IfOk, IfSome};
 ghost use Rattle.pcb_model.specs.Sound.{IsSound, Serves};
 ghost use Rattle.route_lattice.specs.Fits.{FitsDesign};
 ghost use Rattle.route_lattice.specs.Legal.{CanMove};
@@ -10,7 +10,8 @@ ghost use Rattle.path_wire.specs.Wires.{IsNetWalk};
 
 use crate::copper::fixed_plain;
 use crate::lattices::{Says, holds};
-use geo_kernel::{List, Point};
+use crate::offer_board::is_chain;
+use geo_kernel::List;
 use path_wire::{net_walks, walk_items};
 use pcb_islands::{Island, is_whole, islands};
 use pcb_model::{Design, Metal, PlainCopper};
@@ -41,7 +42,7 @@ fn are_two_islands(found: &List<Island>) -> bool {
     found.len() == 2 && is_island(found, 0, &[0, 2], &[1, 3, 4]) && is_island(found, 1, &[1], &[2])
 }
 
-fn has_islands_on(alloc: Global, d: &Design, copper: &PlainCopper) -> bool
+fn has_islands(alloc: Global, d: &Design, copper: &PlainCopper) -> bool
     requires sound { IsSound d.now }
     requires serves { Serves copper.now d.now }
 {
@@ -50,15 +51,6 @@ fn has_islands_on(alloc: Global, d: &Design, copper: &PlainCopper) -> bool
     }
     match islands(alloc, d, copper, 0) {
         Ok(found) => are_two_islands(&found) && !is_whole(&found),
-        Err(_) => false,
-    }
-}
-
-fn has_islands(alloc: Global, d: &Design) -> bool
-    requires { IsSound d.now }
-{
-    match fixed_plain(alloc, d) {
-        Ok(copper) => has_islands_on(alloc, d, &copper),
         Err(_) => false,
     }
 }
@@ -94,7 +86,10 @@ struct ThreePins;
 
 impl Says for ThreePins {
     fn holds(&self, alloc: Global, d: &Design, lat: &Lattice) -> bool {
-        has_islands(alloc, d) && are_anchored(alloc, d, lat)
+        match fixed_plain(alloc, d) {
+            Ok(copper) => has_islands(alloc, d, &copper) && are_anchored(alloc, d, lat),
+            Err(_) => false,
+        }
     }
 }
 
@@ -139,42 +134,28 @@ fn walk_between(
     Ok(Some(walk))
 }
 
-/// The point at so many mm.
-fn mm(x: i64, y: i64) -> Point
-    requires x { unsigned_abs x ≤ 1000 }
-    requires y { unsigned_abs y ≤ 1000 }
-{
-    Point {
-        x: x * 1_000_000,
-        y: y * 1_000_000,
-    }
-}
-
-fn is_wire(metals: &List<Metal>, at: usize, on: u8, points: &[Point]) -> bool {
-    match metals.get(at) {
-        Some(
-            Metal::Wire {
-                layer,
-                width,
-                chain,
-            },
-        ) => *layer == on && *width == 200_000 && chain.as_slice() == points,
+/// Whether it is a wire of 200 um on a layer, with these points.
+fn is_wire(metal: &Metal, on: u8, um: &[(u16, u16)]) -> bool {
+    match metal {
+        Metal::Wire {
+            layer,
+            width,
+            chain,
+        } => *layer == on && *width == 200_000 && is_chain(chain.as_slice(), um),
         _ => false,
     }
 }
 
-fn is_via(metals: &List<Metal>, at: usize, point: Point) -> bool {
-    match metals.get(at) {
-        Some(Metal::Via { padstack, at }) => *padstack == 1 && *at == point,
+fn are_laid(metals: &[Metal]) -> bool {
+    match metals {
+        [front, Metal::Via { padstack, at }, back] => {
+            *padstack == 1
+                && is_wire(front, 0, &[(1_000, 1_000), (2_000, 1_000), (2_000, 3_000)])
+                && is_chain(std::slice::from_ref(at), &[(2_000, 3_000)])
+                && is_wire(back, 1, &[(2_000, 3_000), (4_000, 3_000)])
+        }
         _ => false,
     }
-}
-
-fn are_laid(metals: &List<Metal>) -> bool {
-    metals.len() == 3
-        && is_wire(metals, 0, 0, &[mm(1, 1), mm(2, 1), mm(2, 3)])
-        && is_via(metals, 1, mm(2, 3))
-        && is_wire(metals, 2, 1, &[mm(2, 3), mm(4, 3)])
 }
 
 /// Whether the walk is the one way, of 5 mm and a via, and its copper is two wires and a via.
@@ -185,7 +166,7 @@ fn is_one_way(alloc: Global, lat: &Lattice, d: &Design, walk: &Walk) -> bool
         return false;
     }
     match walk_items(alloc, lat, d, 0, walk) {
-        Ok(metals) => are_laid(&metals),
+        Ok(metals) => are_laid(metals.as_slice()),
         Err(_) => false,
     }
 }

@@ -1,5 +1,5 @@
 //! Tiles beside a plain list of the same items, as items are added, taken out and put back.
-//! All free wiring is laid; then each third item is taken out, and each second of these is put back.
+//! All free wiring is laid; then each third item is taken out, and each second of these is put back at once.
 
 ghost use Rattle.std.specs.Prelude.{IfSome};
 ghost use Rattle.pcb_model.specs.Sound.{IsSound, Serves};
@@ -13,42 +13,18 @@ use pcb_model::{Design, PlainCopper};
 use pcb_tiles::Tiles;
 use std::alloc::Global;
 
-/// What was done so far.
-#[derive(Clone, Copy, PartialEq)]
-enum Phase {
-    Laid,
-    TakenOut,
-    PutBack,
-}
-
-fn is_taken_out(at: usize) -> bool {
-    at % 3 == 1
-}
-
-fn is_put_back(at: usize) -> bool {
-    at % 6 == 1
-}
-
-fn is_live(at: usize, phase: Phase) -> bool {
-    match phase {
-        Phase::Laid => true,
-        Phase::TakenOut => !is_taken_out(at),
-        Phase::PutBack => !is_taken_out(at) || is_put_back(at),
-    }
-}
-
 fn id_of(d: &Design, at: usize) -> u64 {
     (d.fixed.len() as u64).saturating_add(at as u64)
 }
 
-/// The plain list of what is held after a phase.
-fn plain_after(alloc: Global, d: &Design, phase: Phase) -> Option<PlainCopper>
+/// The plain list of all free wiring, or of what is held at the end.
+fn plain_of(alloc: Global, d: &Design, all: bool) -> Option<PlainCopper>
     requires { IsSound d.now }
     ensures { IfSome result (λ copper. Serves copper d.now) }
 {
     let mut copper = fixed_plain(alloc, d).ok()?;
     for at in 0..d.free.len() {
-        if is_live(at, phase) {
+        if all || at % 3 != 1 || at % 6 == 1 {
             lay_plain(alloc, d, &mut copper, at, id_of(d, at))?;
         }
     }
@@ -66,37 +42,29 @@ fn lay_all(alloc: Global, d: &Design, tiles: &mut Tiles) -> Option<()>
     Some(())
 }
 
-fn take_thirds(d: &Design, tiles: &mut Tiles) -> Option<()>
-    requires { ServesSpread tiles.old d.now }
-    ensures { IfSome result (λ _. ServesSpread tiles.new d.now) }
-{
-    for at in 0..d.free.len() {
-        if is_taken_out(at) {
-            take_out(d, tiles, id_of(d, at))?;
-        }
-    }
-    Some(())
-}
-
-fn put_sixths_back(alloc: Global, d: &Design, tiles: &mut Tiles) -> Option<()>
+/// Takes each third item out, and puts each second of these back.
+fn change(alloc: Global, d: &Design, tiles: &mut Tiles) -> Option<()>
     requires sound { IsSound d.now }
     requires serves { ServesSpread tiles.old d.now }
     ensures { IfSome result (λ _. ServesSpread tiles.new d.now) }
 {
     for at in 0..d.free.len() {
-        if is_put_back(at) {
+        if at % 3 == 1 {
+            take_out(d, tiles, id_of(d, at))?;
+        }
+        if at % 6 == 1 {
             put_back(alloc, d, tiles, at, id_of(d, at))?;
         }
     }
     Some(())
 }
 
-/// Whether the tiles answer as the plain list of what is held after a phase.
-fn is_as_plain(alloc: Global, d: &Design, tiles: &Tiles, phase: Phase) -> bool
+/// Whether the tiles answer as the plain list of all free wiring does, or of what is held at the end.
+fn is_as_plain(alloc: Global, d: &Design, tiles: &Tiles, all: bool) -> bool
     requires sound { IsSound d.now }
     requires serves { ServesSpread tiles.now d.now }
 {
-    match plain_after(alloc, d, phase) {
+    match plain_of(alloc, d, all) {
         Some(plain) => same(alloc, &plain, tiles, d),
         None => false,
     }
@@ -130,68 +98,32 @@ fn shared(d: &Design, tiles: &Tiles) -> Option<Tiles>
     }
 }
 
-/// Whether the tiles answer as a plain list does after each phase, where only the last is still to come.
-fn answers_back(
-    alloc: Global,
-    d: &Design,
-    laid: &Tiles,
-    taken: &Tiles,
-    tiles: &mut Tiles,
-) -> Option<[bool; 3]>
-    requires sound { IsSound d.now }
-    requires laid { ServesSpread laid.now d.now }
-    requires taken { ServesSpread taken.now d.now }
-    requires tiles { ServesSpread tiles.old d.now }
-{
-    put_sixths_back(alloc, d, tiles)?;
-    Some([
-        is_as_plain(alloc, d, laid, Phase::Laid),
-        is_as_plain(alloc, d, taken, Phase::TakenOut),
-        is_as_plain(alloc, d, tiles, Phase::PutBack),
-    ])
-}
-
-/// The same, where each third item is still to be taken out of the tiles, too.
-fn answers_taken(alloc: Global, d: &Design, laid: &Tiles, tiles: &mut Tiles) -> Option<[bool; 3]>
-    requires sound { IsSound d.now }
-    requires laid { ServesSpread laid.now d.now }
-    requires tiles { ServesSpread tiles.old d.now }
-{
-    take_thirds(d, tiles)?;
-    let taken = shared(d, tiles)?;
-    answers_back(alloc, d, laid, &taken, tiles)
-}
-
-/// The same, of tiles in which all free wiring is laid.
-fn answers_laid(alloc: Global, d: &Design, laid: &Tiles) -> Option<[bool; 3]>
+/// Whether tiles with all free wiring answer as a plain list, and a share of them that is changed. Those that it was
+/// shared from are asked at the end.
+fn answers_laid(alloc: Global, d: &Design, laid: &Tiles) -> Option<[bool; 2]>
     requires sound { IsSound d.now }
     requires laid { ServesSpread laid.now d.now }
 {
     let mut tiles = shared(d, laid)?;
-    answers_taken(alloc, d, laid, &mut tiles)
+    change(alloc, d, &mut tiles)?;
+    Some([
+        is_as_plain(alloc, d, &tiles, false),
+        is_as_plain(alloc, d, laid, true),
+    ])
 }
 
-/// Whether the tiles answer as a plain list does after each phase. Those of the first two phases are asked at the
-/// end,
-/// when shares of them were changed.
-fn answers(alloc: Global, d: &Design) -> Option<[bool; 3]>
-    requires { IsSound d.now }
-{
-    let laid = laid_tiles(alloc, d)?;
-    answers_laid(alloc, d, &laid)
-}
-
-fn answers_of(alloc: Global, seed: u64, count: u32) -> Option<[bool; 3]> {
+fn answers(alloc: Global, seed: u64, count: u32) -> Option<[bool; 2]> {
     let d = random_board(alloc, seed, count)?;
-    answers(alloc, &d)
+    let laid = laid_tiles(alloc, &d)?;
+    answers_laid(alloc, &d, &laid)
 }
 
 #[test]
 fn tiles_and_their_shares_answer_as_plain_lists_do(rt: HostRuntime) {
     for (seed, count) in [(1, 30), (2, 60), (3, 160)] {
         assert_eq!(rt;
-            answers_of(rt.alloc(), seed, count),
-            Some([true; 3]),
+            answers(rt.alloc(), seed, count),
+            Some([true; 2]),
             "seed {seed}"
         );
     }

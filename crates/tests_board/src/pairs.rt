@@ -5,65 +5,38 @@ ghost use Rattle.std.specs.Prelude.{◌≡◌, ◌<◌};
 ghost use Rattle.pcb_model.specs.Bounds.{IsDesignFit, IsItemFit, IsProbeFit};
 ghost use Rattle.pcb_model.specs.Sound.{IsSound};
 
+use self::Said::{Far, Lies, Meet};
 use crate::board::{Says, fixed, held, probe, routed};
 use pcb_model::{
-    Design, Extent, Item, Probe, Steps, copy_item, inside_board, pair_ok, probe_inside, probe_ok,
-    touch, width_ok,
+    Design, Extent, Item, Probe, Steps, inside_board, pair_ok, probe_inside, probe_ok, touch,
+    width_ok,
 };
 use std::alloc::Global;
 use std::marker::Brand;
 use std::sync::ledger::{Blank, Ledger};
 
-fn agree_counting<L: Ledger>(d: &Design, a: &Item, b: &Item, blank: Blank) -> bool
+fn agree_counting<L: Ledger>(d: &Design, a: &Item, p: &Probe, b: &Item, blank: Blank) -> [bool; 2]
     requires name { blank.name ≡ L.name }
     requires parts { blank.parts ≡ L.parts }
     requires whole { 0 < blank.parts }
     requires design { IsDesignFit d.now }
     requires a_fits { IsItemFit a.now }
-    requires b_fits { IsItemFit b.now }
-{
-    let mut steps: Steps<L> = Steps::new(blank);
-    pair_ok(d, a, b, &mut steps)
-}
-
-fn agree(d: &Design, a: &Item, b: &Item) -> bool
-    requires design { IsDesignFit d.now }
-    requires a_fits { IsItemFit a.now }
-    requires b_fits { IsItemFit b.now }
-{
-    agree_counting::<Brand>(d, a, b, Blank::new(1))
-}
-
-fn allows_counting<L: Ledger>(d: &Design, p: &Probe, b: &Item, blank: Blank) -> bool
-    requires name { blank.name ≡ L.name }
-    requires parts { blank.parts ≡ L.parts }
-    requires whole { 0 < blank.parts }
-    requires design { IsDesignFit d.now }
     requires p_fits { IsProbeFit d.now p.now }
     requires b_fits { IsItemFit b.now }
 {
     let mut steps: Steps<L> = Steps::new(blank);
-    probe_ok(d, 0, p, b, &mut steps)
+    let agree = pair_ok(d, a, b, &mut steps);
+    [agree, probe_ok(d, 0, p, b, &mut steps)]
 }
 
-/// Whether the rules let a probe of net 0 be laid beside an item.
-fn allows(d: &Design, p: &Probe, b: &Item) -> bool
-    requires design { IsDesignFit d.now }
-    requires p_fits { IsProbeFit d.now p.now }
-    requires b_fits { IsItemFit b.now }
-{
-    allows_counting::<Brand>(d, p, b, Blank::new(1))
-}
-
-/// Whether free wiring agrees with an item, the item with a copy of the wiring, and the wiring's probe with the item.
-fn agree_each_way(alloc: Global, d: &Design, a: &Item, p: &Probe, b: &Item) -> Option<[bool; 3]>
+/// Whether free wiring of net 0 agrees with an item, and whether the rules let its probe be laid beside the item.
+fn agree(d: &Design, a: &Item, p: &Probe, b: &Item) -> [bool; 2]
     requires design { IsDesignFit d.now }
     requires a_fits { IsItemFit a.now }
     requires p_fits { IsProbeFit d.now p.now }
     requires b_fits { IsItemFit b.now }
 {
-    let copy = copy_item(alloc, a).ok()?;
-    Some([agree(d, a, b), agree(d, b, &copy), allows(d, p, b)])
+    agree_counting::<Brand>(d, a, p, b, Blank::new(1))
 }
 
 /// Whether their extents show that wiring, and its probe, and an item keep each clearance up to 999 nm.
@@ -84,25 +57,25 @@ fn are_far(d: &Design, a: &Item, p: &Probe, b: &Item) -> [bool; 2]
 #[derive(Clone, Copy)]
 struct Meeting {
     touch: bool,
-    agree: [bool; 3],
+    agree: [bool; 2],
     far: [bool; 2],
     inside: [bool; 2],
     laid: bool,
 }
 
-fn meet(alloc: Global, d: &Design, a: &Item, p: &Probe, b: &Item) -> Option<Meeting>
+fn meet(d: &Design, a: &Item, p: &Probe, b: &Item) -> Meeting
     requires design { IsDesignFit d.now }
     requires a_fits { IsItemFit a.now }
     requires p_fits { IsProbeFit d.now p.now }
     requires b_fits { IsItemFit b.now }
 {
-    Some(Meeting {
+    Meeting {
         touch: touch(a, b),
-        agree: agree_each_way(alloc, d, a, p, b)?,
+        agree: agree(d, a, p, b),
         far: are_far(d, a, p, b),
         inside: [inside_board(d, a), probe_inside(d, p)],
         laid: width_ok(d, a),
-    })
+    }
 }
 
 fn meet_at(alloc: Global, d: &Design, free: usize, item: usize) -> Option<Meeting>
@@ -111,29 +84,29 @@ fn meet_at(alloc: Global, d: &Design, free: usize, item: usize) -> Option<Meetin
     let p = probe(d, free)?;
     let b = fixed(d, item)?;
     let a = routed(alloc, d, free, 1_000)?;
-    meet(alloc, d, &a, &p, b)
+    Some(meet(d, &a, &p, b))
 }
 
-/// Of free wiring of net 0 and a fixed item: whether they touch, and whether they agree, which is so in each way.
-struct Pair(usize, usize, bool, bool);
+/// What a test says of free wiring of net 0 and a fixed item.
+enum Said {
+    /// Whether they touch, and whether they agree, as does the wiring's probe.
+    Meet(bool, bool),
+    /// Whether the wiring, and its probe, are far from the item.
+    Far(bool),
+    /// Whether the wiring and its probe lie inside the board, and whether it lies as its net wants it.
+    Lies(bool, bool),
+}
+
+/// The places of free wiring and a fixed item, and what is said of them.
+struct Pair(usize, usize, Said);
 
 impl Says for Pair {
     fn holds(&self, alloc: Global, d: &Design) -> bool {
-        match meet_at(alloc, d, self.0, self.1) {
-            Some(met) => met.touch == self.2 && met.agree == [self.3; 3],
-            None => false,
-        }
-    }
-}
-
-/// Whether free wiring and its probe lie inside the board, and whether it lies as its net wants it.
-struct Lies(usize, bool, bool);
-
-impl Says for Lies {
-    fn holds(&self, alloc: Global, d: &Design) -> bool {
-        match meet_at(alloc, d, self.0, 0) {
-            Some(met) => met.inside == [self.1; 2] && met.laid == self.2,
-            None => false,
+        match (meet_at(alloc, d, self.0, self.1), &self.2) {
+            (Some(met), Meet(touch, agree)) => met.touch == *touch && met.agree == [*agree; 2],
+            (Some(met), Far(far)) => met.far == [*far; 2],
+            (Some(met), Lies(inside, laid)) => { met.inside == [*inside; 2] && met.laid == *laid }
+            (None, _) => false,
         }
     }
 }
@@ -161,49 +134,27 @@ const WIRES: &str = "(pcb wires
     (via V 50600.999 50000 (net VCC) (type fix))
     (wire (path B 200 50000 40000 50000 60000) (net VCC) (type fix))))";
 
-const BESIDE: [Pair; 3] = [
-    Pair(0, 1, false, true),
-    Pair(0, 2, false, false),
-    Pair(0, 3, false, true),
+/// Wires keep their clearance and half of each width, and items meet on each layer that both have.
+const AT_WIRES: [Pair; 6] = [
+    Pair(0, 1, Meet(false, true)),
+    Pair(0, 2, Meet(false, false)),
+    Pair(0, 3, Meet(false, true)),
+    Pair(0, 4, Meet(true, false)),
+    Pair(0, 5, Meet(false, true)),
+    Pair(1, 8, Meet(true, false)),
+];
+
+/// Items are far where their boxes or layers are.
+const FAR: [Pair; 4] = [
+    Pair(1, 6, Far(true)),
+    Pair(1, 7, Far(false)),
+    Pair(0, 4, Far(false)),
+    Pair(0, 5, Far(true)),
 ];
 
 #[test]
-fn wires_keep_their_clearance_and_half_of_each_width(rt: HostRuntime) {
-    assert_eq!(rt; held(rt.alloc(), WIRES, &BESIDE), 3);
-}
-
-const ACROSS: [Pair; 3] = [
-    Pair(0, 4, true, false),
-    Pair(0, 5, false, true),
-    Pair(1, 8, true, false),
-];
-
-#[test]
-fn items_meet_on_each_layer_that_both_have(rt: HostRuntime) {
-    assert_eq!(rt; held(rt.alloc(), WIRES, &ACROSS), 3);
-}
-
-/// Whether free wiring, and its probe, are far from a fixed item.
-struct Far(usize, usize, bool);
-
-impl Says for Far {
-    fn holds(&self, alloc: Global, d: &Design) -> bool {
-        match meet_at(alloc, d, self.0, self.1) {
-            Some(met) => met.far == [self.2; 2],
-            None => false,
-        }
-    }
-}
-
-const FAR: [Far; 4] = [
-    Far(1, 6, true),
-    Far(1, 7, false),
-    Far(0, 4, false),
-    Far(0, 5, true),
-];
-
-#[test]
-fn items_are_far_where_their_boxes_or_layers_are(rt: HostRuntime) {
+fn wires_and_vias_agree_by_their_clearance_and_layers(rt: HostRuntime) {
+    assert_eq!(rt; held(rt.alloc(), WIRES, &AT_WIRES), 6);
     assert_eq!(rt; held(rt.alloc(), WIRES, &FAR), 4);
 }
 
@@ -239,13 +190,7 @@ const OPEN_PAD: &str = "(pcb pad
   (network (net GND (pins C1-1)))
   (wiring (via V 5000 5000 (net GND))))";
 
-const AT_PAD: [Pair; 2] = [Pair(0, 1, true, false), Pair(1, 1, false, true)];
-
-#[test]
-fn a_via_stays_off_an_smd_pad_of_its_net_unless_it_is_allowed(rt: HostRuntime) {
-    assert_eq!(rt; held(rt.alloc(), PAD, &AT_PAD), 2);
-    assert_eq!(rt; held(rt.alloc(), OPEN_PAD, &[Pair(0, 1, true, true)]), 1);
-}
+const AT_PAD: [Pair; 2] = [Pair(0, 1, Meet(true, false)), Pair(1, 1, Meet(false, true))];
 
 // ---- widths, layers and padstacks
 
@@ -268,19 +213,15 @@ const LAID: &str = "(pcb laid
     (via V 7 -5 (net GND))
     (via W 7 -5 (net GND))))";
 
-const LYING: [Lies; 6] = [
-    Lies(0, true, true),
-    Lies(1, true, true),
-    Lies(2, true, false),
-    Lies(3, true, false),
-    Lies(4, true, true),
-    Lies(5, true, false),
+/// Wires lie wide enough on signal layers, and vias are of a listed padstack.
+const LYING: [Pair; 6] = [
+    Pair(0, 0, Lies(true, true)),
+    Pair(1, 0, Lies(true, true)),
+    Pair(2, 0, Lies(true, false)),
+    Pair(3, 0, Lies(true, false)),
+    Pair(4, 0, Lies(true, true)),
+    Pair(5, 0, Lies(true, false)),
 ];
-
-#[test]
-fn wires_lie_wide_enough_on_signal_layers_and_vias_are_of_a_listed_padstack(rt: HostRuntime) {
-    assert_eq!(rt; held(rt.alloc(), LAID, &LYING), 6);
-}
 
 // ---- the board's edge
 
@@ -298,22 +239,23 @@ const EDGE: &str = "(pcb edge
     (wire (path F 200 -299.9 1000 -299.9 2000) (net GND))
     (wire (path F 200 -300 1000 -300 2000) (net GND))))";
 
-const INSIDE: [Lies; 4] = [
-    Lies(0, true, true),
-    Lies(1, true, true),
-    Lies(2, false, true),
-    Lies(3, false, true),
+const INSIDE: [Pair; 4] = [
+    Pair(0, 0, Lies(true, true)),
+    Pair(1, 0, Lies(true, true)),
+    Pair(2, 0, Lies(false, true)),
+    Pair(3, 0, Lies(false, true)),
 ];
 
 const FROM_EDGE: [Pair; 4] = [
-    Pair(0, 0, false, true),
-    Pair(1, 0, false, false),
-    Pair(2, 0, false, false),
-    Pair(3, 0, false, true),
+    Pair(0, 0, Meet(false, true)),
+    Pair(1, 0, Meet(false, false)),
+    Pair(2, 0, Meet(false, false)),
+    Pair(3, 0, Meet(false, true)),
 ];
 
 #[test]
-fn routed_copper_is_inside_and_keeps_from_the_edge(rt: HostRuntime) {
+fn routed_copper_lies_as_its_net_wants_it_inside_and_keeps_from_the_edge(rt: HostRuntime) {
+    assert_eq!(rt; held(rt.alloc(), LAID, &LYING), 6);
     assert_eq!(rt; held(rt.alloc(), EDGE, &INSIDE), 4);
     assert_eq!(rt; held(rt.alloc(), EDGE, &FROM_EDGE), 4);
 }
@@ -338,16 +280,23 @@ const KEEPOUTS: &str = "(pcb keepouts
     (via V 30500 25000 (net GND))))";
 
 const BANNED: [Pair; 7] = [
-    Pair(0, 1, true, false),
-    Pair(1, 1, true, false),
-    Pair(2, 1, false, true),
-    Pair(0, 2, true, false),
-    Pair(1, 2, true, true),
-    Pair(0, 3, true, true),
-    Pair(1, 3, true, false),
+    Pair(0, 1, Meet(true, false)),
+    Pair(1, 1, Meet(true, false)),
+    Pair(2, 1, Meet(false, true)),
+    Pair(0, 2, Meet(true, false)),
+    Pair(1, 2, Meet(true, true)),
+    Pair(0, 3, Meet(true, true)),
+    Pair(1, 3, Meet(true, false)),
 ];
 
 #[test]
-fn a_keepout_bans_what_it_names_and_leaves_what_is_beside_it(rt: HostRuntime) {
+fn a_via_stays_off_an_smd_pad_unless_it_is_allowed_and_copper_off_keepouts_that_name_it(
+    rt: HostRuntime,
+) {
+    assert_eq!(rt; held(rt.alloc(), PAD, &AT_PAD), 2);
+    assert_eq!(rt;
+        held(rt.alloc(), OPEN_PAD, &[Pair(0, 1, Meet(true, true))]),
+        1
+    );
     assert_eq!(rt; held(rt.alloc(), KEEPOUTS, &BANNED), 7);
 }

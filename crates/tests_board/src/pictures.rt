@@ -120,14 +120,9 @@ fn is_drawn_on(alloc: Global, board: &Board) -> bool {
     }
 }
 
-fn draws(alloc: Global) -> bool {
-    match opened(alloc, DESIGN) {
-        Some(board) => is_drawn_on(alloc, &board),
-        None => false,
-    }
-}
-
 #[test]
 fn a_picture_shows_all(rt: HostRuntime) {
-    assert!(rt; draws(rt.alloc()));
+    let alloc = rt.alloc();
+    let board = opened(alloc, DESIGN).expect(&rt, "no board");
+    assert!(rt; is_drawn_on(alloc, &board));
 }

@@ -1,151 +1,340 @@
-//! Plans without a penalty and with one: straight walks, nets that are shut in, and copper that makes way.
-//! Penalties are in nm.
+//! What is planned for nets, what moves past copper cost, and how a wire is shoved by a line; lines are 1 mm apart.
+//! Lengths in chains are in um, penalties and prices in nm. Nodes are numbered by rows of nine.
 
-ghost use Rattle.std.specs.Prelude.{◌≤◌, ◌^◌, IfSome};
+ghost use Rattle.std.specs.Prelude.{◌≡◌, ◌<◌, ◌≤◌, ◌^◌, IfSome};
+ghost use Rattle.pcb_model.specs.Plain.{IsPlainCopper};
+ghost use Rattle.pcb_model.specs.Sound.{IsSound, Serves};
+ghost use Rattle.ripup.specs.Rips.{CanRip};
+ghost use Rattle.route_lattice.specs.Fits.{FitsDesign};
+ghost use Rattle.route_lattice.specs.Mesh.{node_count};
+ghost use Rattle.route_lattice.specs.Walks.{IsSound as IsGraphSound};
 
 use crate::board::opened;
-use crate::offer_board::{CROSS, WALLS};
-use crate::plan_board::{SHOVED_UP, adds_wire, is_chain, lay_first, offered, planned};
-use pcb_board::{Board, Offer, Shoved};
-use route_plan::Planned;
+use crate::lattices::lattice_of;
+use crate::offer_board::{CROSS, WALLS, is_chain, takes_first};
+use geo_kernel::List;
+use pcb_board::{Board, Offer, Shoved, Snap, boards_serve};
+use pcb_model::{Copper, Design, Metal};
+use ripup::{RipMoves, rip_graph_sound};
+use route_lattice::{Found, Lattice, Moves};
+use route_plan::{Planned, plan};
+use shove::shove_run;
 use std::alloc::Global;
+use wave_search::least_walk;
 
-/// Whether an offer takes nothing out.
-fn takes_nothing(offer: &Offer) -> bool {
-    offer.rip.is_empty() && offer.shoves.is_empty()
+// ---- what is planned
+
+/// An offer from an item to another: its wire, what it rips, and the wires that it shoves.
+struct Route {
+    from: u64,
+    to: u64,
+    wire: &'static [(u16, u16)],
+    rip: &'static [u64],
+    shoves: &'static [(u64, &'static [(u16, u16)])],
 }
 
-/// Whether an offer joins the second net straight, and takes nothing out.
-fn is_straight(offer: &Offer) -> bool {
-    offer.base == 0
-        && offer.from == 3
-        && offer.to == 4
-        && adds_wire(offer, &[(5_000, 2_000), (5_000, 8_000)])
-        && takes_nothing(offer)
+/// What is planned for a net: an offer, nothing as so many nodes are all that is reached, or nothing as it is whole.
+enum Want {
+    Offer(Route),
+    Shut(usize),
+    Whole,
 }
 
-fn offers_straight(alloc: Global, board: &Board) -> bool {
-    match offered(alloc, board, 1, None) {
-        Some(offer) => is_straight(&offer),
-        None => false,
-    }
-}
-
-/// Whether the second net is joined straight on the first board.
-fn joins_straight(alloc: Global) -> bool {
-    match opened(alloc, CROSS) {
-        Some(board) => offers_straight(alloc, &board),
-        None => false,
-    }
-}
-
-#[test]
-fn a_net_is_joined_by_a_least_walk(rt: HostRuntime) {
-    assert!(rt; joins_straight(rt.alloc()));
-}
-
-/// The board of two crossing nets with the first one laid.
-fn crossed(alloc: Global) -> Option<Board> {
-    let mut board = opened(alloc, CROSS)?;
-    if lay_first(alloc, &mut board) {
-        Some(board)
-    } else {
-        None
-    }
-}
-
-/// How many nodes the second net reaches, where it is shut in by the first.
-fn shut_nodes(alloc: Global) -> Option<usize> {
-    let board = crossed(alloc)?;
-    match planned(alloc, &board, 1, None) {
-        Some(Planned::Shut(reach)) => Some(reach.nodes.len()),
-        _ => None,
-    }
-}
-
-/// Whether nothing is left to do for the first net.
-fn is_first_whole(alloc: Global, penalty: Option<u64>) -> bool
-    requires { IfSome penalty (λ p. p ≤ 2 ^ 30) }
-{
-    match crossed(alloc) {
-        Some(board) => matches!(planned(alloc, &board, 0, penalty), Some(Planned::Whole)),
-        None => false,
-    }
-}
-
-#[test]
-fn a_net_is_shut_in_or_whole(rt: HostRuntime) {
-    assert!(rt; shut_nodes(rt.alloc()) == Some(36));
-    assert!(rt; is_first_whole(rt.alloc(), None));
-    assert!(rt; is_first_whole(rt.alloc(), Some(10_000_000)));
-}
-
-/// Whether an offer of the straight wire rips the first net's.
-fn is_rip(offer: &Offer) -> bool {
-    adds_wire(offer, &[(5_000, 2_000), (5_000, 8_000)])
-        && offer.rip.as_slice() == [5].as_slice()
-        && offer.shoves.is_empty()
-}
-
-fn offers_rip(alloc: Global, board: &Board) -> bool {
-    match offered(alloc, board, 1, Some(10_000_000)) {
-        Some(offer) => is_rip(&offer),
-        None => false,
-    }
-}
-
-/// Whether the second net's straight wire rips the first one's.
-fn rips_the_wire(alloc: Global) -> bool {
-    match crossed(alloc) {
-        Some(board) => offers_rip(alloc, &board),
-        None => false,
-    }
-}
-
-#[test]
-fn what_is_in_the_way_is_ripped(rt: HostRuntime) {
-    assert!(rt; rips_the_wire(rt.alloc()));
-}
-
-/// What the second net's plan rips on the board of two walls.
-fn through_the_gap(alloc: Global, penalty: u64) -> Option<Offer>
-    requires { penalty ≤ 2 ^ 30 }
-{
-    let board = opened(alloc, WALLS)?;
-    offered(alloc, &board, 1, Some(penalty))
-}
-
-/// Whether the one wire that is shoved is the free one, upwards.
-fn is_up(shoves: &[Shoved]) -> bool {
-    match shoves {
-        [shoved] => shoved.id == 7 && is_chain(shoved.chain.as_slice(), &SHOVED_UP),
+/// Whether these wires are shoved to these chains.
+fn are_shoved(shoves: &[Shoved], want: &[(u64, &[(u16, u16)])]) -> bool {
+    match (shoves, want) {
+        ([], []) => true,
+        ([shoved], [(id, um)]) => shoved.id == *id && is_chain(shoved.chain.as_slice(), um),
         _ => false,
     }
 }
 
-/// Whether an offer joins the second net and shoves the free wire up.
-fn is_shove(offer: &Offer) -> bool {
-    offer.from == 5 && offer.to == 6 && offer.rip.is_empty() && is_up(offer.shoves.as_slice())
+fn is_route(offer: &Offer, route: &Route) -> bool {
+    let is_laid = match offer.add.as_slice() {
+        [Metal::Wire { chain, .. }] => is_chain(chain.as_slice(), route.wire),
+        _ => false,
+    };
+    is_laid
+        && offer.from == route.from
+        && offer.to == route.to
+        && offer.rip.as_slice() == route.rip
+        && are_shoved(offer.shoves.as_slice(), route.shoves)
 }
 
-/// Whether the free wire is shoved up.
-fn shoves_the_wire(alloc: Global) -> bool {
-    match through_the_gap(alloc, 500_000) {
-        Some(offer) => is_shove(&offer),
+fn is_planned(planned: &Planned, want: &Want) -> bool {
+    match (planned, want) {
+        (Planned::Offer(offer), Want::Offer(route)) => is_route(offer, route),
+        (Planned::Shut(reach), Want::Shut(nodes)) => reach.nodes.len() == *nodes,
+        (Planned::Whole, Want::Whole) => true,
+        _ => false,
+    }
+}
+
+fn small(penalty: Option<u64>) -> Option<u64>
+    ensures { IfSome result (λ p. p ≤ 2 ^ 30) }
+{
+    match penalty {
+        Some(p) if p <= 1_000_000_000 => Some(p),
+        _ => None,
+    }
+}
+
+/// Whether this is planned for a net, where a via costs 2 mm and a routed item in the way the penalty.
+fn plans(
+    alloc: Global,
+    lat: &Lattice,
+    snap: &Snap,
+    net: u32,
+    penalty: Option<u64>,
+    want: &Want,
+) -> bool
+    requires sound { IsSound snap.now.design }
+    requires plain { IsPlainCopper snap.now.design }
+    requires fits { FitsDesign snap.now.design lat.now }
+    requires serves { Serves snap.now.items snap.now.design }
+{
+    let d = snap.design();
+    if net as usize >= d.nets.len() {
+        return false;
+    }
+    match plan(alloc, lat, d, snap, 2_000_000, 0, net, small(penalty)) {
+        Ok(planned) => is_planned(&planned, want),
+        Err(_) => false,
+    }
+}
+
+// ---- what moves cost
+
+/// What a least walk costs from one node to another.
+fn price_between<M: Moves>(alloc: Global, moves: &M, from: u32, to: u32) -> Option<u64>
+    requires ready { M.ready moves.now }
+    requires sound { IsGraphSound (M.graph moves.now) }
+    requires from { from < (M.graph moves.now).count }
+{
+    let mut starts = List::new(alloc);
+    starts.push(from).ok()?;
+    let mut goals = List::new(alloc);
+    goals.push(to).ok()?;
+    match least_walk(alloc, moves, &starts, &goals) {
+        Ok(Found::Walk(walk)) => Some(walk.price),
+        _ => None,
+    }
+}
+
+/// What a least walk of the second net costs that passes routed items.
+fn passing_price(
+    alloc: Global,
+    lat: &Lattice,
+    d: &Design,
+    snap: &Snap,
+    penalty: u64,
+    from: u32,
+    to: u32,
+) -> Option<u64>
+    requires can { CanRip d.now lat.now 1 2000000 penalty }
+    requires own { snap.now.design ≡ d.now }
+    requires serves { Serves snap.now.items d.now }
+    requires from { from < node_count lat.now }
+{
+    let moves = RipMoves::of(lat, d, snap, 1, 2_000_000, penalty);
+    rip_graph_sound();
+    price_between(alloc, &moves, from, to)
+}
+
+/// Whether a least walk of the second net past routed items has this price from one node to another.
+fn costs(
+    alloc: Global,
+    lat: &Lattice,
+    snap: &Snap,
+    from: u32,
+    to: u32,
+    penalty: u64,
+    price: u64,
+) -> bool
+    requires sound { IsSound snap.now.design }
+    requires fits { FitsDesign snap.now.design lat.now }
+    requires serves { Serves snap.now.items snap.now.design }
+{
+    let d = snap.design();
+    if d.nets.len() < 2 || from >= lat.count() || penalty > 1_000_000_000 {
+        return false;
+    }
+    passing_price(alloc, lat, d, snap, penalty, from, to) == Some(price)
+}
+
+// ---- how a wire is shoved
+
+/// Whether the second of an item's three runs goes to the next line, upwards or downwards, so that the wire has this
+/// chain, or doesn't where the chain is empty.
+fn shoves(alloc: Global, lat: &Lattice, snap: &Snap, id: u64, up: bool, um: &[(u16, u16)]) -> bool
+    requires sound { IsSound snap.now.design }
+    requires fits { FitsDesign snap.now.design lat.now }
+    requires serves { Serves snap.now.items snap.now.design }
+{
+    let Some(item) = snap.item(id) else {
+        return false;
+    };
+    match &item.metal {
+        Metal::Wire { chain, .. } if chain.len() == 4 => {
+            match shove_run(alloc, lat, snap.design(), snap, item, 1, up) {
+                Ok(Some(shape)) => is_chain(shape.chain.as_slice(), um),
+                Ok(None) => um.is_empty(),
+                Err(_) => false,
+            }
+        }
+        _ => false,
+    }
+}
+
+// ---- two boards
+
+/// What a test says of a board.
+enum Tells {
+    /// What is planned for a net, by a penalty or without one.
+    Plans(u32, Option<u64>, Want),
+    /// What a least walk of the second net from node to node costs, past routed items at a penalty.
+    Costs(u32, u32, u64, u64),
+    /// To which chain an item is shoved upwards or downwards, or none.
+    Shoves(u64, bool, &'static [(u16, u16)]),
+}
+
+fn is_so(alloc: Global, lat: &Lattice, snap: &Snap, tells: &Tells) -> bool
+    requires sound { IsSound snap.now.design }
+    requires plain { IsPlainCopper snap.now.design }
+    requires fits { FitsDesign snap.now.design lat.now }
+    requires serves { Serves snap.now.items snap.now.design }
+{
+    match tells {
+        Tells::Plans(net, penalty, want) => plans(alloc, lat, snap, *net, *penalty, want),
+        Tells::Costs(from, to, penalty, price) => {
+            costs(alloc, lat, snap, *from, *to, *penalty, *price)
+        }
+        Tells::Shoves(id, up, um) => shoves(alloc, lat, snap, *id, *up, um),
+    }
+}
+
+fn are_so(alloc: Global, lat: &Lattice, snap: &Snap, rows: &[Tells]) -> bool
+    requires sound { IsSound snap.now.design }
+    requires plain { IsPlainCopper snap.now.design }
+    requires fits { FitsDesign snap.now.design lat.now }
+    requires serves { Serves snap.now.items snap.now.design }
+{
+    for row in rows {
+        if !is_so(alloc, lat, snap, row) {
+            return false;
+        }
+    }
+    true
+}
+
+fn hold_over(alloc: Global, snap: &Snap, rows: &[Tells]) -> bool
+    requires sound { IsSound snap.now.design }
+    requires plain { IsPlainCopper snap.now.design }
+    requires serves { Serves snap.now.items snap.now.design }
+{
+    match lattice_of(alloc, snap.design()) {
+        Some(lat) => are_so(alloc, &lat, snap, rows),
         None => false,
     }
 }
 
-/// Whether the free wire is ripped at a greater penalty, since the walk is another one.
-fn rips_at_a_greater_penalty(alloc: Global) -> bool {
-    match through_the_gap(alloc, 10_000_000) {
-        Some(offer) => offer.rip.as_slice() == [7].as_slice() && offer.shoves.is_empty(),
-        None => false,
+/// Whether all of it is so of a board.
+fn hold(alloc: Global, board: &Board, rows: &[Tells]) -> bool {
+    board.keeps();
+    boards_serve();
+    match board.snap() {
+        Ok(snap) => hold_over(alloc, &snap, rows),
+        Err(_) => false,
     }
 }
+
+/// The straight wire of the second net.
+const STRAIGHT: Route = Route {
+    from: 3,
+    to: 4,
+    wire: &[(5_000, 2_000), (5_000, 8_000)],
+    rip: &[],
+    shoves: &[],
+};
+
+/// The same, laid over that of the first net.
+const STRAIGHT_OVER: Route = Route {
+    from: 3,
+    to: 4,
+    wire: &[(5_000, 2_000), (5_000, 8_000)],
+    rip: &[5],
+    shoves: &[],
+};
+
+const UNLAID: [Tells; 1] = [Tells::Plans(1, None, Want::Offer(STRAIGHT))];
+
+/// Once the first net is laid. The walk over its wire is of 6 mm, and two of its moves are in the wire's way.
+const LAID: [Tells; 5] = [
+    Tells::Plans(1, None, Want::Shut(36)),
+    Tells::Plans(0, None, Want::Whole),
+    Tells::Plans(0, Some(10_000_000), Want::Whole),
+    Tells::Plans(1, Some(10_000_000), Want::Offer(STRAIGHT_OVER)),
+    Tells::Costs(13, 67, 10_000_000, 26_000_000),
+];
 
 #[test]
-fn what_can_be_shoved_is_shoved(rt: HostRuntime) {
-    assert!(rt; shoves_the_wire(rt.alloc()));
-    assert!(rt; rips_at_a_greater_penalty(rt.alloc()));
+fn a_net_is_joined_by_a_least_walk_or_shut_in_or_whole_or_rips(rt: HostRuntime) {
+    let alloc = rt.alloc();
+    let mut board = opened(alloc, CROSS).expect(&rt, "no board");
+    assert!(rt; hold(alloc, &board, &UNLAID));
+    assert!(rt; takes_first(alloc, &mut board) && hold(alloc, &board, &LAID));
+}
+
+/// The chain of the free wire between the walls, with its middle run on the next line.
+const UP: [(u16, u16); 6] = [
+    (1_000, 8_000),
+    (1_000, 5_000),
+    (1_000, 6_000),
+    (9_000, 6_000),
+    (9_000, 5_000),
+    (9_000, 8_000),
+];
+
+/// Through the gap along the free wire, by 10 mm with six moves in its way.
+const ALONG: Route = Route {
+    from: 5,
+    to: 6,
+    wire: &[
+        (3_000, 2_000),
+        (3_000, 5_000),
+        (7_000, 5_000),
+        (7_000, 2_000),
+    ],
+    rip: &[],
+    shoves: &[(7, &UP)],
+};
+
+/// Through the gap on the next line, over the free wire and back, by 12 mm with four moves in its way.
+const OVER: Route = Route {
+    from: 5,
+    to: 6,
+    wire: &[
+        (3_000, 2_000),
+        (3_000, 6_000),
+        (7_000, 6_000),
+        (7_000, 2_000),
+    ],
+    rip: &[7],
+    shoves: &[],
+};
+
+const WALLED: [Tells; 6] = [
+    Tells::Plans(1, Some(500_000), Want::Offer(ALONG)),
+    Tells::Plans(1, Some(10_000_000), Want::Offer(OVER)),
+    Tells::Costs(11, 15, 500_000, 13_000_000),
+    Tells::Costs(11, 15, 10_000_000, 52_000_000),
+    Tells::Shoves(7, true, &UP),
+    Tells::Shoves(7, false, &[]),
+];
+
+#[test]
+fn a_wire_in_a_gap_is_shoved_where_it_fits_and_ripped_at_a_greater_penalty(rt: HostRuntime) {
+    let alloc = rt.alloc();
+    let board = opened(alloc, WALLS).expect(&rt, "no board");
+    assert!(rt; hold(alloc, &board, &WALLED));
 }

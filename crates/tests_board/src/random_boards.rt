@@ -27,14 +27,13 @@ const HEAD: &str = "(pcb board
   (wiring
 ";
 
-/// A place on the board, in um.
-fn place(n: &mut Numbers) -> (u64, u64) {
-    (n.below(12_000), n.below(12_000))
-}
+/// How far the board goes, in um.
+const SIDE: u64 = 12_000;
 
 /// A wire of up to 3 mm across or up, or now and then at a slant.
 fn add_wire(text: &mut String, alloc: Global, n: &mut Numbers) -> Result<(), AllocError> {
-    let (x, y) = place(n);
+    let x = n.below(SIDE);
+    let y = n.below(SIDE);
     let layer = if n.below(2) == 0 { "F" } else { "B" };
     let net = if n.below(2) == 0 { "A" } else { "M" };
     let way = n.below(5);
@@ -56,7 +55,8 @@ fn add_wire(text: &mut String, alloc: Global, n: &mut Numbers) -> Result<(), All
 }
 
 fn add_via(text: &mut String, alloc: Global, n: &mut Numbers) -> Result<(), AllocError> {
-    let (x, y) = place(n);
+    let x = n.below(SIDE);
+    let y = n.below(SIDE);
     let net = if n.below(2) == 0 { "A" } else { "M" };
     let line = format!(in alloc; "(via V {x} {y} (net {net}) (type route))\n")?;
     text.push_str(line.as_str())

@@ -90,15 +90,6 @@ fn cut(alloc: Global, pin: u32, nodes: &[u32], blocked: &[Block]) -> Result<Cut,
     })
 }
 
-fn push(cuts: &mut List<Cut>, cut: Cut) -> Result<(), AllocError> {
-    cuts.push(cut)?;
-    Ok(())
-}
-
-fn add(cuts: &mut List<Cut>, cut: Result<Cut, AllocError>) -> Result<(), AllocError> {
-    push(cuts, cut?)
-}
-
 fn block(node: u32, by: Blocker) -> Block {
     Block { node, index: 0, by }
 }
@@ -114,8 +105,8 @@ fn cuts(alloc: Global) -> Result<List<Cut>, AllocError> {
         block(81, Blocker::Item(999)),
     ];
     let mut cuts = List::new(alloc);
-    add(&mut cuts, cut(alloc, 2, &[0, 1, 2, 8, 9, 10, 81], &blocked))?;
-    add(&mut cuts, cut(alloc, 3, &[161], &[]))?;
+    cuts.push(cut(alloc, 2, &[0, 1, 2, 8, 9, 10, 81], &blocked)?)?;
+    cuts.push(cut(alloc, 3, &[161], &[])?)?;
     Ok(cuts)
 }
 
@@ -153,12 +144,6 @@ fn fill(alloc: Global, facts: &mut Facts) -> Result<(), AllocError> {
     Ok(())
 }
 
-fn facts(alloc: Global, nodes: u32) -> Result<Facts, AllocError> {
-    let mut facts = bare_facts(alloc, nodes);
-    fill(alloc, &mut facts)?;
-    Ok(facts)
-}
-
 /// The report, with no contract, so that the proofs of its callers are short.
 fn text(
     alloc: Global,
@@ -185,35 +170,25 @@ fn is_text(
     }
 }
 
-fn reports_on(alloc: Global, board: &Board, lat: &Lattice, short: bool, want: &str) -> bool {
-    match facts(alloc, lat.count()) {
-        Ok(facts) => is_text(alloc, board, lat, &facts, short, want),
-        Err(_) => false,
-    }
+/// Whether the report of the facts is the long text, and the short one.
+fn reports_on(alloc: Global, board: &Board, lat: &Lattice) -> bool {
+    let mut facts = bare_facts(alloc, lat.count());
+    fill(alloc, &mut facts).is_ok()
+        && is_text(alloc, board, lat, &facts, false, LONG)
+        && is_text(alloc, board, lat, &facts, true, SHORT)
 }
 
-fn reports_of(alloc: Global, board: &Board, short: bool, want: &str) -> bool {
+fn reports(alloc: Global, board: &Board) -> bool {
     board.keeps();
     match Lattice::of(alloc, board.design(), Some(1_000_000)) {
-        Ok(lat) => reports_on(alloc, board, &lat, short, want),
+        Ok(lat) => reports_on(alloc, board, &lat),
         Err(_) => false,
     }
 }
 
-/// Whether the report is this text, long or short.
-fn reports(alloc: Global, short: bool, want: &str) -> bool {
-    match opened(alloc, TWO_NETS) {
-        Some(board) => reports_of(alloc, &board, short, want),
-        None => false,
-    }
-}
-
 #[test]
-fn a_report_tells_what_blocks_and_what_is_reached(rt: HostRuntime) {
-    assert!(rt; reports(rt.alloc(), false, LONG));
-}
-
-#[test]
-fn a_short_report_tells_the_cuts_alone(rt: HostRuntime) {
-    assert!(rt; reports(rt.alloc(), true, SHORT));
+fn a_report_tells_what_blocks_and_what_is_reached_and_a_short_one_the_cuts_alone(rt: HostRuntime) {
+    let alloc = rt.alloc();
+    let board = opened(alloc, TWO_NETS).expect(&rt, "no board");
+    assert!(rt; reports(alloc, &board));
 }

@@ -8,33 +8,15 @@ ghost use Rattle.pcb_tiles.specs.Spread.{ServesSpread};
 ghost use Rattle.pcb_tiles.specs.Tiling.{own_block, asked_block, entries_in};
 ghost use Rattle.tests_board.specs.Row.{row_area, row_items, wire_of_a, wire_of_b, edge, pad, at};
 
-use crate::board::{board, routed};
+use crate::board::{Says, held, routed};
 use crate::copper::{fixed_tiles, lay};
+use crate::laying::CROSS;
 use geo_kernel::Rect4;
 use pcb_model::{Copper, Design, Item, Steps};
 use pcb_tiles::Tiles;
 use std::alloc::Global;
 use std::marker::Brand;
 use std::sync::ledger::{Blank, Ledger};
-
-const ROW: &str = "(pcb row
-  (resolution um 10)
-  (structure
-    (layer F (type signal))
-    (boundary (rect pcb 0 0 10000 10000))
-    (rule (width 200) (clearance 200)))
-  (placement (component P
-    (place C1 1000 5000 front 0)
-    (place C2 9000 5000 front 0)
-    (place C3 5000 2000 front 0)
-    (place C4 5000 8000 front 0)))
-  (library
-    (image P (pin PAD 1 0 0))
-    (padstack PAD (shape (circle F 1000))))
-  (network (net A (pins C1-1 C2-1)) (net M (pins C3-1 C4-1)))
-  (wiring
-    (wire (path F 200 1000 5000 9000 5000) (net A) (type route))
-    (wire (path F 200 5000 2000 5000 8000) (net M) (type route))))";
 
 const AREA: Rect4 = Rect4 {
     x0: 0,
@@ -83,21 +65,23 @@ fn row_in(alloc: Global, d: &Design, tiles: &mut Tiles) -> Option<(usize, Option
     Some((d.fixed.len(), clash(tiles, d, &a)))
 }
 
-/// The same, on tiles of the board's fixed items.
-fn row_on(alloc: Global, d: &Design) -> Option<(usize, Option<u64>)>
-    requires { IsSound d.now }
-{
-    let mut tiles = fixed_tiles(alloc, d, AREA).ok()?;
-    row_in(alloc, d, &mut tiles)
-}
+/// On tiles of the board's five fixed items that is the wire of A.
+struct IsInTheWay;
 
-fn row(alloc: Global) -> Option<(usize, Option<u64>)> {
-    let d = board(alloc, ROW)?;
-    row_on(alloc, &d)
+impl Says for IsInTheWay {
+    fn holds(&self, alloc: Global, d: &Design) -> bool {
+        match fixed_tiles(alloc, d, AREA) {
+            Ok(fixed) => {
+                let mut tiles = fixed;
+                row_in(alloc, d, &mut tiles) == Some((5, Some(5)))
+            }
+            Err(_) => false,
+        }
+    }
 }
 
 #[test]
 fn the_wire_of_a_is_in_the_way_of_that_of_b(rt: HostRuntime) {
     row_has_entries();
-    assert_eq!(rt; row(rt.alloc()), Some((5, Some(5))));
+    assert_eq!(rt; held(rt.alloc(), CROSS, &[IsInTheWay]), 1);
 }

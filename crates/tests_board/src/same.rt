@@ -24,14 +24,12 @@ fn is_same(a: Option<&Item>, b: Option<&Item>) -> bool {
     }
 }
 
-fn same_of_id(plain: &PlainCopper, tiles: &Tiles, id: u64) -> bool {
-    is_same(plain.item(id), tiles.item(id)) && is_same(plain.next_item(id), tiles.next_item(id))
-}
-
 /// Whether both hold the same items below an id.
 fn same_below(plain: &PlainCopper, tiles: &Tiles, end: u64) -> bool {
     for id in 0..end {
-        if !same_of_id(plain, tiles, id) {
+        if !is_same(plain.item(id), tiles.item(id))
+            || !is_same(plain.next_item(id), tiles.next_item(id))
+        {
             return false;
         }
     }
@@ -92,12 +90,12 @@ fn same_at<L: Ledger>(
     Some(item && same_of_probe(plain, tiles, d, &p, from, steps))
 }
 
+/// Whether both answer alike about all free wiring, from several ids on.
 fn same_counting<L: Ledger>(
     alloc: Global,
     plain: &PlainCopper,
     tiles: &Tiles,
     d: &Design,
-    from: u64,
     blank: Blank,
 ) -> bool
     requires name { blank.name ≡ L.name }
@@ -108,21 +106,14 @@ fn same_counting<L: Ledger>(
     requires tiles { ServesSpread tiles.now d.now }
 {
     let mut steps: Steps<L> = Steps::new(blank);
-    for at in 0..d.free.len() {
-        if same_at(alloc, plain, tiles, d, at, from, &mut steps) != Some(true) {
-            return false;
+    for from in [0, 3, 20, 100, 1_000] {
+        for at in 0..d.free.len() {
+            if same_at(alloc, plain, tiles, d, at, from, &mut steps) != Some(true) {
+                return false;
+            }
         }
     }
     true
-}
-
-/// Whether both answer alike about all free wiring, from an id on.
-fn same_from(alloc: Global, plain: &PlainCopper, tiles: &Tiles, d: &Design, from: u64) -> bool
-    requires sound { IsSound d.now }
-    requires plain { Serves plain.now d.now }
-    requires tiles { ServesSpread tiles.now d.now }
-{
-    same_counting::<Brand>(alloc, plain, tiles, d, from, Blank::new(1))
 }
 
 /// Whether both answer alike about all free wiring and all ids.
@@ -131,10 +122,5 @@ pub(crate) fn same(alloc: Global, plain: &PlainCopper, tiles: &Tiles, d: &Design
     requires plain { Serves plain.now d.now }
     requires tiles { ServesSpread tiles.now d.now }
 {
-    for from in [0, 3, 20, 100, 1_000] {
-        if !same_from(alloc, plain, tiles, d, from) {
-            return false;
-        }
-    }
-    same_below(plain, tiles, 400)
+    same_counting::<Brand>(alloc, plain, tiles, d, Blank::new(1)) && same_below(plain, tiles, 400)
 }

@@ -1,4 +1,4 @@
-//! What searches among the fixed items of a board answer.
+//! What searches among the fixed items of a board answer, and how one is taken out.
 //! Lengths in the texts are in um.
 
 ghost use Rattle.std.specs.Prelude.{◌≡◌, ◌<◌};
@@ -89,56 +89,25 @@ const FOUND: [Finds; 8] = [
     Finds(5, 5, [None, Some(5), None]),
 ];
 
-#[test]
-fn a_search_answers_the_least_id_or_none(rt: HostRuntime) {
-    assert_eq!(rt; held(rt.alloc(), WIRES, &FOUND), 8);
-}
+/// Whether an item of this id is taken out of the copper of the fixed items, so that so many are left.
+struct TakesOut(u64, usize);
 
-/// Whether an item of this id is found.
-fn is_held(copper: &PlainCopper, id: u64) -> bool {
-    match copper.item(id) {
-        Some(b) => b.id == id,
-        None => false,
-    }
-}
-
-/// Whether an item of this id was there to be taken out.
-fn takes_out(copper: &mut PlainCopper, id: u64) -> bool {
-    match copper.remove(id) {
-        Some(b) => b.id == id,
-        None => false,
-    }
-}
-
-fn take_twice(alloc: Global, d: &Design, id: u64) -> Option<([bool; 4], usize)>
-    requires { IsSound d.now }
-{
-    let mut copper = fixed_plain(alloc, d).ok()?;
-    copper.in_order();
-    let before = is_held(&copper, id);
-    let first = takes_out(&mut copper, id);
-    let after = is_held(&copper, id);
-    let second = takes_out(&mut copper, id);
-    Some(([before, first, after, second], copper.items().len()))
-}
-
-/// Whether the item is found, taken out, found again and taken out again, and how many items are left.
-struct TakenTwice(u64, [bool; 4], usize);
-
-impl Says for TakenTwice {
+impl Says for TakesOut {
     fn holds(&self, alloc: Global, d: &Design) -> bool {
-        take_twice(alloc, d, self.0) == Some((self.1, self.2))
+        let Ok(fixed) = fixed_plain(alloc, d) else {
+            return false;
+        };
+        let mut copper = fixed;
+        copper.in_order();
+        match copper.remove(self.0) {
+            Some(b) => b.id == self.0 && copper.items().len() == self.1,
+            None => false,
+        }
     }
 }
 
 #[test]
-fn an_item_is_found_until_it_is_taken_out(rt: HostRuntime) {
-    assert_eq!(rt;
-        held(
-            rt.alloc(),
-            WIRES,
-            &[TakenTwice(2, [true, true, false, false], 5)]
-        ),
-        1
-    );
+fn a_search_answers_the_least_id_or_none_and_an_item_is_taken_out(rt: HostRuntime) {
+    assert_eq!(rt; held(rt.alloc(), WIRES, &FOUND), 8);
+    assert_eq!(rt; held(rt.alloc(), WIRES, &[TakesOut(2, 5)]), 1);
 }

@@ -1,37 +1,16 @@
 //! Whole sessions of small boards, worked by hand, and their scale.
 //! Lengths in the designs are in um, those in the sessions in their resolution.
 
-ghost use Rattle.pcb_model.specs.Sound.{IsSound};
-
-use crate::board::{Says, board, held, routed};
+use crate::board::{Says, board, held};
 use pcb_model::{Design, Item, SesScale};
 use ses_writer::items_session;
 use std::alloc::Global;
 
-fn bytes(alloc: Global, d: &Design, items: &[Item], omit_fixed: bool) -> Option<Vec<u8>> {
-    items_session(alloc, d, items, omit_fixed).ok()
-}
-
-fn is_text(
-    alloc: Global,
-    d: &Design,
-    items: &[Item],
-    omit_fixed: bool,
-    want: &str,
-) -> Option<bool> {
-    let text = bytes(alloc, d, items, omit_fixed)?;
-    Some(text.as_slice() == want.as_bytes())
-}
-
-fn has_session(
-    alloc: Global,
-    d: &Design,
-    other: &str,
-    omit_fixed: bool,
-    want: &str,
-) -> Option<bool> {
-    let other = board(alloc, other)?;
-    is_text(alloc, d, other.fixed.as_slice(), omit_fixed, want)
+fn is_text(alloc: Global, d: &Design, items: &[Item], omit_fixed: bool, want: &str) -> bool {
+    match items_session(alloc, d, items, omit_fixed) {
+        Ok(text) => text.as_slice() == want.as_bytes(),
+        Err(_) => false,
+    }
 }
 
 /// The session of a board with the fixed items of another, whether fixed wiring is left out, and the nm of its unit.
@@ -39,24 +18,13 @@ struct Session(&'static str, bool, &'static str, u64);
 
 impl Says for Session {
     fn holds(&self, alloc: Global, d: &Design) -> bool {
-        SesScale::pick(d).nm == self.3
-            && has_session(alloc, d, self.0, self.1, self.2) == Some(true)
-    }
-}
-
-fn has_routed_session(alloc: Global, d: &Design, want: &str) -> Option<bool>
-    requires { IsSound d.now }
-{
-    let item = routed(alloc, d, 0, 1_000)?;
-    is_text(alloc, d, std::slice::from_ref(&item), true, want)
-}
-
-/// The session of a board with its first free wiring, and without fixed items.
-struct RoutedSession(&'static str);
-
-impl Says for RoutedSession {
-    fn holds(&self, alloc: Global, d: &Design) -> bool {
-        has_routed_session(alloc, d, self.0) == Some(true)
+        if SesScale::pick(d).nm != self.3 {
+            return false;
+        }
+        match board(alloc, self.0) {
+            Some(other) => is_text(alloc, d, other.fixed.as_slice(), self.1, self.2),
+            None => false,
+        }
     }
 }
 
@@ -114,22 +82,6 @@ const SESSION_OF_TWO_PADS: &str = "(session T
 )
 ";
 
-#[test]
-fn a_session_has_the_wire_of_a_net(rt: HostRuntime) {
-    assert_eq!(rt;
-        held(
-            rt.alloc(),
-            TWO_PADS,
-            &[Session(TWO_PADS, false, SESSION_OF_TWO_PADS, 100)]
-        ),
-        1
-    );
-    assert_eq!(rt;
-        held(rt.alloc(), TWO_PADS, &[RoutedSession(SESSION_OF_TWO_PADS)]),
-        1
-    );
-}
-
 // ---- a wire off the resolution
 
 const FINE_WIRE: &str = "(pcb T
@@ -142,6 +94,7 @@ const FINE_WIRE: &str = "(pcb T
   (network (net A))
   (wiring (wire (path F.Cu 200.05 8000 5000.05 -0.15 -0.05) (net A) (type fix))))";
 
+/// A wire that is not whole in the resolution makes the session finer.
 const FINE_SESSION: &str = "(session T
   (base_design T)
   (placement
@@ -167,18 +120,7 @@ const FINE_SESSION: &str = "(session T
 )
 ";
 
-#[test]
-fn a_wire_that_is_not_whole_in_the_resolution_makes_the_session_finer(rt: HostRuntime) {
-    assert_eq!(rt;
-        held(
-            rt.alloc(),
-            FINE_WIRE,
-            &[Session(FINE_WIRE, false, FINE_SESSION, 1)]
-        ),
-        1
-    );
-}
-
+/// What is not whole in a resolution that is kept is rounded half upwards.
 const ROUNDED_SESSION: &str = "(session T
   (base_design T)
   (placement
@@ -206,18 +148,6 @@ const ROUNDED_SESSION: &str = "(session T
   )
 )
 ";
-
-#[test]
-fn what_is_not_whole_in_a_kept_resolution_is_rounded_half_upwards(rt: HostRuntime) {
-    assert_eq!(rt;
-        held(
-            rt.alloc(),
-            TWO_PADS,
-            &[Session(FINE_WIRE, false, ROUNDED_SESSION, 100)]
-        ),
-        1
-    );
-}
 
 // ---- all parts of a session
 
@@ -323,7 +253,16 @@ const SESSIONS_OF_ALL: [Session; 2] = [
     Session(ALL, true, SESSION_WITHOUT_WIRING, 100),
 ];
 
+const OF_TWO_PADS: [Session; 2] = [
+    Session(TWO_PADS, false, SESSION_OF_TWO_PADS, 100),
+    Session(FINE_WIRE, false, ROUNDED_SESSION, 100),
+];
+
+const OF_FINE_WIRE: [Session; 1] = [Session(FINE_WIRE, false, FINE_SESSION, 1)];
+
 #[test]
-fn a_session_has_all_parts_and_leaves_fixed_wiring_out_where_asked(rt: HostRuntime) {
+fn sessions_are_byte_for_byte_these(rt: HostRuntime) {
+    assert_eq!(rt; held(rt.alloc(), TWO_PADS, &OF_TWO_PADS), 2);
+    assert_eq!(rt; held(rt.alloc(), FINE_WIRE, &OF_FINE_WIRE), 1);
     assert_eq!(rt; held(rt.alloc(), ALL, &SESSIONS_OF_ALL), 2);
 }

@@ -4,11 +4,11 @@ ghost use Rattle.std.specs.Prelude.{◌≡◌, IfSome};
 ghost use Rattle.board_turn.specs.Turns.{count_of};
 
 use crate::board::opened;
-use crate::offer_board::{CROSS, across, along};
+use crate::offer_board::{CROSS, Join, across, along, offer_of};
 use board_turn::{Pass, Turn};
-use pcb_board::{Answer, Board, Offer, Snap};
+use pcb_board::{Answer, Board};
 use pcb_model::Copper;
-use std::alloc::{AllocError, Global};
+use std::alloc::Global;
 use std::sync::Wait;
 
 /// A turn over the board of two nets that cross, and its two passes, or None where memory is wanting.
@@ -25,25 +25,18 @@ fn start(alloc: Global) -> Option<(Turn, Pass, Pass)>
 /// What the board answers to the offer, or None where memory is wanting.
 fn answer<R: Wait>(
     rt: &R,
+    alloc: Global,
     turn: &Turn,
     pass: &mut Pass,
-    offer: Result<Offer, AllocError>,
+    join: &Join,
 ) -> Option<Answer>
     requires { pass.old.turn ≡ turn.now }
     ensures { pass.new.turn ≡ pass.old.turn }
 {
-    match offer {
+    match offer_of(alloc, join) {
         Ok(offer) => turn.offer(rt, pass, offer).ok(),
         Err(_) => None,
     }
-}
-
-/// A snapshot, or None where memory is wanting.
-fn look<R: Wait>(rt: &R, turn: &Turn, pass: &mut Pass) -> Option<Snap>
-    requires { pass.old.turn ≡ turn.now }
-    ensures { pass.new.turn ≡ pass.old.turn }
-{
-    turn.snap(rt, pass).ok()
 }
 
 /// The board, or None where memory is wanting.
@@ -57,51 +50,31 @@ fn close(alloc: Global, turn: Turn, first: Pass, second: Pass) -> Option<Board>
     Some(turn.close(passes))
 }
 
-/// Whether the first net's wire is taken.
-fn is_taken<R: Wait>(rt: &R, alloc: Global, turn: &Turn, pass: &mut Pass) -> bool
-    requires { pass.old.turn ≡ turn.now }
-    ensures { pass.new.turn ≡ pass.old.turn }
-{
-    answer(rt, turn, pass, along(alloc, 0)) == Some(Answer::Committed { number: 1 })
-}
-
-fn has_wire(snap: &Snap) -> bool {
-    snap.number() == 1 && snap.item(5).is_some()
-}
-
-/// Whether a snapshot has that wire.
+/// Whether a pass sees one entry and the wire that it laid.
 fn is_seen<R: Wait>(rt: &R, turn: &Turn, pass: &mut Pass) -> bool
     requires { pass.old.turn ≡ turn.now }
     ensures { pass.new.turn ≡ pass.old.turn }
 {
-    match look(rt, turn, pass) {
-        Some(snap) => has_wire(&snap),
-        None => false,
+    match turn.snap(rt, pass) {
+        Ok(snap) => snap.number() == 1 && snap.item(5).is_some(),
+        Err(_) => false,
     }
 }
 
-/// Whether the second net's wire comes too late for it.
-fn is_late<R: Wait>(rt: &R, alloc: Global, turn: &Turn, pass: &mut Pass) -> bool
-    requires { pass.old.turn ≡ turn.now }
-    ensures { pass.new.turn ≡ pass.old.turn }
-{
-    answer(rt, turn, pass, across(alloc, 0)) == Some(Answer::Stale { item: 5, commit: 1 })
-}
-
-/// Whether the first pass's wire is taken, seen by the second pass, and in the way of its offer; and how many entries
-/// the board has at the end.
-fn seen<R: Wait>(rt: &R, alloc: Global) -> Option<([bool; 3], usize)> {
+/// What the board answers to the first pass's wire and to the second pass's, which comes too late; whether the second
+/// pass sees the wire between; and how many entries the board has at the end.
+fn seen<R: Wait>(rt: &R, alloc: Global) -> Option<([Option<Answer>; 2], bool, usize)> {
     let (turn, mut first, mut second) = start(alloc)?;
-    let answers = [
-        is_taken(rt, alloc, &turn, &mut first),
-        is_seen(rt, &turn, &mut second),
-        is_late(rt, alloc, &turn, &mut second),
-    ];
+    let taken = answer(rt, alloc, &turn, &mut first, &along(0));
+    let seen = is_seen(rt, &turn, &mut second);
+    let late = answer(rt, alloc, &turn, &mut second, &across(0, &[]));
     let board = close(alloc, turn, first, second)?;
-    Some((answers, board.history().len()))
+    Some(([taken, late], seen, board.history().len()))
 }
 
 #[test]
 fn a_pass_sees_what_the_other_committed(rt: HostRuntime) {
-    assert!(rt; seen(&rt, rt.alloc()) == Some(([true; 3], 1)));
+    let taken = Some(Answer::Committed { number: 1 });
+    let late = Some(Answer::Stale { item: 5, commit: 1 });
+    assert!(rt; seen(&rt, rt.alloc()) == Some(([taken, late], true, 1)));
 }

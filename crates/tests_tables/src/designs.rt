@@ -1,6 +1,7 @@
 //! What the reader of designs answers, in words.
 
 use crate::table::Answers;
+use crate::words::{Piece, put, put_two};
 use dsn_design::read_design;
 use dsn_shapes::{DesignFault, Refusal, What, refused};
 use dsn_tree::TreeFault;
@@ -46,8 +47,8 @@ fn word_of(what: What) -> &'static str {
     }
 }
 
-/// `refused NUMBER at PLACE`, or `limit WHAT NUMBER at PLACE` where a limit is passed.
-fn refusal_words(alloc: Global, refusal: Refusal) -> Result<String, AllocError> {
+/// Puts `refused NUMBER at PLACE`, or `limit WHAT NUMBER at PLACE` where a limit is passed.
+fn put_refusal(words: &mut String, refusal: Refusal) -> Result<(), AllocError> {
     let Refusal {
         number,
         at,
@@ -55,10 +56,30 @@ fn refusal_words(alloc: Global, refusal: Refusal) -> Result<String, AllocError> 
         limit,
     } = refusal;
     if number != LIMIT_NUMBER {
-        return format!(in alloc; "refused {number} at {at}");
+        return put_two(
+            words,
+            ("refused ", i128::from(number)),
+            (" at ", i128::from(at)),
+        );
     }
-    let what = word_of(what);
-    format!(in alloc; "limit {what} {limit} at {at}")
+    put(
+        words,
+        &[
+            Piece::Text("limit "),
+            Piece::Text(word_of(what)),
+            Piece::Text(" "),
+            Piece::Number(i128::from(limit)),
+            Piece::Text(" at "),
+            Piece::Number(i128::from(at)),
+        ],
+    )
+}
+
+fn put_fault(words: &mut String, fault: &DesignFault) -> Result<(), AllocError> {
+    match refusal_of(fault) {
+        Some(refusal) => put_refusal(words, refusal),
+        None => words.push_str("memory is wanting"),
+    }
 }
 
 /// The design of a text, or why it has none.
@@ -73,13 +94,10 @@ pub(crate) fn design_of(alloc: Global, text: &[u8]) -> Result<Design, DesignFaul
 pub(crate) struct Designs;
 
 impl Answers for Designs {
-    fn answer(&self, alloc: Global, text: &str) -> Result<String, AllocError> {
+    fn answer(&self, alloc: Global, text: &str, words: &mut String) -> Result<(), AllocError> {
         match design_of(alloc, text.as_bytes()) {
-            Ok(_) => String::from_str(alloc, "read"),
-            Err(fault) => match refusal_of(&fault) {
-                Some(refusal) => refusal_words(alloc, refusal),
-                None => String::from_str(alloc, "memory is wanting"),
-            },
+            Ok(_) => words.push_str("read"),
+            Err(fault) => put_fault(words, &fault),
         }
     }
 }

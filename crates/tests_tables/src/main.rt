@@ -6,27 +6,22 @@
 mod designs;
 mod sessions;
 mod table;
+mod words;
 
 use designs::{Designs, design_of};
 use sessions::Sessions;
 use std::{fs, io};
 use table::check_table;
 
-fn check_designs(rt: &HostRuntime) -> io::Result<()> {
-    let table = fs::read_to_string(rt, "refusals")?;
-    check_table(rt, &Designs, table.as_str())
-}
-
-fn check_sessions(rt: &HostRuntime) -> io::Result<()> {
-    let text = fs::read_to_string(rt, "design")?;
-    let table = fs::read_to_string(rt, "sessions")?;
-    match design_of(rt.alloc(), text.as_str().as_bytes()) {
-        Ok(design) => check_table(rt, &Sessions { design }, table.as_str()),
+fn check_sessions(rt: &HostRuntime, text: &[u8]) -> io::Result<()> {
+    match design_of(rt.alloc(), text) {
+        Ok(design) => check_table(rt, &Sessions { design }, "sessions"),
         Err(_) => println!(rt; "the file `design` holds no design"),
     }
 }
 
 fn main(rt: HostRuntime) -> io::Result<()> {
-    check_designs(&rt)?;
-    check_sessions(&rt)
+    check_table(&rt, &Designs, "refusals")?;
+    let text = fs::read_to_string(&rt, "design")?;
+    check_sessions(&rt, text.as_str().as_bytes())
 }

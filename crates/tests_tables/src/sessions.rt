@@ -1,52 +1,86 @@
 //! What the reader of sessions answers, in words. Lengths are in nm.
 
 use crate::table::Answers;
+use crate::words::{Piece, put, put_two};
 use geo_kernel::Point;
 use pcb_model::{Design, Metal};
 use ses_reader::{SesFault, SesItem, read_session};
 use std::alloc::{AllocError, Global};
 
-/// The points of a chain, each behind a blank.
-fn chain_words(alloc: Global, chain: &[Point]) -> Result<String, AllocError> {
-    let mut words = String::new(alloc);
-    for point in chain {
-        let Point { x, y } = *point;
-        let word = format!(in alloc; " {x} {y}")?;
-        words.push_str(word.as_str())?;
-    }
-    Ok(words)
+/// Puts the coordinates of a point, each behind a blank.
+fn put_point(words: &mut String, point: Point) -> Result<(), AllocError> {
+    put_two(
+        words,
+        (" ", i128::from(point.x)),
+        (" ", i128::from(point.y)),
+    )
 }
 
-/// `wire LAYER WIDTH X Y ..` or `via PADSTACK X Y`.
-fn metal_words(alloc: Global, metal: &Metal) -> Result<String, AllocError> {
+fn put_chain(words: &mut String, chain: &[Point]) -> Result<(), AllocError> {
+    for point in chain {
+        put_point(words, *point)?;
+    }
+    Ok(())
+}
+
+/// Puts ` wire LAYER WIDTH X Y ..` or ` via PADSTACK X Y`.
+fn put_metal(words: &mut String, metal: &Metal) -> Result<(), AllocError> {
     match metal {
         Metal::Wire {
             layer,
             width,
             chain,
         } => {
-            let points = chain_words(alloc, chain.as_slice())?;
-            format!(in alloc; "wire {layer} {width}{points}")
+            put_two(
+                words,
+                (" wire ", i128::from(*layer)),
+                (" ", i128::from(*width)),
+            )?;
+            put_chain(words, chain.as_slice())
         }
         Metal::Via { padstack, at } => {
-            let Point { x, y } = *at;
-            format!(in alloc; "via {padstack} {x} {y}")
+            put(
+                words,
+                &[Piece::Text(" via "), Piece::Number(i128::from(*padstack))],
+            )?;
+            put_point(words, *at)
         }
-        _ => String::from_str(alloc, "no copper"),
+        _ => words.push_str(" no copper"),
     }
 }
 
-/// `read`, and for each item its net, its place and its copper.
-fn item_words(alloc: Global, items: &[SesItem]) -> Result<String, AllocError> {
-    let mut words = String::from_str(alloc, "read")?;
+/// Puts the net, the place and the copper of an item.
+fn put_item(words: &mut String, item: &SesItem) -> Result<(), AllocError> {
+    put_two(
+        words,
+        (" | net ", i128::from(item.net)),
+        (" at ", i128::from(item.at)),
+    )?;
+    put_metal(words, &item.metal)
+}
+
+/// Puts `read`, and each item.
+fn put_items(words: &mut String, items: &[SesItem]) -> Result<(), AllocError> {
+    words.push_str("read")?;
     for item in items {
-        let metal = metal_words(alloc, &item.metal)?;
-        let net = item.net;
-        let at = item.at;
-        let word = format!(in alloc; " | net {net} at {at} {metal}")?;
-        words.push_str(word.as_str())?;
+        put_item(words, item)?;
     }
-    Ok(words)
+    Ok(())
+}
+
+/// Puts why a text holds no session.
+fn put_fault(words: &mut String, fault: &SesFault) -> Result<(), AllocError> {
+    match fault {
+        SesFault::Spelling(fault) => write!(words, "no tree: {fault}"),
+        SesFault::Refused { number, at } => {
+            put_two(
+                words,
+                ("refused ", i128::from(*number)),
+                (" at ", i128::from(*at)),
+            )
+        }
+        SesFault::Memory(_) => words.push_str("memory is wanting"),
+    }
 }
 
 /// The reader of sessions for a design.
@@ -56,12 +90,10 @@ pub(crate) struct Sessions {
 }
 
 impl Answers for Sessions {
-    fn answer(&self, alloc: Global, text: &str) -> Result<String, AllocError> {
+    fn answer(&self, alloc: Global, text: &str, words: &mut String) -> Result<(), AllocError> {
         match read_session(alloc, text.as_bytes(), &self.design) {
-            Ok(items) => item_words(alloc, items.as_slice()),
-            Err(SesFault::Spelling(fault)) => format!(in alloc; "no tree: {fault}"),
-            Err(SesFault::Refused { number, at }) => format!(in alloc; "refused {number} at {at}"),
-            Err(SesFault::Memory(_)) => String::from_str(alloc, "memory is wanting"),
+            Ok(items) => put_items(words, items.as_slice()),
+            Err(fault) => put_fault(words, &fault),
         }
     }
 }

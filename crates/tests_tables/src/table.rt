@@ -1,12 +1,13 @@
 //! Tables of texts: each line is the answer that a text must get, a tab, and the text. Headings begin with `#`.
 
 use std::alloc::{AllocError, Global};
-use std::io;
+use std::rt::Files;
+use std::{fs, io};
 
 /// What answers the texts of a table.
 pub(crate) trait Answers {
-    /// What is answered to a text, in words.
-    fn answer(&self, alloc: Global, text: &str) -> Result<String, AllocError>;
+    /// Puts what is answered to a text, in words.
+    fn answer(&self, alloc: Global, text: &str, words: &mut String) -> Result<(), AllocError>;
 }
 
 // How many texts there are, and how many of them get another answer.
@@ -16,19 +17,27 @@ struct Counts {
     others: u64,
 }
 
-// Whether a text gets the answer that its line wants; where it doesn't, the line is printed.
+// Whether the answer found is that which is wanted; where it isn't, the line is printed.
+fn is_wanted<R: Print>(rt: &R, found: &str, wanted: &str, text: &str) -> io::Result<bool> {
+    if found == wanted {
+        return Ok(true);
+    }
+    println!(rt; "{found}, and not {wanted}: {text}")?;
+    Ok(false)
+}
+
+// Whether a text gets the answer that its line wants.
 fn is_answered<R: Print + AllocGlobal, A: Answers>(
     rt: &R,
     reader: &A,
     wanted: &str,
     text: &str,
 ) -> io::Result<bool> {
-    let found = reader.answer(rt.alloc(), text)?;
-    if found.as_str() == wanted {
-        return Ok(true);
+    let mut found = String::new(rt.alloc());
+    match reader.answer(rt.alloc(), text, &mut found) {
+        Ok(()) => is_wanted(rt, found.as_str(), wanted, text),
+        Err(error) => Err(io::Error::from(error)),
     }
-    println!(rt; "{found}, and not {wanted}: {text}")?;
-    Ok(false)
 }
 
 fn check_line<R: Print + AllocGlobal, A: Answers>(
@@ -63,15 +72,23 @@ fn check_lines<R: Print + AllocGlobal, A: Answers>(
     Ok(counts)
 }
 
-/// Checks each line of a table. Prints each whose text gets another answer than it wants, and how many texts there are.
-pub(crate) fn check_table<R: Print + AllocGlobal, A: Answers>(
-    rt: &R,
-    reader: &A,
-    table: &str,
-) -> io::Result<()> {
-    let Counts { texts, others } = check_lines(rt, reader, table)?;
+fn print_counts<R: Print>(rt: &R, counts: Counts) -> io::Result<()> {
+    let Counts { texts, others } = counts;
     if others == 0 {
         return println!(rt; "{texts} texts, all answered as the table says");
     }
     println!(rt; "{texts} texts, {others} answered otherwise")
+}
+
+/// Checks each line of the table in a file. Prints each whose text gets another answer than it wants, and how many
+/// texts there are.
+pub(crate) fn check_table<R: Files + Print + AllocGlobal, A: Answers>(
+    rt: &R,
+    reader: &A,
+    file: &str,
+) -> io::Result<()> {
+    let table = fs::read_to_string(rt, file)?;
+    let counts = check_lines(rt, reader, table.as_str());
+    drop(table);
+    print_counts(rt, counts?)
 }

@@ -1,5 +1,5 @@
 use Rattle.ripup.specs.Rips.{CanRip}
-use Rattle.tests_board.proofs.ways.passing_price.Goals as goal
+use Rattle.tests_board.proofs.plans.passing_price.Goals as goal
 
 pub price_between-requires-clause-sound : goal.price_between-requires-clause-sound
 price_between-requires-clause-sound c =

@@ -4,17 +4,17 @@
 ghost use Rattle.std.specs.Prelude.{◌≡◌, ◌<◌};
 ghost use Rattle.pcb_model.specs.declared.design.Design.{Design as TheDesign};
 ghost use Rattle.pcb_model.specs.Bounds.{IsProbeFit};
-ghost use Rattle.pcb_model.specs.Sound.{IsSound, Serves};
+ghost use Rattle.pcb_model.specs.Sound.{IsSound};
 
-use crate::wires::{WIRES, board, fixed_copper};
+use crate::told::{Watch, each_of, tell};
+use crate::wires::{board, fixed_copper};
 use geo_kernel::Point;
-use pcb_model::{Copper, Design, PlainCopper, Probe, Steps};
+use pcb_model::{Copper, Design, Probe, Steps};
 use std::alloc::Global;
 use std::io;
 use std::marker::Brand;
 use std::rt::Runtime;
 use std::sync::ledger::{Blank, Ledger};
-use std::time::Instant;
 
 /// How many of so many searches find the step blocked.
 fn count<C: Copper, L: Ledger>(
@@ -62,45 +62,26 @@ pub fn count_blocked<C: Copper>(copper: &C, d: &Design, calls: u64) -> u64
     count::<C, Brand>(copper, d, &step(), calls, Blank::new(1))
 }
 
-/// How many of so many searches find that step blocked, and in how many nanoseconds.
-fn nanos_of<R: Runtime>(
+/// Tells how many of so many searches on this copper find that step blocked, and what one took.
+pub fn tell_blocked<R: Runtime, C: Copper>(
     rt: &R,
-    copper: &PlainCopper,
+    place: &str,
+    copper: &C,
     d: &Design,
     calls: u64,
-) -> io::Result<(u64, u128)>
-    requires { Serves copper.now d.now }
+    is_timed: bool,
+) -> io::Result<()>
+    requires { C.serves copper.now d.now }
 {
-    let begun = Instant::now(rt)?;
+    let watch = Watch::start(rt);
     let blocked = count_blocked(copper, d, calls);
-    Ok((blocked, begun.elapsed(rt)?.as_nanos()))
+    let each = each_of(is_timed, watch.nanos(rt), calls);
+    println!(rt; "on {place}, of {calls} searches")?;
+    tell(rt, "blocked", blocked, each)
 }
 
-/// Makes the searches five times, and tells how long one took at best.
-fn tell_best<R: Runtime>(rt: &R, copper: &PlainCopper, d: &Design, calls: u64) -> io::Result<()>
-    requires { Serves copper.now d.now }
-{
-    let mut best = u128::MAX;
-    let mut all_blocked = 0u64;
-    for _ in 0..5 {
-        let (blocked, nanos) = nanos_of(rt, copper, d, calls)?;
-        best = best.min(nanos);
-        all_blocked = all_blocked.wrapping_add(blocked);
-    }
-    let each = best / u128::from(calls.max(1));
-    println!(rt; "among {WIRES} wires: at best {each} ns a search, {all_blocked} blocked")
-}
-
-/// Makes the searches once, and tells how many found the step blocked.
-fn tell_blocked<R: Runtime>(rt: &R, copper: &PlainCopper, d: &Design, calls: u64) -> io::Result<()>
-    requires { Serves copper.now d.now }
-{
-    let blocked = count_blocked(copper, d, calls);
-    println!(rt; "among {WIRES} wires: {calls} searches, {blocked} blocked")
-}
-
-/// Makes the searches on a board.
-fn run_on<R: Runtime>(
+/// The same on the plain list of a board's fixed items.
+pub fn tell_on_list<R: Runtime>(
     rt: &R,
     alloc: Global,
     d: &Design,
@@ -110,15 +91,14 @@ fn run_on<R: Runtime>(
     requires { IsSound d.now }
 {
     match fixed_copper(alloc, d) {
-        Ok(copper) if is_timed => tell_best(rt, &copper, d, calls),
-        Ok(copper) => tell_blocked(rt, &copper, d, calls),
+        Ok(copper) => tell_blocked(rt, "a plain list", &copper, d, calls, is_timed),
         Err(_) => println!(rt; "no copper"),
     }
 }
 
 fn run<R: Runtime>(rt: &R, alloc: Global, calls: u64, is_timed: bool) -> io::Result<()> {
     match board(alloc) {
-        Some(d) => run_on(rt, alloc, &d, calls, is_timed),
+        Some(d) => tell_on_list(rt, alloc, &d, calls, is_timed),
         None => println!(rt; "no board"),
     }
 }

@@ -1,15 +1,13 @@
 //! What a snapshot, a search and an offer cost on a board of nets of two pins.
 //! Snapshots and searches are made at the start, and then offers, one after another.
 
-use crate::blocks::count_blocked;
+use crate::blocks::{tell_blocked, tell_on_list};
 use crate::nets::{board_of, offers_of};
-use crate::wires::fixed_copper;
+use crate::told::{Watch, each_of, tell};
 use pcb_board::{Answer, Board, Offer, boards_serve, run_offers};
-use pcb_model::{Copper, Design};
 use std::alloc::{AllocError, Global};
 use std::io;
 use std::rt::Runtime;
-use std::time::Instant;
 
 /// How many nets the board has, how much is done on it, and whether the time is told.
 #[derive(Clone, Copy)]
@@ -47,42 +45,10 @@ fn snaps_of(board: &Board, snaps: u64) -> Result<u64, AllocError> {
 }
 
 fn tell_snaps<R: Runtime>(rt: &R, board: &Board, plan: Plan) -> io::Result<()> {
-    let items = board.design().fixed.len();
-    let begun = Instant::now(rt)?;
+    let watch = Watch::start(rt);
     let count = snaps_of(board, plan.snaps)?;
-    let nanos = begun.elapsed(rt)?.as_nanos();
-    if plan.timed {
-        let each = nanos / u128::from(plan.snaps.max(1));
-        println!(rt; "among {items} items: {each} ns a snapshot, {count} of the start")
-    } else {
-        println!(rt; "among {items} items: {count} snapshots of the start")
-    }
-}
-
-/// The time of searches on a snapshot and on the plain list of the same items, or what they found.
-fn time_searches<R: Runtime, S: Copper, P: Copper>(
-    rt: &R,
-    snap: &S,
-    plain: &P,
-    d: &Design,
-    plan: Plan,
-) -> io::Result<()>
-    requires snap { S.serves snap.now d.now }
-    requires plain { P.serves plain.now d.now }
-{
-    let begun = Instant::now(rt)?;
-    let on_snap = count_blocked(snap, d, plan.searches);
-    let middle = begun.elapsed(rt)?.as_nanos();
-    let on_plain = count_blocked(plain, d, plan.searches);
-    let end = begun.elapsed(rt)?.as_nanos();
-    if plan.timed {
-        let calls = u128::from(plan.searches.max(1));
-        let snap_each = middle / calls;
-        let plain_each = end.saturating_sub(middle) / calls;
-        println!(rt; "{snap_each} ns a search on a snapshot, {plain_each} on a plain list")
-    } else {
-        println!(rt; "{on_snap} searches blocked on a snapshot, {on_plain} on a plain list")
-    }
+    let each = each_of(plan.timed, watch.nanos(rt), plan.snaps);
+    tell(rt, "snapshots of the start", count, each)
 }
 
 /// Searches on a snapshot and on the plain list of the same items, as none but those of the start are there.
@@ -90,29 +56,25 @@ fn tell_searches<R: Runtime>(rt: &R, alloc: Global, board: &Board, plan: Plan) -
     board.keeps();
     boards_serve();
     let snap = board.snap()?;
-    let told = match fixed_copper(alloc, snap.design()) {
-        Ok(plain) => {
-            let told = time_searches(rt, &snap, &plain, snap.design(), plan);
-            drop(plain);
-            told
-        }
-        Err(error) => Err(error.into()),
-    };
+    let told = tell_blocked(
+        rt,
+        "a snapshot",
+        &snap,
+        snap.design(),
+        plan.searches,
+        plan.timed,
+    );
     drop(snap);
-    told
+    told?;
+    tell_on_list(rt, alloc, board.design(), plan.searches, plan.timed)
 }
 
 fn tell_offers<R: Runtime>(rt: &R, alloc: Global, board: &mut Board, plan: Plan) -> io::Result<()> {
     let offers = offers_of(alloc, plan.offers)?;
-    let begun = Instant::now(rt)?;
+    let watch = Watch::start(rt);
     let count = committed(alloc, board, offers);
-    let nanos = begun.elapsed(rt)?.as_nanos();
-    if plan.timed {
-        let each = nanos / u128::from(plan.offers.max(1));
-        println!(rt; "{count} offers committed, {each} ns each")
-    } else {
-        println!(rt; "{count} offers committed")
-    }
+    let each = each_of(plan.timed, watch.nanos(rt), u64::from(plan.offers));
+    tell(rt, "offers committed", count, each)
 }
 
 /// All of the plan on a board.

@@ -11,6 +11,7 @@ mod nets;
 mod numbers;
 mod pairs;
 mod texts;
+mod told;
 mod walks;
 mod wires;
 

@@ -5,11 +5,11 @@ ghost use Rattle.std.specs.Prelude.{◌≤◌, ◌<◌, ◌^◌};
 
 use crate::figures::{Figure, circle, place, polygon, segment};
 use crate::numbers::Numbers;
+use crate::told::Watch;
 use geo_kernel::spine_keeps;
 use std::alloc::{AllocError, Global};
 use std::io;
 use std::rt::Runtime;
-use std::time::Instant;
 
 /// The sides of the squares that figures of about 1,000 nm lie in.
 const NEAR: u32 = 2_000;
@@ -90,50 +90,49 @@ fn count(firsts: &[Figure], seconds: &[Figure]) -> u64 {
 
 /// How many tests a second these were.
 fn a_second(tests: u64, nanos: u128) -> u128 {
-    if nanos == 0 {
-        0
-    } else {
-        tests as u128 * 1_000_000_000 / nanos
+    u128::from(tests) * 1_000_000_000 / nanos.max(1)
+}
+
+fn tell_tests<R: Runtime>(rt: &R, tests: u64, kept: u64, speed: Option<u128>) -> io::Result<()> {
+    match speed {
+        Some(speed) => println!(rt; "of {tests} tests {kept} keep, {speed} a second"),
+        None => println!(rt; "of {tests} tests {kept} keep"),
     }
 }
 
-/// Tests each pair of a first and a second figure, and tells how many keep the distance, or how fast it is.
+/// Tests each pair of a first and a second figure, and tells how many keep the distance, and how fast it is.
 fn tell_round<R: Runtime>(
     rt: &R,
-    kind: Kind,
-    span: u32,
     plan: Plan,
     firsts: &[Figure],
     seconds: &[Figure],
 ) -> io::Result<()> {
-    let start = Instant::now(rt)?;
+    let watch = Watch::start(rt);
     let mut kept = 0u64;
     for _ in 0..plan.rounds {
         kept = kept.wrapping_add(count(firsts, seconds));
     }
-    let nanos = start.elapsed(rt)?.as_nanos();
-    let tests = plan
-        .rounds
-        .wrapping_mul(plan.figures.wrapping_mul(plan.figures));
-    let name = name(kind);
-    if plan.timed {
-        let speed = a_second(tests, nanos);
-        println!(rt;
-            "{name} against segments in {span} nm: {tests} tests, {kept} keep, {speed} a second"
-        )
-    } else {
-        println!(rt; "{name} against segments in {span} nm: {tests} tests, {kept} keep")
-    }
+    let nanos = watch.nanos(rt);
+    let pairs = plan.figures.wrapping_mul(plan.figures);
+    let tests = plan.rounds.wrapping_mul(pairs);
+    tell_tests(
+        rt,
+        tests,
+        kept,
+        plan.timed.then_some(a_second(tests, nanos)),
+    )
 }
 
 fn round<R: Runtime>(rt: &R, alloc: Global, kind: Kind, span: u32, plan: Plan) -> io::Result<()>
     requires some { 0 < span }
     requires small { span ≤ 2 ^ 27 }
 {
+    let name = name(kind);
+    println!(rt; "{name} against segments in {span} nm")?;
     let mut numbers = Numbers::new(1);
     let firsts = make_all(alloc, kind, &mut numbers, span, plan.figures)?;
     let seconds = make_all(alloc, Kind::Segment, &mut numbers, span, plan.figures)?;
-    tell_round(rt, kind, span, plan, firsts.as_slice(), seconds.as_slice())
+    tell_round(rt, plan, firsts.as_slice(), seconds.as_slice())
 }
 
 /// Makes the tests of each kind, near and far.

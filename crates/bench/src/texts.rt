@@ -1,11 +1,11 @@
 //! Megabytes a second of the reader of trees, on design texts of any length that are made here.
 //! They are places with quoted names and nets with their pins; their words are as long as those of real designs.
 
+use crate::told::Watch;
 use dsn_tree::read_tree;
 use std::alloc::{AllocError, Global};
 use std::io;
 use std::rt::Runtime;
-use std::time::Instant;
 
 /// Adds places until the text is about so long.
 fn add_places(alloc: Global, text: &mut String, bytes: usize) -> Result<(), AllocError> {
@@ -54,21 +54,14 @@ fn reads(alloc: Global, text: &str) -> bool {
     }
 }
 
-/// Whether the text was read, and in how many microseconds.
-fn micros_of<R: Runtime>(rt: &R, alloc: Global, text: &str) -> io::Result<(bool, u128)> {
-    let start = Instant::now(rt)?;
-    let read = reads(alloc, text);
-    Ok((read, start.elapsed(rt)?.as_micros()))
-}
-
 /// Reads the text five times, and tells the time and the speed at best.
 fn tell_rate<R: Runtime>(rt: &R, alloc: Global, text: &str) -> io::Result<()> {
     let mut best = u128::MAX;
     let mut all_read = true;
     for _ in 0..5 {
-        let (read, micros) = micros_of(rt, alloc, text)?;
-        best = best.min(micros);
-        all_read = all_read && read;
+        let watch = Watch::start(rt);
+        all_read = reads(alloc, text) && all_read;
+        best = best.min(watch.nanos(rt) / 1000);
     }
     let bytes = text.len();
     let rate = bytes as u128 / best.max(1);

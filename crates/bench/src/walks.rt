@@ -5,12 +5,12 @@ ghost use Rattle.std.specs.Prelude.{◌≡◌, ◌<◌, length};
 
 use crate::cells::{Cells, cells_sound};
 use crate::numbers::Numbers;
+use crate::told::Watch;
 use geo_kernel::List;
 use route_lattice::{Found, Move, Moves};
 use std::alloc::{AllocError, Global};
 use std::io;
 use std::rt::Runtime;
-use std::time::Instant;
 use wave_search::{Heading, NoBound, NoTies, Search, Ties, heading_of};
 
 /// What walks cost together, and how often they turn.
@@ -119,33 +119,27 @@ fn among<T: Ties>(alloc: Global, cells: &Cells, ties: &T, pairs: u32) -> Result<
     Ok(sums)
 }
 
-/// Says what walks among cells cost and how often they turn.
-fn say_turns<R: Runtime>(
-    rt: &R,
-    alloc: Global,
-    cells: &Cells,
-    side: u32,
-    walls: u32,
-) -> io::Result<()> {
-    let plain = among(alloc, cells, &NoTies, 100)?;
-    let tied = among(alloc, cells, &FewTurns, 100)?;
+/// Says what walks cost together and how often they turn, by a rule of ties.
+fn say_sums<R: Runtime>(rt: &R, rule: &str, sums: Sums) -> io::Result<()> {
     let Sums {
         walks,
         price,
         turns,
-    } = plain;
-    let fewest = tied.turns;
-    let tied_price = tied.price;
-    println!(rt;
-        "{side} x {side} cells, {walls} walls in a hundred: {walks} walks of price {price} turn {turns} times, \
-        and by the rule, at price {tied_price}, {fewest} times"
-    )
+    } = sums;
+    println!(rt; "{rule}: {walks} walks of price {price} turn {turns} times")
+}
+
+/// Says what walks among cells cost and how often they turn.
+fn say_turns<R: Runtime>(rt: &R, alloc: Global, cells: &Cells) -> io::Result<()> {
+    say_sums(rt, "no rule", among(alloc, cells, &NoTies, 100)?)?;
+    say_sums(rt, "few turns", among(alloc, cells, &FewTurns, 100)?)
 }
 
 /// Tells of walks among cells, of which so many in a hundred are walls.
 fn tell_turns_among<R: Runtime>(rt: &R, alloc: Global, side: u32, walls: u32) -> io::Result<()> {
+    println!(rt; "{side} x {side} cells, {walls} walls in a hundred")?;
     match Cells::square(alloc, side, walls)? {
-        Some(cells) => say_turns(rt, alloc, &cells, side, walls),
+        Some(cells) => say_turns(rt, alloc, &cells),
         None => Ok(()),
     }
 }
@@ -182,17 +176,17 @@ fn second_nanos<R: Runtime, T: Ties>(
     ties: &T,
     from: u32,
     to: u32,
-) -> io::Result<(u128, bool)>
+) -> (u128, bool)
     requires size { search.old ≡ length cells.now.prices }
     requires from { from < length cells.now.prices }
 {
     let first = is_walk(alloc, search, cells, ties, from, to);
-    let start = Instant::now(rt)?;
+    let watch = Watch::start(rt);
     let second = is_walk(alloc, search, cells, ties, from, to);
-    Ok((start.elapsed(rt)?.as_nanos(), first && second))
+    (watch.nanos(rt), first && second)
 }
 
-/// The same in memory of its own, which the first search has written.
+/// The same in memory of its own, which the first search has written; none where that is wanting.
 fn nanos_between<R: Runtime, T: Ties>(
     rt: &R,
     alloc: Global,
@@ -200,7 +194,7 @@ fn nanos_between<R: Runtime, T: Ties>(
     ties: &T,
     from: u32,
     to: u32,
-) -> io::Result<(u128, bool)>
+) -> (u128, bool)
     requires { from < length cells.now.prices }
 {
     match Search::new(alloc, cells.count()) {
@@ -208,27 +202,30 @@ fn nanos_between<R: Runtime, T: Ties>(
             let mut search = memory;
             second_nanos(rt, alloc, &mut search, cells, ties, from, to)
         }
-        Err(e) => Err(e.into()),
+        Err(_) => (0, false),
     }
 }
 
-/// Says what a search on an open square took.
-fn say_speed<R: Runtime>(
+/// Says how many nodes a second a search visits on an open square of cells, corner to corner, by a rule of ties.
+fn say_speed<R: Runtime, T: Ties>(
     rt: &R,
+    alloc: Global,
+    cells: &Cells,
+    ties: &T,
     side: u32,
-    words: &str,
-    count: u32,
-    nanos: u128,
-    is_found: bool,
 ) -> io::Result<()> {
+    let count = cells.count();
+    let from = side.wrapping_add(1);
+    if from >= count {
+        return Ok(());
+    }
+    let (nanos, is_found) = nanos_between(rt, alloc, cells, ties, from, count - 1 - from);
     let speed = u128::from(count) * 1_000_000_000 / nanos.max(1);
     let micros = nanos / 1000;
-    println!(rt;
-        "{side} x {side} open cells, {words}, found {is_found}: {count} nodes in {micros} us, {speed} a second"
-    )
+    println!(rt; "found {is_found}: {count} nodes in {micros} us, {speed} a second")
 }
 
-/// Tells how many nodes a second a search visits on an open square, corner to corner, by a rule of ties or without.
+/// Tells how many nodes a second a search visits on an open square, by a rule of ties or without.
 fn tell_speed<R: Runtime, T: Ties>(
     rt: &R,
     alloc: Global,
@@ -236,17 +233,11 @@ fn tell_speed<R: Runtime, T: Ties>(
     side: u32,
     words: &str,
 ) -> io::Result<()> {
-    let Some(cells) = Cells::square(alloc, side, 0)? else {
-        return Ok(());
-    };
-    let count = cells.count();
-    let from = side.wrapping_add(1);
-    if from >= count {
-        return Ok(());
+    println!(rt; "{side} x {side} open cells, {words}")?;
+    match Cells::square(alloc, side, 0)? {
+        Some(cells) => say_speed(rt, alloc, &cells, ties, side),
+        None => Ok(()),
     }
-    let last = count - 1 - from;
-    let (nanos, is_found) = nanos_between(rt, alloc, &cells, ties, from, last)?;
-    say_speed(rt, side, words, count, nanos, is_found)
 }
 
 /// Tells how often walks turn among walls.

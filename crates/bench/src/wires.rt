@@ -11,7 +11,7 @@ use pcb_model::{Design, Item, PlainCopper, copy_item};
 use std::alloc::{AllocError, Global};
 
 /// How many wires there are.
-pub const WIRES: u32 = 1_000;
+const WIRES: u32 = 1_000;
 
 /// The board up to its wires.
 const HEAD: &str = "(pcb wires (resolution um 10)

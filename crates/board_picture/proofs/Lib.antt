@@ -2,3 +2,4 @@ mod Boxes
 mod Digits
 mod Layers
 mod Lines
+mod Parts

@@ -1,9 +1,11 @@
 -- How a picture spells lengths, points and names.
 -- Source: Scalable Vector Graphics 1.1, numbers and path data; XML 1.0, predefined entities.
 use Rattle.std.specs.Prelude.{ℕ, ℤ, pos, unsigned_abs, int_lt, nat_lt, ◌==◌, if◌then◌else◌, List, [], ◌∷◌, ◌++◌}
-use Rattle.std.specs.Prelude.{flat_map, codes}
+use Rattle.std.specs.Prelude.{flat_map, codes, decimal}
 use Rattle.geo_kernel.specs.declared.point.Point.{Point}
 use Rattle.ses_writer.specs.Words.{degrees}
+use Rattle.board_picture.specs.declared.words.Part.{Part}
+use Rattle.board_picture.specs.declared.words.Part.TheVariants.{Text, Name, Number, Length, Wide, At, Line}
 
 -- ---- lengths, in mm
 
@@ -32,3 +34,24 @@ escaped_byte b =
 
 abbrev pub escaped : List ℕ → List ℕ
 escaped name = flat_map escaped_byte name
+
+-- ---- what private functions put at once
+
+abbrev pub part_word : Part → List ℕ
+part_word (Text text) = text.now
+part_word (Name name) = escaped name.now
+part_word (Number n) = decimal n
+part_word (Length nm) = length_word nm
+part_word (Wide nm) = length_word nm
+part_word (At p) = point_words p
+part_word (Line points) = flat_map point_words points.now
+
+-- what is there, and parts behind it
+abbrev pub words_behind : List ℕ → List Part → List ℕ
+words_behind before [] = before
+words_behind before (part ∷ parts) = words_behind (before ++ part_word part) parts
+
+-- parts, one after another
+abbrev pub part_words : List Part → List ℕ
+part_words [] = []
+part_words (part ∷ parts) = words_behind (part_word part) parts

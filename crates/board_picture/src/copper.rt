@@ -2,16 +2,15 @@
 
 ghost use Rattle.std.specs.Prelude.{◌≡◌, OnOk, flat_map, length};
 ghost use Rattle.ses_writer.specs.Words.{Appends};
-ghost use Rattle.board_picture.specs.Words.{escaped};
 ghost use Rattle.board_picture.specs.Shapes.{wire_on, land_on, through_shapes, keepout_shapes, hole_of};
 ghost use Rattle.board_picture.specs.Picture.{keepout_group, layer_name, layer_group, layer_groups};
 ghost use Rattle.board_picture.specs.Picture.{through_group, hole_group, copper_part};
 
-use crate::paint::{put_paint, put_through_paint};
+use crate::paint::put_paint;
 use crate::shapes::{
     is_keepout, is_land, is_through, is_wire, put_broad_pieces, put_hole, put_pieces, put_pieces_on,
 };
-use crate::words::put_escaped;
+use crate::words::{Part, put_parts};
 use pcb_model::{Design, Item};
 use ses_writer::put;
 use std::alloc::AllocError;
@@ -45,8 +44,7 @@ fn put_keepout_group(out: &mut Vec<u8>, items: &[Item]) -> Result<(), AllocError
         b"<g class=\"keepouts\" fill=\"url(#hatch)\" stroke=\"url(#hatch)\">\n",
     )?;
     put_keepouts(out, items)?;
-    put(out, b"</g>\n")?;
-    Ok(())
+    put(out, b"</g>\n")
 }
 
 // ---- layers
@@ -87,12 +85,12 @@ fn put_lands(out: &mut Vec<u8>, layer: usize, items: &[Item]) -> Result<(), Allo
     Ok(())
 }
 
-fn put_layer_name(out: &mut Vec<u8>, d: &Design, layer: usize) -> Result<(), AllocError>
-    ensures { OnOk result (Appends out.old.items out.new.items (escaped (layer_name d.now layer))) }
+fn layer_name(d: &Design, layer: usize) -> &[u8]
+    ensures { result.now ≡ layer_name d.now layer }
 {
     match d.layers.as_slice().get(layer) {
-        Some(l) => put_escaped(out, l.name.as_slice()),
-        None => Ok(()),
+        Some(l) => l.name.as_slice(),
+        None => &[],
     }
 }
 
@@ -105,15 +103,19 @@ fn put_layer_group(
 ) -> Result<(), AllocError>
     ensures { OnOk result (Appends out.old.items out.new.items (layer_group d.now items.now layer)) }
 {
-    put(out, b"<g id=\"")?;
-    put_layer_name(out, d, layer)?;
-    put(out, b"\"")?;
+    put_parts(
+        out,
+        &[
+            Part::Text(b"<g id=\""),
+            Part::Name(layer_name(d, layer)),
+            Part::Text(b"\""),
+        ],
+    )?;
     put_paint(out, layer)?;
     put(out, b">\n")?;
     put_wires(out, layer, items)?;
     put_lands(out, layer, items)?;
-    put(out, b"</g>\n")?;
-    Ok(())
+    put(out, b"</g>\n")
 }
 
 // From the last layer up to the first.
@@ -152,12 +154,12 @@ fn put_throughs(out: &mut Vec<u8>, items: &[Item]) -> Result<(), AllocError>
 fn put_through_group(out: &mut Vec<u8>, items: &[Item]) -> Result<(), AllocError>
     ensures { OnOk result (Appends out.old.items out.new.items (through_group items.now)) }
 {
-    put(out, b"<g class=\"through\"")?;
-    put_through_paint(out)?;
-    put(out, b">\n")?;
+    put(
+        out,
+        b"<g class=\"through\" fill=\"#000\" stroke=\"#000\" opacity=\"0.85\">\n",
+    )?;
     put_throughs(out, items)?;
-    put(out, b"</g>\n")?;
-    Ok(())
+    put(out, b"</g>\n")
 }
 
 fn put_holes(out: &mut Vec<u8>, d: &Design, items: &[Item]) -> Result<(), AllocError>
@@ -175,8 +177,7 @@ fn put_hole_group(out: &mut Vec<u8>, d: &Design, items: &[Item]) -> Result<(), A
 {
     put(out, b"<g class=\"holes\" fill=\"#fff\">\n")?;
     put_holes(out, d, items)?;
-    put(out, b"</g>\n")?;
-    Ok(())
+    put(out, b"</g>\n")
 }
 
 /// Keepouts, the layers, what lies on several of them, and then the holes.
@@ -187,6 +188,5 @@ pub(crate) fn put_copper(out: &mut Vec<u8>, d: &Design, items: &[Item]) -> Resul
     put_keepout_group(out, items)?;
     put_layer_groups(out, d, items)?;
     put_through_group(out, items)?;
-    put_hole_group(out, d, items)?;
-    Ok(())
+    put_hole_group(out, d, items)
 }

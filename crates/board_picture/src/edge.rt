@@ -7,7 +7,7 @@ ghost use Rattle.board_picture.specs.Picture.{bound_shape, edge_group, name_text
 use crate::open::OpenLine;
 use crate::shapes::put_loops;
 use crate::sheet::Sheet;
-use crate::words::{put_escaped, put_length, put_point};
+use crate::words::{Part, put_parts};
 use geo_kernel::{List, Point};
 use pcb_model::{Component, Design};
 use ses_writer::put;
@@ -38,15 +38,16 @@ fn put_bounds(out: &mut Vec<u8>, bounds: &[List<List<Point>>]) -> Result<(), All
 pub(crate) fn put_edge(out: &mut Vec<u8>, s: Sheet, d: &Design) -> Result<(), AllocError>
     ensures { OnOk result (Appends out.old.items out.new.items (edge_group s d.now)) }
 {
-    put(
+    put_parts(
         out,
-        b"<g class=\"edge\" fill=\"none\" stroke=\"#000\" stroke-width=\"",
+        &[
+            Part::Text(b"<g class=\"edge\" fill=\"none\" stroke=\"#000\" stroke-width=\""),
+            Part::Length(s.unit / 10),
+            Part::Text(b"\">\n"),
+        ],
     )?;
-    put_length(out, s.unit / 10)?;
-    put(out, b"\">\n")?;
     put_bounds(out, d.bounds.as_slice())?;
-    put(out, b"</g>\n")?;
-    Ok(())
+    put(out, b"</g>\n")
 }
 
 // ---- names
@@ -55,12 +56,16 @@ pub(crate) fn put_edge(out: &mut Vec<u8>, s: Sheet, d: &Design) -> Result<(), Al
 fn put_name(out: &mut Vec<u8>, c: &Component) -> Result<(), AllocError>
     ensures { OnOk result (Appends out.old.items out.new.items (name_text c.now)) }
 {
-    put(out, b"<text transform=\"matrix(1 0 0 -1")?;
-    put_point(out, &c.at)?;
-    put(out, b")\">")?;
-    put_escaped(out, c.name.as_slice())?;
-    put(out, b"</text>\n")?;
-    Ok(())
+    put_parts(
+        out,
+        &[
+            Part::Text(b"<text transform=\"matrix(1 0 0 -1"),
+            Part::At(c.at),
+            Part::Text(b")\">"),
+            Part::Name(c.name.as_slice()),
+            Part::Text(b"</text>\n"),
+        ],
+    )
 }
 
 fn put_name_texts(out: &mut Vec<u8>, components: &[Component]) -> Result<(), AllocError>
@@ -77,21 +82,23 @@ fn put_name_texts(out: &mut Vec<u8>, components: &[Component]) -> Result<(), All
 pub(crate) fn put_names(out: &mut Vec<u8>, s: Sheet, d: &Design) -> Result<(), AllocError>
     ensures { OnOk result (Appends out.old.items out.new.items (name_group s d.now)) }
 {
-    put(out, b"<g class=\"names\" transform=\"translate(-")?;
-    put_length(out, s.unit / 3)?;
-    put(out, b" ")?;
-    put_length(out, s.unit / 3)?;
-    put(out, b")\" font-size=\"")?;
-    put_length(out, s.unit / 2)?;
-    put(
+    let third = Part::Length(s.unit / 3);
+    put_parts(
         out,
-        b"\" text-anchor=\"end\" stroke=\"#fff\" stroke-width=\"",
+        &[
+            Part::Text(b"<g class=\"names\" transform=\"translate(-"),
+            third,
+            Part::Text(b" "),
+            third,
+            Part::Text(b")\" font-size=\""),
+            Part::Length(s.unit / 2),
+            Part::Text(b"\" text-anchor=\"end\" stroke=\"#fff\" stroke-width=\""),
+            Part::Length(s.unit / 10),
+            Part::Text(b"\" paint-order=\"stroke\">\n"),
+        ],
     )?;
-    put_length(out, s.unit / 10)?;
-    put(out, b"\" paint-order=\"stroke\">\n")?;
     put_name_texts(out, d.components.as_slice())?;
-    put(out, b"</g>\n")?;
-    Ok(())
+    put(out, b"</g>\n")
 }
 
 // ---- open connections
@@ -100,10 +107,15 @@ pub(crate) fn put_names(out: &mut Vec<u8>, s: Sheet, d: &Design) -> Result<(), A
 fn put_line(out: &mut Vec<u8>, line: &OpenLine) -> Result<(), AllocError>
     ensures { OnOk result (Appends out.old.items out.new.items (open_shape line.now)) }
 {
-    put(out, b"<path d=\"M")?;
-    put_point(out, &line.from)?;
-    put_point(out, &line.to)?;
-    put(out, b"\"/>\n")
+    put_parts(
+        out,
+        &[
+            Part::Text(b"<path d=\"M"),
+            Part::At(line.from),
+            Part::At(line.to),
+            Part::Text(b"\"/>\n"),
+        ],
+    )
 }
 
 fn put_lines(out: &mut Vec<u8>, lines: &[OpenLine]) -> Result<(), AllocError>
@@ -120,15 +132,16 @@ fn put_lines(out: &mut Vec<u8>, lines: &[OpenLine]) -> Result<(), AllocError>
 pub(crate) fn put_open(out: &mut Vec<u8>, s: Sheet, lines: &[OpenLine]) -> Result<(), AllocError>
     ensures { OnOk result (Appends out.old.items out.new.items (open_group s lines.now)) }
 {
-    put(
+    put_parts(
         out,
-        b"<g class=\"open\" fill=\"none\" stroke=\"#E0007A\" stroke-width=\"",
+        &[
+            Part::Text(b"<g class=\"open\" fill=\"none\" stroke=\"#E0007A\" stroke-width=\""),
+            Part::Length(s.unit / 16),
+            Part::Text(b"\" stroke-dasharray=\""),
+            Part::Length(s.unit / 2),
+            Part::Text(b"\">\n"),
+        ],
     )?;
-    put_length(out, s.unit / 16)?;
-    put(out, b"\" stroke-dasharray=\"")?;
-    put_length(out, s.unit / 2)?;
-    put(out, b"\">\n")?;
     put_lines(out, lines)?;
-    put(out, b"</g>\n")?;
-    Ok(())
+    put(out, b"</g>\n")
 }

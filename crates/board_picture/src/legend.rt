@@ -1,67 +1,64 @@
 //! The legend, right of the board: the layers, the marks, counts and the board's size.
 //! Its rows are a unit of the sheet high, and count from 0.
 
-ghost use Rattle.std.specs.Prelude.{◌≡◌, ◌≤◌, ◌^◌, OnOk, length};
+ghost use Rattle.std.specs.Prelude.{◌≡◌, ◌≤◌, ◌^◌, ◌++◌, OnOk, codes, length};
 ghost use Rattle.ses_writer.specs.Words.{Appends};
-ghost use Rattle.board_picture.specs.Legend.{row_head, count_row, swatch_head, layer_row, layer_rows, through_row};
+ghost use Rattle.board_picture.specs.Legend.{count_row, layer_row, layer_rows, through_row};
 ghost use Rattle.board_picture.specs.Legend.{keepout_row, open_row, size_row, has_through, is_hatched, has_keepout};
 ghost use Rattle.board_picture.specs.Legend.{through_rows, keepout_rows, row_if, mark_count, mark_rows};
 ghost use Rattle.board_picture.specs.Legend.{wire_count, via_count, count_rows};
 ghost use Rattle.board_picture.specs.Legend.{legend_head, legend_part};
 
 use crate::open::OpenLine;
-use crate::paint::{put_paint, put_through_paint};
+use crate::paint::put_paint;
 use crate::shapes::{have_breadth, is_keepout, is_through, is_via, is_wire};
 use crate::sheet::{Sheet, legend_left};
-use crate::words::{put_escaped, put_length, put_wide, put_wide_length};
+use crate::words::{Part, put_parts};
 use pcb_model::{BoardLayer, Design, Item};
-use ses_writer::{put, put_whole};
 use std::alloc::AllocError;
 
 // ---- rows
 
-#[tactic(auto, unfolding(crate::specs::Legend::row_head))]
-fn put_row_head(out: &mut Vec<u8>, row: u128) -> Result<(), AllocError>
-    ensures { OnOk result (Appends out.old.items out.new.items (row_head row)) }
-{
-    put(out, b"<text x=\"2.5\" y=\"")?;
-    put_wide(out, row)?;
-    put(out, b".8\">")?;
-    Ok(())
-}
-
-#[tactic(auto, unfolding(crate::specs::Legend::count_row))]
+#[tactic(auto, unfolding(crate::specs::Legend::count_row, crate::specs::Legend::row_head))]
 fn put_count_row(out: &mut Vec<u8>, row: u128, word: &[u8], n: u64) -> Result<(), AllocError>
     ensures { OnOk result (Appends out.old.items out.new.items (count_row row word.now n)) }
 {
-    put_row_head(out, row)?;
-    put(out, word)?;
-    put_whole(out, n)?;
-    put(out, b"</text>\n")
+    put_parts(
+        out,
+        &[
+            Part::Text(b"<text x=\"2.5\" y=\""),
+            Part::Number(row),
+            Part::Text(b".8\">"),
+            Part::Text(word),
+            Part::Number(n as u128),
+            Part::Text(b"</text>\n"),
+        ],
+    )
 }
 
-#[tactic(auto, unfolding(crate::specs::Legend::swatch_head))]
-fn put_swatch_head(out: &mut Vec<u8>, row: u128) -> Result<(), AllocError>
-    ensures { OnOk result (Appends out.old.items out.new.items (swatch_head row)) }
-{
-    put(out, b"<path d=\"M0 ")?;
-    put_wide(out, row)?;
-    put(out, b".5h2\" stroke-width=\"")?;
-    Ok(())
-}
-
-#[tactic(auto, unfolding(crate::specs::Legend::layer_row))]
 fn put_layer_row(out: &mut Vec<u8>, row: usize, layer: &BoardLayer) -> Result<(), AllocError>
     ensures { OnOk result (Appends out.old.items out.new.items (layer_row (row, layer.now))) }
 {
-    put_swatch_head(out, row as u128)?;
-    put(out, b"0.6\"")?;
+    let number = Part::Number(row as u128);
+    put_parts(
+        out,
+        &[
+            Part::Text(b"<path d=\"M0 "),
+            number,
+            Part::Text(b".5h2\" stroke-width=\"0.6\""),
+        ],
+    )?;
     put_paint(out, row)?;
-    put(out, b"/>")?;
-    put_row_head(out, row as u128)?;
-    put_escaped(out, layer.name.as_slice())?;
-    put(out, b"</text>\n")?;
-    Ok(())
+    put_parts(
+        out,
+        &[
+            Part::Text(b"/><text x=\"2.5\" y=\""),
+            number,
+            Part::Text(b".8\">"),
+            Part::Name(layer.name.as_slice()),
+            Part::Text(b"</text>\n"),
+        ],
+    )
 }
 
 fn put_layer_rows(out: &mut Vec<u8>, d: &Design) -> Result<(), AllocError>
@@ -73,49 +70,72 @@ fn put_layer_rows(out: &mut Vec<u8>, d: &Design) -> Result<(), AllocError>
     Ok(())
 }
 
-#[tactic(auto, unfolding(crate::specs::Legend::through_row))]
 fn put_through_row(out: &mut Vec<u8>, row: u128) -> Result<(), AllocError>
     ensures { OnOk result (Appends out.old.items out.new.items (through_row row)) }
 {
-    put_swatch_head(out, row)?;
-    put(out, b"0.6\"")?;
-    put_through_paint(out)?;
-    put(out, b"/>")?;
-    put_row_head(out, row)?;
-    put(out, b"through pads and vias</text>\n")?;
-    Ok(())
+    let number = Part::Number(row);
+    put_parts(
+        out,
+        &[
+            Part::Text(b"<path d=\"M0 "),
+            number,
+            Part::Text(
+                b".5h2\" stroke-width=\"0.6\" fill=\"#000\" stroke=\"#000\" opacity=\"0.85\"/><text x=\"2.5\" y=\"",
+            ),
+            number,
+            Part::Text(b".8\">through pads and vias</text>\n"),
+        ],
+    )
 }
 
-#[tactic(auto, unfolding(crate::specs::Legend::keepout_row))]
 fn put_keepout_row(out: &mut Vec<u8>, row: u128) -> Result<(), AllocError>
     ensures { OnOk result (Appends out.old.items out.new.items (keepout_row row)) }
 {
-    put_swatch_head(out, row)?;
-    put(out, b"0.6\" stroke=\"url(#hatch)\"/>")?;
-    put_row_head(out, row)?;
-    put(out, b"keepouts</text>\n")?;
-    Ok(())
+    let number = Part::Number(row);
+    put_parts(
+        out,
+        &[
+            Part::Text(b"<path d=\"M0 "),
+            number,
+            Part::Text(b".5h2\" stroke-width=\"0.6\" stroke=\"url(#hatch)\"/><text x=\"2.5\" y=\""),
+            number,
+            Part::Text(b".8\">keepouts</text>\n"),
+        ],
+    )
 }
 
-#[tactic(auto, unfolding(crate::specs::Legend::open_row))]
 fn put_open_row(out: &mut Vec<u8>, row: u128, count: u64) -> Result<(), AllocError>
     ensures { OnOk result (Appends out.old.items out.new.items (open_row row count)) }
 {
-    put_swatch_head(out, row)?;
-    put(out, b"0.06\" stroke=\"#E0007A\" stroke-dasharray=\"0.5\"/>")?;
+    put_parts(
+        out,
+        &[
+            Part::Text(b"<path d=\"M0 "),
+            Part::Number(row),
+            Part::Text(b".5h2\" stroke-width=\""),
+            Part::Text(b"0.06\" stroke=\"#E0007A\" stroke-dasharray=\"0.5\"/>"),
+        ],
+    )?;
     put_count_row(out, row, b"open ", count)
 }
 
-#[tactic(auto, unfolding(crate::specs::Legend::size_row))]
+// The board's size, and the end of the legend.
 fn put_size_row(out: &mut Vec<u8>, row: u128, s: Sheet) -> Result<(), AllocError>
-    ensures { OnOk result (Appends out.old.items out.new.items (size_row row s)) }
+    ensures { OnOk result (Appends out.old.items out.new.items (size_row row s ++ codes "</g>\n")) }
 {
-    put_row_head(out, row)?;
-    put_length(out, s.wide)?;
-    put(out, b" x ")?;
-    put_length(out, s.high)?;
-    put(out, b" mm</text>\n")?;
-    Ok(())
+    put_parts(
+        out,
+        &[
+            Part::Text(b"<text x=\"2.5\" y=\""),
+            Part::Number(row),
+            Part::Text(b".8\">"),
+            Part::Length(s.wide),
+            Part::Text(b" x "),
+            Part::Length(s.high),
+            Part::Text(b" mm</text>\n"),
+            Part::Text(b"</g>\n"),
+        ],
+    )
 }
 
 // ---- rows of what is there
@@ -215,14 +235,19 @@ fn put_count_rows(
 fn put_head(out: &mut Vec<u8>, s: Sheet) -> Result<(), AllocError>
     ensures { OnOk result (Appends out.old.items out.new.items (legend_head s)) }
 {
-    put(out, b"<g transform=\"translate(")?;
-    put_wide_length(out, legend_left(s))?;
-    put(out, b" ")?;
-    put_length(out, s.unit)?;
-    put(out, b") scale(")?;
-    put_length(out, s.unit)?;
-    put(out, b")\" font-size=\"0.8\">\n")?;
-    Ok(())
+    let unit = Part::Length(s.unit);
+    put_parts(
+        out,
+        &[
+            Part::Text(b"<g transform=\"translate("),
+            Part::Wide(legend_left(s)),
+            Part::Text(b" "),
+            unit,
+            Part::Text(b") scale("),
+            unit,
+            Part::Text(b")\" font-size=\"0.8\">\n"),
+        ],
+    )
 }
 
 /// The legend.
@@ -243,7 +268,5 @@ pub(crate) fn put_legend(
     put_mark_rows(out, layers, items)?;
     put_open_row(out, row, lines.len() as u64)?;
     put_count_rows(out, row + 1, d, items)?;
-    put_size_row(out, row + 4, s)?;
-    put(out, b"</g>\n")?;
-    Ok(())
+    put_size_row(out, row + 4, s)
 }

@@ -12,7 +12,7 @@ use crate::edge::{put_edge, put_names, put_open};
 use crate::legend::put_legend;
 use crate::open::OpenLine;
 use crate::sheet::{Sheet, sheet_height, sheet_of, sheet_width, shift_x, shift_y};
-use crate::words::{put_escaped, put_mm, put_wide_length};
+use crate::words::{Part, put_mm, put_parts};
 use pcb_model::{Design, Item};
 use ses_writer::put;
 use std::alloc::{AllocError, Global};
@@ -36,18 +36,19 @@ fn put_head(out: &mut Vec<u8>, s: Sheet, d: &Design) -> Result<(), AllocError>
     requires { s.unit ≤ 2 ^ 59 }
     ensures { OnOk result (Appends out.old.items out.new.items (head_part s d.now)) }
 {
-    put(
+    put_parts(
         out,
-        b"<svg xmlns=\"http://www.w3.org/2000/svg\" viewBox=\"0 0 ",
+        &[
+            Part::Text(b"<svg xmlns=\"http://www.w3.org/2000/svg\" viewBox=\"0 0 "),
+            Part::Wide(sheet_width(s)),
+            Part::Text(b" "),
+            Part::Wide(sheet_height(s, d)),
+            Part::Text(b"\" font-family=\"sans-serif\">\n<title>"),
+            Part::Name(d.name.as_slice()),
+            Part::Text(b"</title>\n"),
+        ],
     )?;
-    put_wide_length(out, sheet_width(s))?;
-    put(out, b" ")?;
-    put_wide_length(out, sheet_height(s, d))?;
-    put(out, b"\" font-family=\"sans-serif\">\n<title>")?;
-    put_escaped(out, d.name.as_slice())?;
-    put(out, b"</title>\n")?;
-    put_ground(out)?;
-    Ok(())
+    put_ground(out)
 }
 
 // ---- the board
@@ -72,12 +73,10 @@ fn put_board_head(out: &mut Vec<u8>, s: Sheet) -> Result<(), AllocError>
     put_shift_x(out, s)?;
     put(out, b" ")?;
     put_shift_y(out, s)?;
-    put(out, b") scale(1 -1)\" fill-rule=\"evenodd\"")?;
     put(
         out,
-        b" stroke-linecap=\"round\" stroke-linejoin=\"round\">\n",
-    )?;
-    Ok(())
+        b") scale(1 -1)\" fill-rule=\"evenodd\" stroke-linecap=\"round\" stroke-linejoin=\"round\">\n",
+    )
 }
 
 #[tactic(auto, unfolding(crate::specs::Picture::board_part))]
@@ -95,8 +94,7 @@ fn put_board(
     put_edge(out, s, d)?;
     put_names(out, s, d)?;
     put_open(out, s, lines)?;
-    put(out, b"</g>\n")?;
-    Ok(())
+    put(out, b"</g>\n")
 }
 
 /// The picture's bytes: the design's edge, layers and names, what the items are made of, and the open connections

@@ -9,7 +9,7 @@ ghost use Rattle.board_picture.specs.Shapes.{is_through, is_area, has_breadth, h
 ghost use Rattle.board_picture.specs.Shapes.{hole_dot, hole_at, hole_of};
 
 use crate::sheet::narrow_side;
-use crate::words::{put_length, put_point, put_points};
+use crate::words::{Part, put_length, put_parts};
 use geo_kernel::{List, Point, Spine};
 use pcb_model::{Design, Item, Metal, Piece};
 use ses_writer::put;
@@ -19,9 +19,10 @@ use std::alloc::AllocError;
 fn put_loop(out: &mut Vec<u8>, points: &[Point]) -> Result<(), AllocError>
     ensures { OnOk result (Appends out.old.items out.new.items (loop_words points.now)) }
 {
-    put(out, b"M")?;
-    put_points(out, points)?;
-    put(out, b"z")
+    put_parts(
+        out,
+        &[Part::Text(b"M"), Part::Line(points), Part::Text(b"z")],
+    )
 }
 
 /// The loops of an area.
@@ -40,9 +41,14 @@ fn put_spine(out: &mut Vec<u8>, spine: &Spine) -> Result<(), AllocError>
 {
     match spine {
         Spine::Chain(points) => {
-            put(out, b"\" fill=\"none\" d=\"M")?;
-            put_points(out, points.as_slice())?;
-            put(out, b"h0\"/>\n")
+            put_parts(
+                out,
+                &[
+                    Part::Text(b"\" fill=\"none\" d=\"M"),
+                    Part::Line(points.as_slice()),
+                    Part::Text(b"h0\"/>\n"),
+                ],
+            )
         }
         Spine::Area(loops) => {
             put(out, b"\" d=\"")?;
@@ -58,8 +64,7 @@ fn put_piece(out: &mut Vec<u8>, c: &Piece) -> Result<(), AllocError>
 {
     put(out, b"<path stroke-width=\"")?;
     put_length(out, c.width)?;
-    put_spine(out, &c.spine)?;
-    Ok(())
+    put_spine(out, &c.spine)
 }
 
 /// All pieces.
@@ -204,12 +209,16 @@ fn hole_radius(pieces: &[Piece]) -> u64
 fn put_dot(out: &mut Vec<u8>, radius: u64, p: &Point) -> Result<(), AllocError>
     ensures { OnOk result (Appends out.old.items out.new.items (hole_dot radius p.now)) }
 {
-    put(out, b"<circle r=\"")?;
-    put_length(out, radius)?;
-    put(out, b"\" transform=\"translate(")?;
-    put_point(out, p)?;
-    put(out, b")\"/>\n")?;
-    Ok(())
+    put_parts(
+        out,
+        &[
+            Part::Text(b"<circle r=\""),
+            Part::Length(radius),
+            Part::Text(b"\" transform=\"translate("),
+            Part::At(*p),
+            Part::Text(b")\"/>\n"),
+        ],
+    )
 }
 
 fn put_hole_at(out: &mut Vec<u8>, d: &Design, radius: u64, metal: &Metal) -> Result<(), AllocError>

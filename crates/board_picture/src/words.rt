@@ -4,6 +4,7 @@
 ghost use Rattle.std.specs.Prelude.{◌≡◌, ◌<◌, ◌≤◌, All, OnOk, decimal, flat_map};
 ghost use Rattle.ses_writer.specs.Words.{Appends, decimals, fraction, degrees};
 ghost use Rattle.board_picture.specs.Words.{length_word, sign_word, mm_word, point_words, escaped_byte, escaped};
+ghost use Rattle.board_picture.specs.Words.{part_word, part_words};
 
 use geo_kernel::Point;
 use itoa::Buffer;
@@ -11,7 +12,7 @@ use ses_writer::put;
 use std::alloc::AllocError;
 
 /// A number, in decimal digits.
-pub(crate) fn put_wide(out: &mut Vec<u8>, n: u128) -> Result<(), AllocError>
+fn put_wide(out: &mut Vec<u8>, n: u128) -> Result<(), AllocError>
     ensures { OnOk result (Appends out.old.items out.new.items (decimal n)) }
 {
     let mut buffer = Buffer::new();
@@ -43,7 +44,7 @@ fn put_fraction(out: &mut Vec<u8>, nm: u128) -> Result<(), AllocError>
 
 /// A length of up to 128 bits in nm, printed in mm.
 #[tactic(auto, unfolding(ses_writer::specs::Words::degrees))]
-pub(crate) fn put_wide_length(out: &mut Vec<u8>, nm: u128) -> Result<(), AllocError>
+fn put_wide_length(out: &mut Vec<u8>, nm: u128) -> Result<(), AllocError>
     ensures { OnOk result (Appends out.old.items out.new.items (length_word nm)) }
 {
     put_wide(out, nm / 1_000_000)?;
@@ -83,7 +84,7 @@ fn put_coordinate(out: &mut Vec<u8>, nm: i64) -> Result<(), AllocError>
 
 /// A point, with a blank before each coordinate.
 #[tactic(auto, unfolding(crate::specs::Words::point_words))]
-pub(crate) fn put_point(out: &mut Vec<u8>, p: &Point) -> Result<(), AllocError>
+fn put_point(out: &mut Vec<u8>, p: &Point) -> Result<(), AllocError>
     ensures { OnOk result (Appends out.old.items out.new.items (point_words p.now)) }
 {
     put(out, b" ")?;
@@ -124,11 +125,49 @@ fn put_byte(out: &mut Vec<u8>, b: u8) -> Result<(), AllocError>
 }
 
 /// A name, with what XML reads as its own marks escaped.
-pub(crate) fn put_escaped(out: &mut Vec<u8>, name: &[u8]) -> Result<(), AllocError>
+fn put_escaped(out: &mut Vec<u8>, name: &[u8]) -> Result<(), AllocError>
     ensures { OnOk result (Appends out.old.items out.new.items (escaped name.now)) }
 {
     for b in name {
         put_byte(out, *b)?;
+    }
+    Ok(())
+}
+
+// ---- several parts at once
+
+/// A part of a picture's text: bytes as they are, a name to be escaped, a number, a length, or points.
+#[derive(Clone, Copy)]
+pub(crate) enum Part<'a> {
+    Text(&'a [u8]),
+    Name(&'a [u8]),
+    Number(u128),
+    Length(u64),
+    Wide(u128),
+    At(Point),
+    Line(&'a [Point]),
+}
+
+fn put_part(out: &mut Vec<u8>, part: Part) -> Result<(), AllocError>
+    ensures { OnOk result (Appends out.old.items out.new.items (part_word part.entry)) }
+{
+    match part {
+        Part::Text(text) => put(out, text),
+        Part::Name(name) => put_escaped(out, name),
+        Part::Number(n) => put_wide(out, n),
+        Part::Length(nm) => put_length(out, nm),
+        Part::Wide(nm) => put_wide_length(out, nm),
+        Part::At(p) => put_point(out, &p),
+        Part::Line(points) => put_points(out, points),
+    }
+}
+
+/// Parts, one after another.
+pub(crate) fn put_parts(out: &mut Vec<u8>, parts: &[Part]) -> Result<(), AllocError>
+    ensures { OnOk result (Appends out.old.items out.new.items (part_words parts.now)) }
+{
+    for part in parts {
+        put_part(out, *part)?;
     }
     Ok(())
 }

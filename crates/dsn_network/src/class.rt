@@ -64,11 +64,22 @@ fn vias_of(
     ensures value { IfOk result (λ v. v ≡ vias_of stacks.now lists.now) }
 {
     let words = words_in(alloc, lists, 1)?;
-    let vias = via_stacks(alloc, first, words.as_slice(), stacks)?;
+    let vias = match via_stacks(alloc, first, words.as_slice(), stacks) {
+        Ok(vias) => {
+            drop(words);
+            vias
+        }
+        Err(error) => {
+            drop(words);
+            return Err(error);
+        }
+    };
     if lists.len() == 0 {
-        return Ok(None);
+        drop(vias);
+        Ok(None)
+    } else {
+        Ok(Some(vias))
     }
-    Ok(Some(vias))
 }
 
 fn via_lists<'a>(alloc: Global, class: &'a Tree) -> Result<Trees<'a>, AllocError>

@@ -40,8 +40,19 @@ fn read_pins(
     ensures value { IfOk result (λ v. v ≡ net_pins pins.now.lib.now pins.now.placing.now tree.now) }
 {
     let words = refs_of(alloc, tree)?;
-    let named = read_refs(alloc, first, words.as_slice(), pins)?;
-    each_once(alloc, named.as_slice())
+    let named = match read_refs(alloc, first, words.as_slice(), pins) {
+        Ok(named) => {
+            drop(words);
+            named
+        }
+        Err(error) => {
+            drop(words);
+            return Err(error);
+        }
+    };
+    let once = each_once(alloc, named.as_slice());
+    drop(named);
+    once
 }
 
 // A net, and how many lists of its rules were passed over.

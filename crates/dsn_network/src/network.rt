@@ -148,42 +148,31 @@ fn classes_of(
     ensures notes { IfOk result (λ v. v.notes ≡ capped (rules_passed lists.now)) }
 {
     let stacks = names_of(alloc, lib.stacks.as_slice())?;
-    read_classes(alloc, first, lists, &stacks, scale)
+    let classes = read_classes(alloc, first, lists, &stacks, scale);
+    drop(stacks);
+    classes
 }
 
+// The nets and classes of a network, where `names` are those of its nets.
 #[tactic(auto, unfolding(crate::specs::Whole::refusals_of, crate::specs::Whole::value_of))]
-fn read_sections(
+fn parts_of(
     alloc: Global,
     first: &mut Option<Refusal>,
     parts: &Sections,
+    names: &NameIndex,
     scale: Scale,
     lib: &Library,
     placing: &Placing,
 ) -> Result<Network, AllocError>
+    requires { names.now ≡ names_at 1 parts.now.nets }
     ensures noted { OnOk result
         (first.new ≡ noted first.old
         (refusals_of scale.nm lib.now placing.now parts.now.networks parts.now.nets parts.now.classes)) }
     ensures value { IfOk result
         (λ v. v ≡ value_of scale.nm lib.now placing.now parts.now.networks parts.now.nets parts.now.classes) }
 {
-    let names = NameIndex::new(alloc, &parts.nets, 1)?;
-    let beside = match pass_over_network(alloc, first, parts, &names) {
-        Ok(beside) => beside,
-        Err(error) => {
-            drop(names);
-            return Err(error);
-        }
-    };
-    let Nets { nets, notes } = match nets_of(alloc, first, parts, &names, scale, lib, placing) {
-        Ok(nets) => {
-            drop(names);
-            nets
-        }
-        Err(error) => {
-            drop(names);
-            return Err(error);
-        }
-    };
+    let beside = pass_over_network(alloc, first, parts, names)?;
+    let Nets { nets, notes } = nets_of(alloc, first, parts, names, scale, lib, placing)?;
     let Classes {
         classes,
         notes: in_classes,
@@ -199,6 +188,26 @@ fn read_sections(
         classes,
         notes: beside.saturating_add(notes.saturating_add(in_classes)),
     })
+}
+
+fn read_sections(
+    alloc: Global,
+    first: &mut Option<Refusal>,
+    parts: &Sections,
+    scale: Scale,
+    lib: &Library,
+    placing: &Placing,
+) -> Result<Network, AllocError>
+    ensures noted { OnOk result
+        (first.new ≡ noted first.old
+        (refusals_of scale.nm lib.now placing.now parts.now.networks parts.now.nets parts.now.classes)) }
+    ensures value { IfOk result
+        (λ v. v ≡ value_of scale.nm lib.now placing.now parts.now.networks parts.now.nets parts.now.classes) }
+{
+    let names = NameIndex::new(alloc, &parts.nets, 1)?;
+    let network = parts_of(alloc, first, parts, &names, scale, lib, placing);
+    drop(names);
+    network
 }
 
 fn note_network(

@@ -1,7 +1,7 @@
 //! An index of the components and of the pins of each image.
 //! A reference is looked up in it in little more than the length of its words.
 
-ghost use Rattle.std.specs.Prelude.{◌≡◌, map, IfOk};
+ghost use Rattle.std.specs.Prelude.{◌≡◌, ◌++◌, ◌∷◌, [], map, IfOk, OnOk};
 ghost use Rattle.dsn_shapes.specs.declared.parts.Image.{Image as TheImage};
 ghost use Rattle.dsn_network.specs.Splits.{pin_names, place_names};
 
@@ -20,10 +20,16 @@ pub(crate) struct PinIndex<'a, 'b> {
     ghost by_image: { images.items ≡ map (λ (image : TheImage). pin_names image.pins) lib.now.images },
 }
 
-fn pins_of<'a>(alloc: Global, image: &'a Image) -> Result<NameIndex<'a>, AllocError>
-    ensures { IfOk result (λ x. x ≡ pin_names image.now.pins) }
+fn push_pins<'a>(
+    alloc: Global,
+    names: &mut Vec<NameIndex<'a>>,
+    image: &'a Image,
+) -> Result<(), AllocError>
+    ensures { OnOk result (names.new.items ≡ names.old.items ++ pin_names image.now.pins ∷ []) }
 {
-    names_of(alloc, image.pins.as_slice())
+    let pins = names_of(alloc, image.pins.as_slice())?;
+    names.push(pins)?;
+    Ok(())
 }
 
 fn images_of<'a>(alloc: Global, images: &'a [Image]) -> Result<Vec<NameIndex<'a>>, AllocError>
@@ -31,7 +37,7 @@ fn images_of<'a>(alloc: Global, images: &'a [Image]) -> Result<Vec<NameIndex<'a>
 {
     let mut names = Vec::new(alloc);
     for image in images {
-        names.push(pins_of(alloc, image)?)?;
+        push_pins(alloc, &mut names, image)?;
     }
     Ok(names)
 }
@@ -47,13 +53,18 @@ impl<'a, 'b> PinIndex<'a, 'b> {
         ensures placing { IfOk result (λ x. x.placing.now ≡ placing.now) }
     {
         let places = names_of(alloc, placing.places.as_slice())?;
-        let images = images_of(alloc, lib.images.as_slice())?;
-        Ok(PinIndex {
-            lib,
-            placing,
-            places,
-            images,
-        })
+        match images_of(alloc, lib.images.as_slice()) {
+            Ok(images) => Ok(PinIndex {
+                lib,
+                placing,
+                places,
+                images,
+            }),
+            Err(error) => {
+                drop(places);
+                Err(error)
+            }
+        }
     }
 }
 

@@ -16,11 +16,11 @@ ghost use Rattle.pcb_board.specs.Keeping.{IsBoard, IsStarted, AnswersBack};
 ghost use Rattle.pcb_board.specs.Loading.{AreLoaded};
 
 use crate::answer::{Answer, BackFault, Entry, OfferBack, RunBack};
-use crate::copy::{copy_history, copy_items};
+use crate::copy::copy_lists;
 use crate::load::{Loaded, load};
 use crate::marks::{mark_entry, mark_range, marked_tiles, renew_turned};
-use crate::renew::{admit, count_worker, renew};
-use crate::snap::Snap;
+use crate::renew::{admit, count_worker, push_back, put_tiles, renew};
+use crate::snap::{Snap, shares};
 use board_offers::{CLOSER, Judged, Offer, gone_ids, judge, least_trouble};
 use geo_kernel::List;
 use pcb_model::{Copper, Design, Item, pairs_are_symmetric};
@@ -79,8 +79,13 @@ fn beginning(alloc: Global, d: &Design) -> Result<(Loaded, Vec<u64>), AllocError
     ensures zeros { IfOk result (λ r. (x k : ℕ) → x < length r.1.items → slice_index_or r.1.items x k ≡ 0) }
 {
     let loaded = load(alloc, d)?;
-    let changed = unchanged(alloc, loaded.given.len())?;
-    Ok((loaded, changed))
+    match unchanged(alloc, loaded.given.len()) {
+        Ok(changed) => Ok((loaded, changed)),
+        Err(error) => {
+            drop(loaded);
+            Err(error)
+        }
+    }
 }
 
 // The board of what was loaded, and the places of what was dropped.
@@ -130,8 +135,13 @@ impl Board {
         ensures { IfOk result (λ r. IsStarted design cap r.0 r.1) }
     {
         let design = Shared::new(alloc, design)?;
-        let (loaded, changed) = beginning(alloc, design.get())?;
-        Ok(opened(alloc, design, cap, loaded, changed))
+        match beginning(alloc, design.get()) {
+            Ok((loaded, changed)) => Ok(opened(alloc, design, cap, loaded, changed)),
+            Err(error) => {
+                drop(design);
+                Err(error)
+            }
+        }
     }
 
     /// What every board keeps: a call that does nothing but say so.
@@ -166,10 +176,11 @@ impl Board {
     pub fn snap(&self) -> Result<Snap, AllocError>
         ensures { IfOk result (λ s. s ≡ snap_of self.now) }
     {
+        let (design, tiles) = shares(&self.design, &self.tiles)?;
         Ok(Snap {
             alloc: self.alloc,
-            design: self.design.share()?,
-            tiles: self.tiles.share()?,
+            design,
+            tiles,
             number: self.history.len() as u64,
         })
     }
@@ -182,7 +193,10 @@ impl Board {
     {
         match self.weigh(&offer) {
             Ok(Ok(new)) => self.commit(offer, new),
-            Ok(Err(answer)) => Ok(answer),
+            Ok(Err(answer)) => {
+                drop(offer);
+                Ok(answer)
+            }
             Err(cause) => Err(OfferBack { offer, cause }),
         }
     }
@@ -286,7 +300,7 @@ impl Board {
         renew(&mut self.changed, gone.as_slice(), number, after);
         let _ = self.given.append(&mut new);
         self.workers = workers;
-        self.tiles = tiles;
+        put_tiles(&mut self.tiles, tiles);
         Ok(Answer::Committed { number })
     }
 
@@ -325,16 +339,17 @@ impl Board {
     {
         let number = self.history.as_slice().len() as u64 + 1;
         let tiles = marked_tiles(self.alloc, self.design.get(), self.given.as_slice(), marks)?;
-        match self.history.push(Entry::Back { to }) {
-            Ok(()) => {}
-            Err(failed) => {
-                drop((tiles, failed));
-                return Err(AllocError);
+        match push_back(&mut self.history, to) {
+            Ok(()) => {
+                renew_turned(&mut self.changed, &self.tiles, marks, number);
+                put_tiles(&mut self.tiles, tiles);
+                Ok(())
+            }
+            Err(error) => {
+                drop(tiles);
+                Err(error)
             }
         }
-        renew_turned(&mut self.changed, &self.tiles, marks, number);
-        self.tiles = tiles;
-        Ok(())
     }
 
     // The joins that lead to the items after the first `to` entries, the last first.
@@ -376,17 +391,30 @@ impl Board {
     pub fn copy(&self) -> Result<Board, AllocError>
         ensures { IfOk result (λ c. c ≡ self.now) }
     {
-        Ok(Board {
-            alloc: self.alloc,
-            cap: self.cap,
-            history: copy_history(self.alloc, self.history.as_slice())?,
-            workers: self.workers,
-            given: copy_items(self.alloc, self.given.as_slice())?,
-            started: self.started,
-            changed: Vec::from_slice(self.alloc, self.changed.as_slice())?,
-            design: self.design.share()?,
-            tiles: self.tiles.share()?,
-        })
+        let (design, tiles) = shares(&self.design, &self.tiles)?;
+        let copied = copy_lists(
+            self.alloc,
+            self.history.as_slice(),
+            self.given.as_slice(),
+            self.changed.as_slice(),
+        );
+        match copied {
+            Ok(lists) => Ok(Board {
+                alloc: self.alloc,
+                design,
+                cap: self.cap,
+                history: lists.history,
+                workers: self.workers,
+                given: lists.given,
+                started: self.started,
+                changed: lists.changed,
+                tiles,
+            }),
+            Err(error) => {
+                drop((design, tiles));
+                Err(error)
+            }
+        }
     }
 }
 

@@ -1,7 +1,7 @@
 //! Copies of what a board keeps.
 //! Want of memory is the only refusal.
 
-ghost use Rattle.std.specs.Prelude.{◌≡◌, IfOk};
+ghost use Rattle.std.specs.Prelude.{◌≡◌, ◌++◌, ◌∷◌, [], IfOk, OnOk};
 
 use crate::answer::Entry;
 use board_offers::copy_offer;
@@ -26,19 +26,31 @@ fn copy_entry(alloc: Global, entry: &Entry) -> Result<Entry, AllocError>
     }
 }
 
-/// Equal entries.
-pub(crate) fn copy_history(alloc: Global, history: &[Entry]) -> Result<List<Entry>, AllocError>
-    ensures { IfOk result (λ h. h ≡ history.now) }
+// Appends an equal entry.
+fn push_entry(alloc: Global, copies: &mut List<Entry>, entry: &Entry) -> Result<(), AllocError>
+    ensures { OnOk result (copies.new ≡ copies.old ++ entry.now ∷ []) }
 {
-    let mut copies = List::new(alloc);
-    for entry in history {
-        copies.push(copy_entry(alloc, entry)?)?;
-    }
-    Ok(copies)
+    let copy = copy_entry(alloc, entry)?;
+    copies.push(copy)?;
+    Ok(())
 }
 
-/// Equal items.
-pub(crate) fn copy_items(alloc: Global, items: &[Item]) -> Result<Vec<Item>, AllocError>
+// Appends equal entries.
+fn push_entries(
+    alloc: Global,
+    copies: &mut List<Entry>,
+    history: &[Entry],
+) -> Result<(), AllocError>
+    ensures { OnOk result (copies.new ≡ copies.old ++ history.now) }
+{
+    for entry in history {
+        push_entry(alloc, copies, entry)?;
+    }
+    Ok(())
+}
+
+// Equal items.
+fn copy_items(alloc: Global, items: &[Item]) -> Result<Vec<Item>, AllocError>
     ensures { IfOk result (λ copies. copies.items ≡ items.now) }
 {
     let mut copies = Vec::new(alloc);
@@ -46,4 +58,55 @@ pub(crate) fn copy_items(alloc: Global, items: &[Item]) -> Result<Vec<Item>, All
         copies.push(copy_item(alloc, item)?)?;
     }
     Ok(copies)
+}
+
+/// The lists of a board.
+#[derive(Drop)]
+pub(crate) struct Lists {
+    pub(crate) history: List<Entry>,
+    pub(crate) given: Vec<Item>,
+    pub(crate) changed: Vec<u64>,
+}
+
+// Fills the lists of a copy, which are empty.
+fn fill(
+    alloc: Global,
+    lists: &mut Lists,
+    history: &[Entry],
+    given: &[Item],
+    changed: &[u64],
+) -> Result<(), AllocError>
+    ensures history { OnOk result (lists.new.history ≡ lists.old.history ++ history.now) }
+    ensures given { OnOk result (lists.new.given.items ≡ given.now) }
+    ensures changed { OnOk result (lists.new.changed.items ≡ changed.now) }
+{
+    push_entries(alloc, &mut lists.history, history)?;
+    lists.given = copy_items(alloc, given)?;
+    lists.changed = Vec::from_slice(alloc, changed)?;
+    Ok(())
+}
+
+/// Equal lists.
+pub(crate) fn copy_lists(
+    alloc: Global,
+    history: &[Entry],
+    given: &[Item],
+    changed: &[u64],
+) -> Result<Lists, AllocError>
+    ensures history { IfOk result (λ l. l.history ≡ history.now) }
+    ensures given { IfOk result (λ l. l.given.items ≡ given.now) }
+    ensures changed { IfOk result (λ l. l.changed.items ≡ changed.now) }
+{
+    let mut lists = Lists {
+        history: List::new(alloc),
+        given: Vec::new(alloc),
+        changed: Vec::new(alloc),
+    };
+    match fill(alloc, &mut lists, history, given, changed) {
+        Ok(()) => Ok(lists),
+        Err(error) => {
+            drop(lists);
+            Err(error)
+        }
+    }
 }

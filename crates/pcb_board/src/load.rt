@@ -74,9 +74,16 @@ fn keep(alloc: Global, loaded: &mut Loaded, item: Item) -> Result<(), AllocError
     ensures given { OnOk result (loaded.new.given.items ≡ loaded.old.given.items ++ item ∷ []) }
     ensures dropped { OnOk result (loaded.new.dropped ≡ loaded.old.dropped) }
 {
-    add_copy(alloc, &mut loaded.tiles, &item)?;
-    loaded.given.push(item)?;
-    Ok(())
+    match add_copy(alloc, &mut loaded.tiles, &item) {
+        Ok(()) => {
+            loaded.given.push(item)?;
+            Ok(())
+        }
+        Err(error) => {
+            drop(item);
+            Err(error)
+        }
+    }
 }
 
 // What is loaded before any item is.

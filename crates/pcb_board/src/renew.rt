@@ -2,7 +2,7 @@
 //! New tiles are a share of the old ones that is changed, so nothing has to be undone where memory is wanting.
 
 ghost use Rattle.std.specs.Prelude.{◌≡◌, ℕ, ◌+◌, ◌<◌, ◌≤◌, ◌^◌, if◌then◌else◌, ◌++◌, ◌∷◌, [], All, IfOk, OnOk, IfErr};
-ghost use Rattle.std.specs.Prelude.{Some, length, slice_get, vec_len, vec_capacity};
+ghost use Rattle.std.specs.Prelude.{OnErr, Some, length, slice_get, vec_len, vec_capacity};
 ghost use Rattle.pcb_model.specs.declared.item.Item.{Item as OneItem};
 ghost use Rattle.pcb_model.specs.Bounds.{IsItemFit};
 ghost use Rattle.pcb_tiles.specs.Spread.{holding};
@@ -63,6 +63,13 @@ pub(crate) fn add_copy(alloc: Global, tiles: &mut Tiles, item: &Item) -> Result<
             Err(cause)
         }
     }
+}
+
+/// Puts tiles in the place of others.
+pub(crate) fn put_tiles(place: &mut Tiles, tiles: Tiles)
+    ensures { place.new ≡ tiles }
+{
+    *place = tiles;
 }
 
 // Takes some items out of tiles, and puts others with the next ids into them.
@@ -152,6 +159,20 @@ fn push_join(
             offer: offer_of(value),
             cause: AllocError,
         }),
+    }
+}
+
+/// A history with the entry of a way back.
+pub(crate) fn push_back(history: &mut List<Entry>, to: u64) -> Result<(), AllocError>
+    ensures ok { OnOk result (history.new ≡ history.old ++ Entry.Back to ∷ []) }
+    ensures err { OnErr result (history.new ≡ history.old) }
+{
+    match history.push(Entry::Back { to }) {
+        Ok(()) => Ok(()),
+        Err(failed) => {
+            drop(failed);
+            Err(AllocError)
+        }
     }
 }
 

@@ -13,6 +13,24 @@ use std::alloc::{AllocError, Global};
 use std::marker::Model;
 use std::sync::ledger::Ledger;
 
+/// One more owner of a design, and one of tiles.
+pub(crate) fn shares(
+    design: &Shared<Design>,
+    tiles: &Tiles,
+) -> Result<(Shared<Design>, Tiles), AllocError>
+    ensures design { IfOk result (λ r. r.0 ≡ design.now) }
+    ensures tiles { IfOk result (λ r. r.1 ≡ tiles.now) }
+{
+    let design = design.share()?;
+    match tiles.share() {
+        Ok(tiles) => Ok((design, tiles)),
+        Err(error) => {
+            drop(design);
+            Err(error)
+        }
+    }
+}
+
 /// The items of a board after a number of entries, and its design.
 #[derive(Drop)]
 pub struct Snap {
@@ -52,10 +70,11 @@ impl Snap {
     pub fn share(&self) -> Result<Snap, AllocError>
         ensures { IfOk result (λ s. s ≡ self.now) }
     {
+        let (design, tiles) = shares(&self.design, &self.tiles)?;
         Ok(Snap {
             alloc: self.alloc,
-            design: self.design.share()?,
-            tiles: self.tiles.share()?,
+            design,
+            tiles,
             number: self.number,
         })
     }

@@ -8,3 +8,4 @@ mod Steps
 mod Crews
 mod Together
 mod Entries
+mod Spared

@@ -1,3 +1,4 @@
 pub mod Puts
 mod Turned
 pub mod Listing
+mod Printed

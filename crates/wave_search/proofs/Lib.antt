@@ -9,3 +9,4 @@ pub mod Ends
 pub mod Tracing
 pub mod Run
 pub mod Around
+pub mod Spared

@@ -1,9 +1,10 @@
 use Rattle.board_picture.specs.Picture.{hole_group}
 use Rattle.ses_writer.proofs.Puts.{then_put}
+use Rattle.board_picture.proofs.Parts.{put_last}
 use Rattle.board_picture.proofs.copper.put_hole_group.Goals as goal
 
 pub returns : goal.returns
 unfolding hole_group
 returns c =
     let two = then_put c.in_ok-put.ensures c.in_ok-put_holes.ensures in
-    then_put two c.in_ok-put-2.ensures
+    put_last c.put-2.result _ _ two c.put-2.ensures

@@ -1,10 +1,11 @@
+use Rattle.std.proofs.Common.{[], ◌∷◌}
+use Rattle.std.specs.Prelude.{codes}
 use Rattle.board_picture.specs.Legend.{keepout_row}
-use Rattle.ses_writer.proofs.Puts.{then_put}
+use Rattle.board_picture.proofs.Parts.{row_put}
 use Rattle.board_picture.proofs.legend.put_keepout_row.Goals as goal
 
 pub returns : goal.returns
 unfolding keepout_row
 returns c =
-    let two = then_put c.in_ok-put_swatch_head.ensures c.in_ok-put.ensures in
-    let three = then_put two c.in_ok-put_row_head.ensures in
-    then_put three c.in_ok-put-2.ensures
+    row_put c.put_parts.result _ _ c.args.row (codes "0.6\" stroke=\"url(#hatch)\"/>" ∷ [])
+    (codes "keepouts</text>\n") c.put_parts.ensures

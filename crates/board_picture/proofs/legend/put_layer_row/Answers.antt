@@ -1,14 +1,16 @@
-use Rattle.board_picture.specs.Legend.{layer_row}
+use Rattle.std.specs.Prelude.{◌++◌, codes, decimal}
+use Rattle.board_picture.specs.Words.{escaped}
+use Rattle.board_picture.specs.Legend.{swatch_head, layer_row}
 use Rattle.ses_writer.proofs.Puts.{then_put}
+use Rattle.board_picture.proofs.Parts.{parted, row_named}
 use Rattle.board_picture.proofs.legend.put_layer_row.Goals as goal
 
 pub returns : goal.returns
-unfolding layer_row
+unfolding swatch_head layer_row
 returns c =
-    let name = rw c.as_slice.ensures at c.in_ok-put_escaped.ensures in
-    let two = then_put c.in_ok-put_swatch_head.ensures c.in_ok-put.ensures in
-    let three = then_put two c.in_ok-put_paint.ensures in
-    let four = then_put three c.in_ok-put-2.ensures in
-    let five = then_put four c.in_ok-put_row_head.ensures in
-    let six = then_put five name in
-    then_put six c.in_ok-put-3.ensures
+    let swatch = parted (codes "<path d=\"M0 " ++ decimal c.args.row) (codes ".5h2\" stroke-width=\"")
+    (codes "0.6\"") c.in_ok-put_parts.ensures in
+    let painted = then_put swatch c.in_ok-put_paint.ensures in
+    let name = rw c.as_slice.ensures at c.put_parts-2.ensures in
+    row_named c.put_parts-2.result _ (codes "/>") c.args.row (escaped c.args.layer.now.name) (codes "</text>\n")
+    painted name

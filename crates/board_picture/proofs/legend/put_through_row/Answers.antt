@@ -1,12 +1,11 @@
-use Rattle.board_picture.specs.Legend.{through_row}
-use Rattle.ses_writer.proofs.Puts.{then_put}
+use Rattle.std.proofs.Common.{[], ◌∷◌}
+use Rattle.std.specs.Prelude.{codes}
+use Rattle.board_picture.specs.Legend.{through_paint, through_row}
+use Rattle.board_picture.proofs.Parts.{row_put}
 use Rattle.board_picture.proofs.legend.put_through_row.Goals as goal
 
 pub returns : goal.returns
 unfolding through_row
 returns c =
-    let two = then_put c.in_ok-put_swatch_head.ensures c.in_ok-put.ensures in
-    let three = then_put two c.in_ok-put_through_paint.ensures in
-    let four = then_put three c.in_ok-put-2.ensures in
-    let five = then_put four c.in_ok-put_row_head.ensures in
-    then_put five c.in_ok-put-3.ensures
+    row_put c.put_parts.result _ _ c.args.row (codes "0.6\"" ∷ through_paint ∷ codes "/>" ∷ [])
+    (codes "through pads and vias</text>\n") c.put_parts.ensures

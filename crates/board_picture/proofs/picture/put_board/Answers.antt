@@ -1,5 +1,6 @@
 use Rattle.board_picture.specs.Picture.{board_part}
 use Rattle.ses_writer.proofs.Puts.{then_put}
+use Rattle.board_picture.proofs.Parts.{put_last}
 use Rattle.board_picture.proofs.picture.put_board.Goals as goal
 
 pub returns : goal.returns
@@ -9,4 +10,4 @@ returns c =
     let three = then_put two c.in_ok-put_edge.ensures in
     let four = then_put three c.in_ok-put_names.ensures in
     let five = then_put four c.in_ok-put_open.ensures in
-    then_put five c.in_ok-put.ensures
+    put_last c.put.result _ _ five c.put.ensures

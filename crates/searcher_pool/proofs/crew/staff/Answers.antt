@@ -1,5 +1,5 @@
-use Rattle.std.proofs.Common.{◌≡◌, ◌∙◌, ◌+◌, ◌-◌, ◌<◌, ℕ, arith, ap, sym, subst, List, [], ◌∷◌, ◌++◌, length, vec_len}
-use Rattle.std.proofs.Common.{All, Option}
+use Rattle.std.proofs.Common.{refl, ◌≡◌, ◌∙◌, ◌+◌, ◌-◌, ◌<◌, ℕ, arith, ap, sym, subst, List, [], ◌∷◌, ◌++◌, length}
+use Rattle.std.proofs.Common.{vec_len, All, Option}
 use Rattle.std.specs.Prelude.{slice_index_or, option_to_list}
 use Rattle.std.proofs.lemmas.List.{length-append}
 use Rattle.crossbeam_utils.specs.Padded.{padded_value}
@@ -72,3 +72,24 @@ loop-pass-preserved c =
       fresh = subst (All Fresh) (sym put.items)
           (at_push (λ (k : ℕ) (w : CachePadded Worker). Fresh w) crew c.new-in-Some-2.result inv.fresh fresh);
     }
+
+pub loop-pass-init : goal.loop-pass-init
+loop-pass-init c = let empty = ap length c.requires.crew.0 in
+    let fresh = c.requires.crew in
+    record {
+      left = c.requires.passes.0;
+      count = (let a = c.requires.passes.1 in omega (arith, a, empty));
+      memory = (c.requires.searches.0 ∙ sym c.requires.passes.1, c.requires.searches.1);
+      room = refl;
+      space = (fresh.1 ∙ sym empty, fresh.2);
+      table = c.requires.home.0;
+      hand_is = c.requires.home.1 ∙ (let all : 17 ≡ 17 - length c.args.crew.now.items = omega (arith, empty) in
+          ap (λ (k : ℕ). hand k [] 0) all);
+      names = λ k d lt. absurd (omega (arith, lt, empty));
+      fresh = λ k d lt. absurd (omega (arith, lt, empty));
+    }
+
+pub push_reserved-requires : goal.push_reserved-requires
+push_reserved-requires c = let inv = c.loop-pass.invariant in
+    let len : vec_len c.pop.new.self + 1 ≡ vec_len c.loop-pass.passes = c.in-Some.ensures.cases in
+    let a = inv.space.0 in let b = inv.space.1 in let d = inv.count in omega (arith, a, b, d, len)

@@ -68,7 +68,7 @@ after_parts c = record {
   given = c.append.new.self;
   started = c.self.inside.started;
   changed = c.renew.new.changed;
-  tiles = c.in-Ok.entered.1;
+  tiles = c.put_tiles.new.place;
 }
 
 abbrev come : goal.After-drop-gone → List Item
@@ -93,10 +93,10 @@ given_is c =
     let moved : c.append.new.self.items ≡ c.self.inside.given.items ++ c.into_vec-new.result.items = search rules in
     moved ∙ ap (λ (xs : List Item). c.self.inside.given.items ++ xs) (c.into_vec-new.ensures ∙ c.requires.new)
 
-tiles_are : (c : goal.After-drop-gone) → c.in-Ok.entered.1
+tiles_are : (c : goal.After-drop-gone) → c.put_tiles.new.place
     ≡ holding c.self.inside.tiles (without (gone c.args.offer) c.self.inside.tiles.items ++ come c)
 tiles_are c =
-    c.in-Ok.ensures.tiles
+    c.put_tiles.ensures ∙ c.in-Ok.ensures.tiles
     ∙ ap (λ (xs : List Item). holding c.self.inside.tiles (without (gone c.args.offer) c.self.inside.tiles.items ++ xs))
     (c.as_slice-2.ensures ∙ c.requires.new)
 

@@ -17,9 +17,9 @@ opened-requires-clause-plain c = subst IsPlainCopper (sym c.in_ok-design.ensures
 
 pub opened-requires-clause-loaded : goal.opened-requires-clause-loaded
 opened-requires-clause-loaded c =
-    subst (λ (d : Design). AreLoaded d [] c.in_ok-loaded.loaded) c.get.ensures c.in_ok-loaded.ensures.loaded
+    subst (λ (d : Design). AreLoaded d [] c.in-Ok.loaded) c.get.ensures c.in-Ok.ensures.loaded
 
-pub returns : goal.returns
-returns c =
+pub returns-in-Ok : goal.returns-in-Ok
+returns-in-Ok c =
     subst (λ (d : Design). IsStarted d c.args.cap c.opened.result.0 c.opened.result.1) c.in_ok-design.ensures.ok
     c.opened.ensures

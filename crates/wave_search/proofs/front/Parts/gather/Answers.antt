@@ -1,5 +1,5 @@
 use Rattle.wave_search.specs.Order.{entries_of}
-use Rattle.wave_search.proofs.Joined.{all_emptied}
+use Rattle.wave_search.proofs.Joined.{all_emptied, none_of_four}
 use Rattle.wave_search.proofs.front.Parts.gather.Goals as goal
 
 pub returns-clause-same : goal.returns-clause-same
@@ -13,3 +13,10 @@ returns-clause-same c = all_emptied
     c.in_ok-empty_into-4.ensures.same
     c.in_ok-empty_into.ensures.empty c.in_ok-empty_into-2.ensures.empty c.in_ok-empty_into-3.ensures.empty
     c.in_ok-empty_into-4.ensures.empty
+
+pub returns-clause-ready : goal.returns-clause-ready
+returns-clause-ready c = record {
+  before = λ e w. absurd (none_of_four c.empty_into.new.bin c.empty_into-2.new.bin c.empty_into-3.new.bin
+      c.empty_into-4.new.bin c.in_ok-empty_into.ensures.empty c.in_ok-empty_into-2.ensures.empty
+      c.in_ok-empty_into-3.ensures.empty c.in_ok-empty_into-4.ensures.empty e w);
+}

@@ -1,4 +1,5 @@
 use Rattle.std.proofs.Common.{◌≡◌, length, false, refl, ap, ◌∙◌, arith}
+use Rattle.wave_search.proofs.Spared.{none_of}
 use Rattle.wave_search.proofs.Table.{none_done}
 use Rattle.wave_search.proofs.Touched.{uncovered, untouched, cleared, fewer_nodes}
 use Rattle.wave_search.proofs.labels.Labels.clear.Goals as goal
@@ -40,3 +41,10 @@ returns-clause-none c =
 
 pub returns-clause-size : goal.returns-clause-size
 returns-clause-size c = c.loop-v.invariant.size ∙ ap length c.self.view_is
+
+pub invariant_of-self-in_default : goal.invariant_of-self-in_default
+invariant_of-self-in_default c =
+    let none : length c.loop-v.self-inside.touched.items ≡ 0 = omega (arith, c.in_default.ensures.cases.0) in
+    untouched c.loop-v.self-inside.rows c.loop-v.self-inside.unlisted c.pop.new.self.items
+    (uncovered c.loop-v.self-inside.rows c.loop-v.self-inside.touched.items none c.loop-v.invariant.covers)
+    (none_of c.pop.new.self.items c.loop-v.self-inside.touched.items c.in_default.ensures.items none)

@@ -1,11 +1,11 @@
-use Rattle.std.proofs.Common.{arith, ap, length, sym, ◌∙◌, subst, Bool, List, Option, ◌<◌}
+use Rattle.std.proofs.Common.{ℕ, arith, ap, length, sym, ◌∙◌, subst, Bool, List, Option, ◌<◌}
 use Rattle.wave_search.specs.declared.rows.Label.{Label}
 use Rattle.wave_search.specs.State.{IsPut}
 use Rattle.wave_search.specs.Rows.{AreTouched}
 use Rattle.wave_search.proofs.Kept.{label_is}
 use Rattle.wave_search.proofs.Touched.{touched_past, touched_kept, touched_more}
-use Rattle.wave_search.proofs.labels.Labels.put.Goals.{then-self-via-then-self, then-self-via-else-self+then-has}
 use Rattle.wave_search.proofs.labels.Labels.put.Goals as goal
+use Rattle.wave_search.proofs.labels.Labels.put.Goals.{then-self-via-then-self, then-self-via-else-self+then-has}
 
 pub invariant_of-self : goal.invariant_of-self
 invariant_of-self c = elim c.then-self.branch [
@@ -66,3 +66,7 @@ returns-then-len-count-clause-size c = c.put-then-len-count.ensures.size ∙ ap 
 
 pub returns-clause-size : goal.returns-clause-size
 returns-clause-size c = c.put-2.ensures.size ∙ ap length c.self.view_is
+
+pub invariant_of-self-in_err-push : goal.invariant_of-self-in_err-push
+invariant_of-self-in_err-push c = subst (λ (xs : List ℕ). AreTouched c.self.inside.rows c.self.inside.unlisted xs)
+    (sym c.in_err-push.ensures.items) c.self.invariant

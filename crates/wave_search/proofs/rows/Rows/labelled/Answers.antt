@@ -1,10 +1,11 @@
 use Rattle.std.proofs.Common.{◌+◌, ◌<◌, sym, ◌∙◌, subst, List, ℕ, arith, ap, length}
 use Rattle.std.proofs.lemmas.List.{length-map}
 use Rattle.wave_search.specs.Rows.{row_label}
+use Rattle.wave_search.proofs.Spared.{none_below}
 use Rattle.wave_search.proofs.Kept.{AreBelow, one_more, no_more}
 use Rattle.wave_search.proofs.Table.{within}
-use Rattle.wave_search.proofs.rows.Rows.labelled.Goals.{then-has+in_ok-push, else-has}
 use Rattle.wave_search.proofs.rows.Rows.labelled.Goals as goal
+use Rattle.wave_search.proofs.rows.Rows.labelled.Goals.{then-has+in_ok-push, else-has}
 
 pub loop-v-preserved : goal.loop-v-preserved
 loop-v-preserved c = elim c.if-has.branch [
@@ -27,3 +28,14 @@ returns c = record {
       let below : u < c.loop-v.v = omega (arith, inside, c.loop-v-test.false, ap length c.self.view_is, rows_are) in
       c.loop-v.invariant.complete u l below f;
 }
+
+pub has-requires : goal.has-requires
+has-requires c = omega (
+  arith,
+  c.loop-v-test.true,
+  ap length c.self.view_is,
+  length-map c.self.inside.rows.items row_label,
+)
+
+pub loop-v-init : goal.loop-v-init
+loop-v-init c = none_below c.args.self.now _ c.new-nodes.ensures.items

@@ -7,3 +7,6 @@ trace-requires-clause-small g c = price_small c.requires.sound c.requires.state
 pub walk_to-requires-clause-there : goal.walk_to-requires-clause-there
 walk_to-requires-clause-there g c =
     c.in_ok-settle_rest.ensures.kept c.args.node c.args.label c.requires.there c.requires.is_done
+
+pub walk_to-requires-clause-small : goal.walk_to-requires-clause-small
+walk_to-requires-clause-small g c = c.in_ok-settle_rest.ensures.small

@@ -1,5 +1,5 @@
-use Rattle.std.proofs.Common.{ℕ, List, [], ◌∷◌, ◌++◌, ◌∙◌, ap}
-use Rattle.wave_search.proofs.Tracing.{begun, passed_on}
+use Rattle.std.proofs.Common.{refl, sym, ℕ, List, [], ◌∷◌, ◌++◌, ◌∙◌, ap}
+use Rattle.wave_search.proofs.Tracing.{passed_walk, begun, passed_on}
 use Rattle.wave_search.proofs.task.Task.follow.Goals as goal
 
 pub tight_to-requires-clause-small : goal.tight_to-requires-clause-small
@@ -27,3 +27,15 @@ loop-way-preserved g c = record {
       c.loop-way.invariant.passed c.in-Some-tight_to.mv c.in-Some-tight_to.ensures c.push-in-Some-on-2.new.self.items
       c.push-in-Some-on.new.self.items c.in_ok-push-3.ensures.items c.in_ok-push-2.ensures.items;
 }
+
+pub tight_to-requires-clause-sound : goal.tight_to-requires-clause-sound
+tight_to-requires-clause-sound g c = c.requires.sound
+
+pub returns : goal.returns
+returns g c = (
+  passed_walk (g.M.Moves.graph c.args.self.now.m.now) c.args.self.now.starts.now c.args.self.now.goals.now
+      c.loop-way.nodes.items c.loop-way.moves.items c.loop-way.at c.loop-way.here.price c.loop-way.invariant.passed
+      (c.requires.marked c.loop-way.at (c.has.ensures.0 c.if-not-has.false)) _ c.from_vec.ensures c.from_vec-2.ensures
+      (sym c.if-here-price.false),
+  refl,
+)

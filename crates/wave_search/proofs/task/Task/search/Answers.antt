@@ -141,3 +141,15 @@ returns-in_err-relax-clause-size g c = c.relax.ensures.size ∙ c.in_ok-place.en
 
 pub returns-in_err-walk-clause-size : goal.returns-in_err-walk-clause-size
 returns-in_err-walk-clause-size g c = c.end.ensures.size ∙ c.in_ok-place.ensures.size ∙ c.search.invariant.size
+
+pub end-requires-clause-bound : goal.end-requires-clause-bound
+end-requires-clause-bound g c = c.requires.bound
+
+pub end-requires-clause-sound : goal.end-requires-clause-sound
+end-requires-clause-sound g c = c.requires.sound
+
+pub relax-requires-clause-bound : goal.relax-requires-clause-bound
+relax-requires-clause-bound g c = c.requires.bound
+
+pub relax-requires-clause-sound : goal.relax-requires-clause-sound
+relax-requires-clause-sound g c = c.requires.sound

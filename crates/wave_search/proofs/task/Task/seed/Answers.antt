@@ -1,4 +1,5 @@
 use Rattle.std.proofs.Common.{◌∙◌, arith}
+use Rattle.wave_search.proofs.Spared.{all_seeded}
 use Rattle.wave_search.proofs.Ends.{seed_step}
 use Rattle.wave_search.proofs.task.Task.seed.Goals as goal
 
@@ -11,3 +12,9 @@ loop-s-preserved g c = record {
       c.loop-s.invariant.state (omega arith) c.let_wait.new.table c.let_wait.new.front c.in_ok-let_wait.ensures.put
       c.in_ok-let_wait.ensures.added;
 }
+
+pub returns-clause-state : goal.returns-clause-state
+returns-clause-state g c = all_seeded (g.M.Moves.graph c.args.self.now.m.now) c.args.self.now.starts.now
+    c.as_slice-s-items.result.now c.args.self.now.goals.now (g.B.Bound.low_of c.args.self.now.b.now) c.loop-s.table
+    c.loop-s.front c.loop-s.s-index c.as_slice-s-items.ensures (omega (arith, c.loop-s-test.false))
+    c.loop-s.invariant.state

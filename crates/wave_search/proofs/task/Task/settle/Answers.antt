@@ -116,3 +116,9 @@ returns-then-entry-limit-clause-roots g c = c.settle.invariant.state.1.roots
 
 pub returns-then-entry-limit-clause-size : goal.returns-then-entry-limit-clause-size
 returns-then-entry-limit-clause-size g c = c.settle.invariant.size
+
+pub relax-requires-clause-bound : goal.relax-requires-clause-bound
+relax-requires-clause-bound g c = c.requires.bound
+
+pub relax-requires-clause-sound : goal.relax-requires-clause-sound
+relax-requires-clause-sound g c = c.requires.sound

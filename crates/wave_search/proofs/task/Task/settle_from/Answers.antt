@@ -30,3 +30,6 @@ returns-clause-small g c = c.in_ok-settle.ensures.small
 
 pub returns-in_err-settle-clause-size : goal.returns-in_err-settle-clause-size
 returns-in_err-settle-clause-size g c = c.settle.ensures.size ∙ c.in_ok-relax.ensures.size
+
+pub settle-requires-clause-bound : goal.settle-requires-clause-bound
+settle-requires-clause-bound g c = c.requires.bound

@@ -1,4 +1,5 @@
-//! Least offers, and that they may be made: a law on a call that does nothing.
+//! Least offers: that they may be made, and what a board answers to an offer that was planned before it grew. Laws on
+//! calls that do nothing.
 #![tactic(auto)]
 
 ghost use Rattle.std.specs.Prelude.{◌≡◌, ◌≤◌, ◌<◌, ℕ, List as Seq, [], length, Some, None};
@@ -8,10 +9,13 @@ ghost use Rattle.route_lattice.specs.Mesh.{Mesh};
 ghost use Rattle.route_lattice.specs.Fits.{FitsDesign};
 ghost use Rattle.board_offers.specs.declared.offer.Offer.{Offer as OneOffer};
 ghost use Rattle.pcb_board.specs.Boards.{BoardOf};
-ghost use Rattle.pcb_board.specs.Keeping.{IsBoard};
+ghost use Rattle.pcb_board.specs.declared.answer.Answer.{Answer as OneAnswer};
+ghost use Rattle.pcb_board.specs.Answers.{Step};
+ghost use Rattle.pcb_board.specs.Keeping.{IsBoard, Grows};
 ghost use Rattle.ripup.specs.Rips.{AreIdsInWay};
 ghost use Rattle.board_offers.specs.Items.{added, added_from};
 ghost use Rattle.pcb_board.specs.Boards.{given};
+ghost use Rattle.least_offer.specs.Late.{IsFair};
 ghost use Rattle.least_offer.specs.Together.{StandTogether};
 ghost use Rattle.least_offer.specs.Least.{IsLaidLeast, IsLeastOffer, TakesNothing, MayBeMade, AreShovesOf};
 ghost use Rattle.pcb_model.specs.declared.item.Item.{Item as OneItem};
@@ -21,6 +25,7 @@ ghost use Rattle.board_offers.specs.declared.offer.Shoved.{Shoved as OneShove};
 ghost use Rattle.board_offers.specs.declared.offer.TheConstants.{CLOSER};
 
 use path_wire::own_copper_agrees;
+use pcb_board::prefixes_keep;
 use pcb_islands::joining_falls;
 
 /// A least offer for a board is well formed there and meets no trouble, whether it takes nothing out, rips what is in
@@ -64,3 +69,11 @@ pub fn shoves_are_one()
         (ids : Seq ℕ) (ss : Seq OneShove) → AreShovesOf d m items (added_from d net i metals) ids ss
         → AreShovesOf d m items (added_from d net k metals) ids ss }
 {}
+
+/// An offer that might be made on a board is committed by any later one, or is stale there, or that board is full.
+pub fn late_offers_are_fair()
+    ensures { (b c after : BoardOf) (o : OneOffer) (a : OneAnswer) → IsBoard b → IsBoard c → Grows b c
+        → MayBeMade b o → Step c o a after → IsFair a }
+{
+    prefixes_keep();
+}

@@ -18,7 +18,7 @@ use Rattle.pcb_board.specs.Keeping.{IsBoard, Grows}
 use Rattle.pcb_board.proofs.Prefix.{board_before}
 use Rattle.pcb_board.proofs.Runs.{grows_on, step_grows}
 use Rattle.least_offer.specs.Least.{IsLeastOffer}
-use Rattle.late_offer.specs.Late.{IsFair}
+use Rattle.least_offer.specs.Late.{IsFair}
 use Rattle.route_plan.specs.Plans.{IsOfferOf}
 use Rattle.board_turn.specs.declared.event.Deed.{Deed}
 use Rattle.board_turn.specs.declared.event.Deed.TheVariants.{Offered}

@@ -14,7 +14,7 @@ use Rattle.route_lattice.specs.Mesh.{node_count}
 use Rattle.pcb_board.proofs.Prefix.{board_whole}
 use Rattle.route_plan.specs.Plans.{IsOfferOf, IsShutIn, IsSnapOf, IsWhole}
 use Rattle.least_offer.specs.Least.{MayBeMade}
-use Rattle.late_offer.specs.Late.{IsFair}
+use Rattle.least_offer.specs.Late.{IsFair}
 use Rattle.board_turn.specs.declared.event.Deed.{Deed}
 use Rattle.board_turn.specs.declared.event.Deed.TheVariants.{Looked, Offered}
 use Rattle.board_turn.specs.declared.event.Event.{Event}

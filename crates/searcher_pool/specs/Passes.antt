@@ -11,7 +11,7 @@ use Rattle.pcb_board.specs.declared.answer.Answer.TheVariants.{Committed, Stale,
 use Rattle.pcb_board.specs.Boards.{BoardOf, board_at, worker_entries}
 use Rattle.pcb_board.specs.Answers.{Step}
 use Rattle.least_offer.specs.Least.{IsLeastOffer}
-use Rattle.late_offer.specs.Late.{IsFair}
+use Rattle.least_offer.specs.Late.{IsFair}
 use Rattle.route_plan.specs.Plans.{IsWhole, IsShutIn}
 use Rattle.claim_counter.specs.Claims.{times, once_below}
 use Rattle.searcher_pool.specs.declared.log.OfferNote.{OfferNote}

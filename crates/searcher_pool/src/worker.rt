@@ -16,7 +16,7 @@ use board_sight::{Sight, see};
 use board_turn::{Pass, Turn, events_keep};
 use claim_counter::{Claimer, Counter};
 use desk_io::Gate;
-use late_offer::late_offers_are_fair;
+use least_offer::late_offers_are_fair;
 use move_maps::MoveMaps;
 use pcb_board::{Answer, Offer, Snap, boards_serve, copy_offer, ids_stay};
 use route_lattice::Lattice;

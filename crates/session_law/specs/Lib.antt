@@ -1,1 +1,5 @@
 pub mod Told
+pub mod Shape
+pub mod Spelled
+pub mod Back
+pub mod Wired

@@ -1,17 +1,38 @@
-//! What a written session tells of the board that it was written from: laws on calls that do nothing.
+//! What a written session is worth: laws on calls that do nothing.
+//! Its bytes tell the routed copper, the copper of each run is on its scale, its text spells a tree, and reading it
+//! back answers what was written.
 #![tactic(auto)]
 
-ghost use Rattle.std.specs.Prelude.{◌≡◌, Bool, List as Seq, ◌++◌};
-ghost use Rattle.pcb_board.specs.Boards.{BoardOf};
+ghost use Rattle.std.specs.Prelude.{◌≡◌, Bool, List as Seq, ◌++◌, ◌≤◌, ◌<◌, ◌*ℤ◌, ℕ, ℤ, pos, true, length};
+ghost use Rattle.std.specs.Prelude.{unsigned_abs, Some, None, slice_get, All, Result, filter};
+ghost use Rattle.pcb_board.specs.Boards.{BoardOf, replayed};
 ghost use Rattle.pcb_board.specs.Keeping.{IsBoard};
 ghost use Rattle.pcb_model.specs.declared.design.Design.{Design as TheDesign};
 ghost use Rattle.pcb_model.specs.declared.item.Item.{Item as OneItem};
-ghost use Rattle.pcb_model.specs.Scale.{scale_of};
+ghost use Rattle.pcb_model.specs.Scale.{scale_of, is_whole};
 ghost use Rattle.pcb_model.specs.Sound.{HasDistinctNames, HasPrintableNames};
-ghost use Rattle.ses_writer.specs.Session.{session_of};
+ghost use Rattle.ses_writer.specs.Session.{session_of, is_printed};
 ghost use Rattle.session_law.specs.Told.{AreRoutedOf, HaveSameCopper, IsOnScale};
+ghost use Rattle.route_lattice.specs.Whole.{lattice_of};
+ghost use Rattle.board_offers.specs.declared.offer.Offer.{Offer as OneOffer};
+ghost use Rattle.pcb_board.specs.declared.answer.Entry.TheVariants.{Join};
+ghost use Rattle.least_offer.specs.Least.{TakesNothing};
+ghost use Rattle.route_report.specs.declared.facts.Facts.{Facts as RunFacts};
+ghost use Rattle.route_run.specs.Runs.{AreLeast, IsRun, RunOf};
+ghost use Rattle.ses_writer.specs.Words.{nearest};
+ghost use Rattle.board_offers.specs.declared.offer.TheConstants.{CLOSER};
+ghost use Rattle.session_law.specs.Spelled.{HasSessionTree};
+ghost use Rattle.ses_reader.specs.declared.item.SesItem.{SesItem as OneSesItem};
+ghost use Rattle.ses_reader.specs.declared.item.SesFault.{SesFault as OneSesFault};
+ghost use Rattle.ses_reader.specs.Reading.{ReadsSession};
+ghost use Rattle.session_law.specs.Back.{IsReadable, TellsWiring};
+ghost use Rattle.dsn_design.specs.Reading.{HasDesign};
+ghost use Rattle.session_law.specs.Wired.{HasWiring};
 
 use pcb_board::boards_serve;
+use ses_reader::one_session;
+
+// ---- what bytes tell
 
 /// Routed copper on scale behind the same fixed items is told by the bytes of its session, up to ids and the direction
 /// of chains, whether the fixed items are left out or not.
@@ -30,4 +51,73 @@ pub fn sessions_tell_boards()
         → HaveSameCopper b.design b.items c.items }
 {
     boards_serve();
+}
+
+// ---- on scale
+
+/// Where each join of a board was a least offer on the design's lattice, and those without a penalty take nothing out,
+/// the routed copper is on the scale of its session after each number of entries.
+pub fn least_joins_are_on_scale()
+    ensures { (grid via_cost : ℕ) (b : BoardOf) → IsBoard b → AreLeast (lattice_of b.design grid) via_cost b
+        → ((k : ℕ) (o : OneOffer) (first after : ℕ) → slice_get b.history k ≡ Some (Join o first after)
+        → o.penalty ≡ None → TakesNothing o)
+        → (n : ℕ) → n ≤ length b.history → IsOnScale (scale_of b.design).nm (replayed b n) }
+{}
+
+/// So is that of a run on a lattice of its design, made by at most 16 workers.
+pub fn runs_are_on_scale()
+    ensures { (d : TheDesign) (grid : ℕ) (r : RunOf) (b : BoardOf) (facts : RunFacts) → r.workers ≤ CLOSER
+        → IsRun d (lattice_of d grid) r b facts
+        → (n : ℕ) → n ≤ length b.history → IsOnScale (scale_of d).nm (replayed b n) }
+{}
+
+/// A length that is whole in a unit is printed exactly: the printed number times the unit is the length.
+pub fn whole_lengths_are_exact()
+    ensures { (nm : ℕ) (x : ℤ) → 0 < nm → is_whole nm (unsigned_abs x) ≡ true → nearest nm x *ℤ pos nm ≡ x }
+{}
+
+// ---- the tree
+
+/// The text of a session spells a tree, whose words and groups are those of the session's lists.
+pub fn sessions_have_trees()
+    ensures { (d : TheDesign) (items : Seq OneItem) (omit_fixed : Bool) → HasPrintableNames d
+        → HasSessionTree d items omit_fixed }
+{}
+
+// ---- reading back
+
+/// Reading the session of a board answers the printed wiring, item by item in the printed order, or want of memory:
+/// where the routed copper is on scale, each printed wire has two points or more, and fixed copper has the pieces that
+/// its metal makes.
+pub fn sessions_read_back()
+    ensures { (b : BoardOf) (omit_fixed : Bool) (result : Result (Seq OneSesItem) OneSesFault) → IsBoard b
+        → IsOnScale (scale_of b.design).nm b.items
+        → All (IsReadable b.design) (filter (is_printed omit_fixed) b.items)
+        → ReadsSession (session_of b.design b.items omit_fixed) b.design result
+        → TellsWiring b.design b.items omit_fixed result }
+{
+    boards_serve();
+    one_session();
+    sessions_have_trees();
+}
+
+// ---- of a run
+
+/// A design that was read has wiring that reads back: fixed copper has the pieces of its metal, and wires have two
+/// points or more.
+pub fn designs_have_wiring()
+    ensures { (text : Seq ℕ) (d : TheDesign) → HasDesign text d → HasWiring d }
+{}
+
+/// Reading the session of a run over a design that was read, on a lattice of it and by at most 16 workers, answers the
+/// printed wiring, item by item in the printed order, or want of memory, whether the fixed wiring is left out or not.
+pub fn runs_read_back()
+    ensures { (text : Seq ℕ) (d : TheDesign) (grid : ℕ) (r : RunOf) (b : BoardOf) (facts : RunFacts)
+        (omit_fixed : Bool) (result : Result (Seq OneSesItem) OneSesFault) → HasDesign text d → r.workers ≤ CLOSER
+        → IsRun d (lattice_of d grid) r b facts → ReadsSession (session_of d b.items omit_fixed) d result
+        → TellsWiring d b.items omit_fixed result }
+{
+    designs_have_wiring();
+    runs_are_on_scale();
+    sessions_read_back();
 }

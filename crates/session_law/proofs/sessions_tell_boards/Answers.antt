@@ -1,4 +1,4 @@
-use Rattle.session_law.proofs.Boards.{boards_tell}
+use Rattle.session_law.proofs.ToldBoards.{boards_tell}
 use Rattle.session_law.proofs.sessions_tell_boards.Goals as goal
 
 pub returns : goal.returns

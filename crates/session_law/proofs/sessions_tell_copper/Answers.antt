@@ -1,4 +1,4 @@
-use Rattle.session_law.proofs.Whole.{sessions_tell}
+use Rattle.session_law.proofs.ToldWhole.{sessions_tell}
 use Rattle.session_law.proofs.sessions_tell_copper.Goals as goal
 
 pub returns : goal.returns

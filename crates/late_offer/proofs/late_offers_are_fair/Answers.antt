@@ -1,5 +1,0 @@
-use Rattle.late_offer.proofs.Later.{is_fair}
-use Rattle.late_offer.proofs.late_offers_are_fair.Goals as goal
-
-pub returns : goal.returns
-returns c = is_fair c.prefixes_keep.ensures.whole c.prefixes_keep.ensures.stay

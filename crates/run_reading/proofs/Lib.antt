@@ -1,5 +1,0 @@
-pub mod Wires
-pub mod Designs
-pub mod Offers
-pub mod Given
-pub mod Runs

@@ -1,6 +1,0 @@
-pub mod Lines
-pub mod Copper
-pub mod Given
-pub mod Entries
-pub mod Boards
-pub mod Runs

@@ -1,5 +1,0 @@
-use Rattle.scale_law.proofs.Boards.{board_on_scale}
-use Rattle.scale_law.proofs.least_joins_are_on_scale.Goals as goal
-
-pub returns : goal.returns
-returns c = λ grid via_cost b board least takes n within. board_on_scale grid via_cost b board least takes n

@@ -1,0 +1,5 @@
+use Rattle.session_law.proofs.RunDesigns.{wiring_of_read}
+use Rattle.session_law.proofs.designs_have_wiring.Goals as goal
+
+pub returns : goal.returns
+returns c = wiring_of_read

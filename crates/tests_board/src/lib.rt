@@ -5,6 +5,8 @@
 //! lattices, searches over moves, islands and a walk's copper. And of offers to them and of plans: what is answered,
 //! what stands afterwards, what passes of a turn see of one another's offers, what a plan offers and takes out for it,
 //! and what moves past copper cost.
+//! Worked examples of the top call, over desks and sinks in memory; and workers side by side, in passes and in the top
+//! call: gates hold them until others have come, so a body that lets them work one after another fails.
 //! They stand over public calls in a crate of their own, so that the crates below are proved without them.
 #![tactic(auto)]
 
@@ -13,6 +15,8 @@ mod answers;
 #[cfg(test)]
 mod board;
 #[cfg(test)]
+mod calls;
+#[cfg(test)]
 mod cell_walks;
 #[cfg(test)]
 mod cells;
@@ -20,6 +24,10 @@ mod cells;
 mod clearances;
 #[cfg(test)]
 mod copper;
+#[cfg(test)]
+mod designs;
+#[cfg(test)]
+mod gates;
 #[cfg(test)]
 mod lattices;
 #[cfg(test)]
@@ -35,11 +43,17 @@ mod of_maps;
 #[cfg(test)]
 mod of_nets;
 #[cfg(test)]
+mod of_refusals;
+#[cfg(test)]
+mod of_routes;
+#[cfg(test)]
 mod of_tiles;
 #[cfg(test)]
 mod offer_board;
 #[cfg(test)]
 mod pairs;
+#[cfg(test)]
+mod passes;
 #[cfg(test)]
 mod pictures;
 #[cfg(test)]
@@ -50,6 +64,8 @@ mod random_boards;
 mod reports;
 #[cfg(test)]
 mod row;
+#[cfg(test)]
+mod runs;
 #[cfg(test)]
 mod same;
 #[cfg(test)]

@@ -1,5 +1,5 @@
 use Rattle.std.proofs.Common.{◌≡◌, ◌<◌, All, vec_len}
-use Rattle.tests_rows.proofs.passes.numbers.Given as goal
+use Rattle.tests_board.proofs.passes.numbers.Given as goal
 
 abbrev pub invariant-loop-n : goal.invariant-loop-n
 invariant-loop-n l = record {

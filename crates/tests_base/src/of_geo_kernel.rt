@@ -1,4 +1,4 @@
-//! What no clause shows: worked distances, each public call, and random segments against all fractions.
+//! What no clause shows: worked distances, and each public call.
 //! A distance is given twice, as `k`.
 
 ghost use Rattle.std.specs.Prelude.{◌≡◌, ◌≤◌, ◌<◌, ◌^◌, ◌∷◌, [], pos, All, IfOk, length, unsigned_abs};
@@ -63,82 +63,6 @@ fn segments_keep_and_touch_by_worked_distances(rt: HostRuntime) {
         assert!(rt; is_so(Pair { a, b, c, d }, k, keeps, touches), "at {k}");
     }
     assert!(rt; diagonal_keeps_from_corner());
-}
-
-// ---- random segments, against all fractions
-
-fn next(seed: u64) -> u64 {
-    seed.wrapping_mul(6364136223846793005)
-        .wrapping_add(1442695040888963407)
-}
-
-fn small(seed: u64) -> i16 {
-    ((seed >> 33) % 5) as i16
-}
-
-fn end(seed: u64) -> End {
-    (small(seed), small(next(seed)))
-}
-
-fn pair_of(seed: u64) -> Pair {
-    let second = next(next(seed));
-    let third = next(next(second));
-    Pair {
-        a: end(seed),
-        b: end(second),
-        c: end(third),
-        d: end(next(next(third))),
-    }
-}
-
-/// `n` times the way along one axis, from the point at `t / n` of `i` to `j` to that at `s / n` of `p` to `q`.
-/// All numbers here are whole and small, so that `f64` is exact.
-fn way(n: f64, s: f64, t: f64, p: i16, q: i16, i: i16, j: i16) -> f64 {
-    (n - s) * f64::from(p) + s * f64::from(q) - (n - t) * f64::from(i) - t * f64::from(j)
-}
-
-/// How much the squared distance of two such points passes that of `k / 2`, times `4 * n * n`.
-fn excess(pair: Pair, k: f64, n: f64, s: f64, t: f64) -> f64 {
-    let x = way(n, s, t, pair.a.0, pair.b.0, pair.c.0, pair.d.0);
-    let y = way(n, s, t, pair.a.1, pair.b.1, pair.c.1, pair.d.1);
-    4.0 * (x * x + y * y) - k * k * n * n
-}
-
-fn least_at(pair: Pair, k: f64, n: u8) -> f64 {
-    let count = n as u32 + 1;
-    let mut least = f64::MAX;
-    for place in 0..count * count {
-        let (s, t) = (f64::from(place / count), f64::from(place % count));
-        least = least.min(excess(pair, k, f64::from(n), s, t));
-    }
-    least
-}
-
-/// The least excess of all pairs of points. Segments are nearest at two ends, at an end and its foot on the other,
-/// or where they cross: at denominator 1, the squared length of either, or the cross product, all at most 32.
-fn least_of(pair: Pair, k: f64) -> f64 {
-    let mut least = f64::MAX;
-    for n in 1..33u8 {
-        least = least.min(least_at(pair, k, n));
-    }
-    least
-}
-
-/// Whether both calls answer as all fractions do, for the segments that the seed picks.
-fn is_as_slow(seed: u64, k: u16) -> bool {
-    let least = least_of(pair_of(seed), f64::from(k));
-    is_so(pair_of(seed), k, least >= 0.0, least <= 0.0)
-}
-
-#[test]
-fn random_segments_keep_and_touch_as_all_fractions_say(rt: HostRuntime) {
-    let mut seed = 7;
-    for case in 0..1000u16 {
-        assert!(rt; is_as_slow(seed, case % 10), "case {case}");
-        for _ in 0..8 {
-            seed = next(seed);
-        }
-    }
 }
 
 // ---- chains and areas

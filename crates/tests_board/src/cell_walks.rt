@@ -1,4 +1,4 @@
-//! Searches among cells: around walls, by a bound, by a rule of ties, and beside a slow fixed point.
+//! Searches among cells: around walls, by a bound and by a rule of ties.
 //! A cell's number is its place in the map that shows it.
 
 ghost use Rattle.std.specs.Prelude.{◌≡◌, ◌∷◌, [], ◌<◌, All, length, cond, ◌==◌};
@@ -6,7 +6,6 @@ ghost use Rattle.wave_search.specs.Bounds.{IsBound};
 ghost use Rattle.wave_search.specs.Cells.{cells_graph};
 
 use crate::cells::{Cells, cells_sound};
-use crate::numbers::Numbers;
 use geo_kernel::List;
 use route_lattice::{Found, Move, Moves};
 use std::alloc::{AllocError, Global};
@@ -218,105 +217,5 @@ fn of_equally_cheap_walks_and_goals_the_straightest_is_taken(rt: HostRuntime) {
             "{}",
             straight.0
         );
-    }
-}
-
-// ---- random boards
-
-/// The prices of nine kinds of cells; 0 is a wall's.
-const PRICES: [u32; 9] = [1, 2, 3, 1, 2, 3, 0, 0, 0];
-
-/// Eight rows of eight cells in a wall, of prices 1 to 3, with a wall in every third.
-fn random_cells(alloc: Global, numbers: &mut Numbers) -> Result<Cells, AllocError> {
-    let mut prices = [0u32; 100];
-    for v in 11..89usize {
-        if v % 10 != 0 && v % 10 != 9 {
-            prices[v] = PRICES.get(numbers.below(9) as usize).copied().unwrap_or(0);
-        }
-    }
-    Cells::of(alloc, 10, List::from_slice(alloc, &prices)?)
-}
-
-/// Lowers the price of each cell that a move from the cell makes cheaper.
-fn lower_next(cells: &Cells, least: &mut [u64], v: u32)
-    requires { v < length cells.now.prices }
-{
-    for i in 0..cells.arity() {
-        if let Some((_, to)) = cells.at(v, i)
-            && cells.is_open(v, i)
-        {
-            let before = least.get(v as usize).copied().unwrap_or(u64::MAX);
-            let price = before.saturating_add(cells.price(v, i));
-            if let Some(least) = least.get_mut(to as usize) {
-                *least = price.min(*least);
-            }
-        }
-    }
-}
-
-/// Lowers prices to the least ones, by as many rounds over all cells as there are cells (Bellman 1958).
-fn lower_often(cells: &Cells, least: &mut [u64]) {
-    for _ in 0..100u32 {
-        for v in 0..cells.count() {
-            lower_next(cells, least, v);
-        }
-    }
-}
-
-/// Whether these are the cells to which a walk has a price, in order.
-fn are_reached(nodes: &[u32], slow: &[u64]) -> bool {
-    let mut count = 0usize;
-    for v in 0..100u32 {
-        if slow.get(v as usize).copied().unwrap_or(u64::MAX) < u64::MAX {
-            if nodes.get(count).copied() != Some(v) {
-                return false;
-            }
-            count = count.wrapping_add(1);
-        }
-    }
-    count == nodes.len()
-}
-
-/// Whether what was found is a walk at the slow price, or the reach of all prices where the goal has none.
-fn is_as_slow(found: &Found, slow: &[u64], goal: u32) -> bool {
-    let price = slow.get(goal as usize).copied().unwrap_or(0);
-    match found {
-        Found::Walk(walk) => walk.price == price,
-        Found::Closed(reach) => price == u64::MAX && are_reached(reach.nodes.as_slice(), slow),
-    }
-}
-
-/// Whether the search from cell 44 to a goal finds what the slow prices tell.
-fn agrees_at(alloc: Global, cells: &Cells, slow: &[u64], goal: u32) -> bool {
-    match search(alloc, cells, 44, &[goal]) {
-        Ok(found) => is_as_slow(&found, slow, goal),
-        Err(_) => false,
-    }
-}
-
-fn agrees(alloc: Global, cells: &Cells) -> bool {
-    let mut least = [u64::MAX; 100];
-    least[44] = 0;
-    lower_often(cells, &mut least);
-    for goal in 0..100u32 {
-        if !agrees_at(alloc, cells, &least, goal) {
-            return false;
-        }
-    }
-    true
-}
-
-fn next_agrees(alloc: Global, numbers: &mut Numbers) -> bool {
-    match random_cells(alloc, numbers) {
-        Ok(cells) => agrees(alloc, &cells),
-        Err(_) => false,
-    }
-}
-
-#[test]
-fn random_cells_have_the_prices_and_the_reach_of_a_slow_fixed_point(rt: HostRuntime) {
-    let mut numbers = Numbers::new(1);
-    for _ in 0..20 {
-        assert!(rt; next_agrees(rt.alloc(), &mut numbers));
     }
 }

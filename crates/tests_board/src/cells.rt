@@ -21,7 +21,7 @@ pub(crate) struct Cells {
 
 impl Cells {
     /// Cells of these prices, in rows of the width; none of more than 1,000.
-    pub(crate) fn of(alloc: Global, width: u8, prices: List<u32>) -> Result<Cells, AllocError> {
+    fn of(alloc: Global, width: u8, prices: List<u32>) -> Result<Cells, AllocError> {
         let width = u32::from(width);
         let offsets = [width + 1, width.saturating_sub(1), width + width, 0];
         let prices = if prices.len() > 1_000 {

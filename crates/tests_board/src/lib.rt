@@ -33,8 +33,6 @@ mod lattices;
 #[cfg(test)]
 mod laying;
 #[cfg(test)]
-mod numbers;
-#[cfg(test)]
 mod of_dsn_design;
 #[cfg(test)]
 mod of_lattices;
@@ -58,8 +56,6 @@ mod passes;
 mod pictures;
 #[cfg(test)]
 mod plans;
-#[cfg(test)]
-mod random_boards;
 #[cfg(test)]
 mod reports;
 #[cfg(test)]

@@ -5,13 +5,38 @@ ghost use Rattle.std.specs.Prelude.{IfSome};
 ghost use Rattle.pcb_model.specs.Sound.{IsSound, Serves};
 ghost use Rattle.pcb_tiles.specs.Spread.{ServesSpread};
 
+use crate::board::board;
 use crate::copper::{fixed_plain, fixed_tiles, lay, lay_plain, put_back, take_out};
-use crate::random_boards::random_board;
 use crate::same::same;
 use geo_kernel::Rect4;
 use pcb_model::{Design, PlainCopper};
 use pcb_tiles::Tiles;
 use std::alloc::Global;
+
+/// A board of 12 mm by 12 mm with two layers, two nets, a via and two pins, and four wires and three vias as its free
+/// wiring, of which some cross and some are near.
+const BOARD: &str = "(pcb board
+  (resolution um 10)
+  (structure
+    (layer F (type signal))
+    (layer B (type signal))
+    (boundary (rect pcb 0 0 12000 12000))
+    (via V)
+    (rule (width 200) (clearance 200)))
+  (placement (component P (place C1 2000 5000 front 0) (place C2 8000 5000 front 0)))
+  (library
+    (image P (pin PAD 1 0 0))
+    (padstack PAD (shape (circle F 1000)) (shape (circle B 1000)))
+    (padstack V (shape (circle F 600)) (shape (circle B 600))))
+  (network (net A (pins C1-1)) (net M (pins C2-1)))
+  (wiring
+    (wire (path F 200 1500 3000 4000 3000) (net A) (type route))
+    (via V 3000 7000 (net M) (type route))
+    (wire (path B 200 2500 2000 2500 6000) (net M) (type route))
+    (via V 2700 3000 (net A) (type route))
+    (wire (path F 200 5000 1000 9000 5000) (net M) (type route))
+    (wire (path B 200 7000 2000 7000 9000) (net A) (type route))
+    (via V 11500 11500 (net A) (type route))))";
 
 fn id_of(d: &Design, at: usize) -> u64 {
     (d.fixed.len() as u64).saturating_add(at as u64)
@@ -112,19 +137,13 @@ fn answers_laid(alloc: Global, d: &Design, laid: &Tiles) -> Option<[bool; 2]>
     ])
 }
 
-fn answers(alloc: Global, seed: u64, count: u32) -> Option<[bool; 2]> {
-    let d = random_board(alloc, seed, count)?;
+fn answers(alloc: Global) -> Option<[bool; 2]> {
+    let d = board(alloc, BOARD)?;
     let laid = laid_tiles(alloc, &d)?;
     answers_laid(alloc, &d, &laid)
 }
 
 #[test]
 fn tiles_and_their_shares_answer_as_plain_lists_do(rt: HostRuntime) {
-    for (seed, count) in [(1, 30), (2, 60), (3, 160)] {
-        assert_eq!(rt;
-            answers(rt.alloc(), seed, count),
-            Some([true; 2]),
-            "seed {seed}"
-        );
-    }
+    assert_eq!(rt; answers(rt.alloc()), Some([true; 2]));
 }

@@ -10,7 +10,7 @@ use pcb_model::{Copper, Design};
 use std::alloc::{AllocError, Global};
 
 /// An open connection of a net: from the first pin of an island to that of the net's next one.
-#[derive(Clone, Copy, PartialEq, Eq)]
+#[derive(Clone, Copy)]
 pub struct OpenLine {
     pub net: u32,
     pub from: Point,

@@ -12,7 +12,7 @@ use geo_kernel::Point;
 
 /// Where a component stands: turned by its angle on its side of the board, with its origin at `at`.
 /// On the back x is negated before the turn, or after it where `flip_last` is set.
-#[derive(Clone, Copy, PartialEq, Eq)]
+#[derive(Clone, Copy)]
 pub struct Stand {
     pub at: Point,
     pub back: bool,
@@ -21,14 +21,14 @@ pub struct Stand {
 }
 
 /// Where the padstack of a pin stands in its image: turned by the pin's angle, with its origin at `at`.
-#[derive(Clone, Copy, PartialEq, Eq)]
+#[derive(Clone, Copy)]
 pub struct Mount {
     pub at: Point,
     pub angle: Angle,
 }
 
 /// Where a shape stands: that of a padstack in the pin and its component, another in the component alone.
-#[derive(Clone, Copy, PartialEq, Eq)]
+#[derive(Clone, Copy)]
 pub struct Seat {
     pub pin: Option<Mount>,
     pub stand: Stand,

@@ -8,7 +8,7 @@ ghost use Rattle.dsn_shapes.specs.Lists.{heads_of};
 /// A kind of list in which others stand: a row of the table.
 /// Where a row serves a list and lists in it, what stands in one of the two alone is passed over in silence
 /// in the other.
-#[derive(Clone, Copy, PartialEq, Eq)]
+#[derive(Clone, Copy)]
 pub enum ListKind {
     /// `pcb`, the whole design.
     Pcb,

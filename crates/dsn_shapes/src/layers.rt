@@ -15,7 +15,7 @@ use dsn_tree::Tree;
 use pcb_model::limits::MOST_LAYERS;
 
 /// What a word stands for: the layers of a name, all, the signal or the power layers.
-#[derive(Clone, Copy, PartialEq, Eq)]
+#[derive(Clone, Copy)]
 pub(crate) enum Group {
     Named,
     All,

@@ -2,7 +2,7 @@
 //! Every token and every blank is read under such a context.
 
 /// How the line of a place stands before it.
-#[derive(Clone, Copy, PartialEq, Eq)]
+#[derive(Clone, Copy)]
 pub enum Line {
     /// Blanks alone; a `#` begins a skipped line.
     Fresh,
@@ -13,7 +13,7 @@ pub enum Line {
 }
 
 /// The context of a place in a text.
-#[derive(Clone, Copy, PartialEq, Eq)]
+#[derive(Clone, Copy)]
 pub struct Context {
     pub line: Line,
     /// The last token is an opening bracket.

@@ -10,7 +10,7 @@ use crate::length::nearest_half;
 use crate::{Decimal, RangeFault};
 
 /// An angle from 0 up to, but not including, 360 degrees.
-#[derive(Clone, Copy, PartialEq, Eq)]
+#[derive(Clone, Copy)]
 pub struct Angle {
     pub microdegrees: u32,
 }

@@ -13,7 +13,7 @@ use geo_kernel::limits::{FURTHEST, WIDEST};
 use thiserror::Error;
 
 /// How many nm one unit of a design's numbers has.
-#[derive(Clone, Copy, PartialEq, Eq)]
+#[derive(Clone, Copy)]
 pub struct Scale {
     pub nm: u64,
 }

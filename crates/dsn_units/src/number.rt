@@ -2,7 +2,7 @@
 //! Source: SPECCTRA reference, number descriptors.
 
 /// A decimal: `digits` times ten to the `exponent`, below zero where `negative` is set.
-#[derive(Clone, Copy, PartialEq, Eq)]
+#[derive(Clone, Copy)]
 pub struct Decimal {
     pub negative: bool,
     pub digits: u64,

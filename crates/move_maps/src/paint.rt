@@ -34,7 +34,7 @@ use route_lattice::{Lattice, LegalMoves, has_copper, pieces_near};
 
 /// What becomes of the counts of the moves that an item shuts: one more where it comes, one fewer where it goes; where
 /// it stays for good they are shut, with nothing to be counted.
-#[derive(Clone, Copy, PartialEq, Eq)]
+#[derive(Clone, Copy)]
 pub(crate) enum Stroke {
     Comes,
     Goes,

@@ -5,7 +5,7 @@ use crate::{Item, Kind, Metal, Piece};
 use geo_kernel::{List, Name, Point, Unit};
 
 /// A clearance in nm for a pair of kinds; with `b` None for `a` with any kind.
-#[derive(Clone, Copy, PartialEq, Eq)]
+#[derive(Clone, Copy)]
 pub struct Typed {
     pub a: Kind,
     pub b: Option<Kind>,
@@ -121,7 +121,7 @@ impl Drop for Design {
 }
 
 /// The scale of a session: a printed number counts units of `nm` nm, `per` of them to one `unit`.
-#[derive(Clone, Copy, PartialEq, Eq)]
+#[derive(Clone, Copy)]
 pub struct SesScale {
     pub unit: Unit,
     pub per: u64,

@@ -19,7 +19,7 @@ use geo_kernel::limits::FURTHEST;
 use geo_kernel::{Point, Rect4, Spine, box_of, parted};
 
 /// A box that holds all spines of some pieces, in nm, their greatest width, and their least and greatest layer.
-#[derive(Clone, Copy, PartialEq, Eq)]
+#[derive(Clone, Copy)]
 pub struct Extent {
     pub bounds: Rect4,
     pub width: u64,

@@ -38,7 +38,7 @@ impl Ties for NoTies {
 const CORNER: u64 = 20_000;
 
 /// Which way a move leads: along x, along y, or neither.
-#[derive(Clone, Copy, PartialEq, Eq)]
+#[derive(Clone, Copy)]
 pub enum Heading {
     Across,
     Up,

@@ -1,11 +1,11 @@
 -- What `all` and `any` answer, for a test that answers a fact.
 use Rattle.std.proofs.Common.{◌≡◌, ℕ, ◌<◌, Bool, true, false, List, [], ◌∷◌, length, All, Any, get_or, IsTrue, ◌↔◌}
-use Rattle.std.proofs.Common.{◌≤◌, ◌+◌, take, arith, refl, sym, subst}
+use Rattle.std.proofs.Common.{◌≤◌, ◌+◌, ◌&&◌, take, drop, drop-cons, add-one, arith, refl, sym, ap, ◌∙◌, subst}
 use Prim.Native.Nat.{zero, suc}
-use Rattle.std.proofs.lemmas.List.{take_all}
+use Rattle.std.proofs.lemmas.List.{take_all, drop_all}
 use Rattle.std.proofs.lemmas.List.Elements.{All-more}
 use Rattle.std.specs.Bool.{MatchBool}
-use Rattle.std.specs.List.{AllWithin, HoldsAt}
+use Rattle.std.specs.List.{AllWithin, HoldsAt, list_all}
 
 pub all_answered : {X : Type 0} (P : X → Type 0) (r : Bool) (xs : List X)
     → MatchBool r (AllWithin P xs 0 (length xs)) ((k : ℕ) × (k < length xs) × HoldsAt (λ x. ¬ (P x)) xs k)
@@ -56,3 +56,25 @@ module _ {X : Type 0} (P : X → Type 0) (xs : List X) (i : ℕ) where
     λ t. cc,
     λ (k, x, l, e, p). absurd (subst (All (λ y. ¬ (P y))) (take_all i xs h) all k x l (subst P (sym e) p)),
   )
+
+-- what such a loop answers where the test is the list's own
+module _ {X : Type 0} (test : X → Bool) (xs : List X) (i : ℕ) where
+  next_tested : (x : X) → i < length xs → x ≡ get_or xs i x
+      → list_all test (drop i xs) ≡ (test x && list_all test (drop (i + 1) xs))
+  next_tested x h is =
+      ap (list_all test) (drop-cons xs i x h)
+      ∙ (ap (λ n. test (get_or xs i x) && list_all test (drop n xs)) (sym (add-one i))
+      ∙ ap (λ y. test y && list_all test (drop (i + 1) xs)) (sym is))
+
+  pub test_fails : (x : X) (b : Bool) → i < length xs → x ≡ get_or xs i x → b ≡ test x → b ≡ false
+      → list_all test (drop i xs) ≡ list_all test xs → false ≡ list_all test xs
+  test_fails x b h is says e kept =
+      ap (λ t. t && list_all test (drop (i + 1) xs)) (sym e ∙ says) ∙ (sym (next_tested x h is) ∙ kept)
+
+  pub test_passes : (x : X) (b : Bool) → i < length xs → x ≡ get_or xs i x → b ≡ test x → b ≡ true
+      → list_all test (drop i xs) ≡ list_all test xs → list_all test (drop (i + 1) xs) ≡ list_all test xs
+  test_passes x b h is says e kept =
+      ap (λ t. t && list_all test (drop (i + 1) xs)) (sym e ∙ says) ∙ (sym (next_tested x h is) ∙ kept)
+
+  pub tests_pass : length xs ≤ i → list_all test (drop i xs) ≡ list_all test xs → true ≡ list_all test xs
+  tests_pass h kept = ap (list_all test) (sym (drop_all i xs h)) ∙ kept

@@ -54,7 +54,7 @@ pub struct Item {
 }
 
 /// A disc, a step or a via of a net that a search asks about.
-#[derive(Clone, Copy, PartialEq, Eq)]
+#[derive(Clone, Copy)]
 pub enum Probe {
     Disc {
         layer: u8,

@@ -13,7 +13,7 @@ pub enum Line {
 }
 
 /// The context of a place in a text.
-#[derive(Clone, Copy, PartialEq, Eq)]
+#[derive(Clone, Copy)]
 pub struct Context {
     pub line: Line,
     /// The last token is an opening bracket.

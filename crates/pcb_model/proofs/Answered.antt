@@ -1,4 +1,4 @@
--- What `all` and `any` answer, for a test that answers a fact.
+-- What `all`, `any` and loops that leave early answer, for a test that answers a fact.
 use Rattle.std.proofs.Common.{◌≡◌, ℕ, ◌<◌, Bool, true, false, List, [], ◌∷◌, length, All, Any, get_or, IsTrue, ◌↔◌}
 use Rattle.std.proofs.Common.{◌≤◌, ◌+◌, ◌&&◌, take, drop, drop-cons, add-one, arith, refl, sym, ap, ◌∙◌, subst}
 use Prim.Native.Nat.{zero, suc}

@@ -13,7 +13,8 @@ use Rattle.pcb_model.specs.declared.design.RuleSet.{RuleSet}
 use Rattle.pcb_model.specs.declared.design.Typed.{Typed}
 use Rattle.pcb_model.specs.declared.design.Net.{Net}
 use Rattle.pcb_model.specs.declared.design.Design.{Design}
-use Rattle.pcb_model.specs.Rules.{first_present, levels, class_rules, net_rules, with_class, width_for, typed_value, last_value}
+use Rattle.pcb_model.specs.Rules.{first_present, levels, class_rules, net_rules, with_class, width_for, typed_value}
+use Rattle.pcb_model.specs.Rules.{last_value}
 
 -- ---- an element, or none
 pub got : {X : Type 0} (xs ys : List X) (i : ℕ) (x : X) → xs ≡ ys → x ≡ get_or xs i x → i < length xs

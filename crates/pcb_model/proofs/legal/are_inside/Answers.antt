@@ -10,13 +10,15 @@ begins_in_each-requires-clause-p_fit c =
 pub returns-then-not-begins_in_each : goal.returns-then-not-begins_in_each
 returns-then-not-begins_in_each c =
     let P = BeginsInEach c.args.bounds.now in
-    let t = failed_here P c.args.ps.now c.loop-p.p-index c.p-item.result c.begins_in_each.result c.loop-p-test.true c.p-item.is c.begins_in_each.ensures c.if-not-begins_in_each.true in
+    let t = failed_here P c.args.ps.now c.loop-p.p-index c.p-item.result c.begins_in_each.result c.loop-p-test.true
+    c.p-item.is c.begins_in_each.ensures c.if-not-begins_in_each.true in
     (λ h. record { each = t.0 h }, λ h. t.1 h.each)
 
 pub loop-p-preserved : goal.loop-p-preserved
 loop-p-preserved c =
     let P = BeginsInEach c.args.bounds.now in
-    passed_here P c.args.ps.now c.loop-p.p-index c.p-item.result c.loop-p-test.true c.p-item.is c.loop-p.invariant (c.begins_in_each.ensures.0 c.if-not-begins_in_each.false)
+    passed_here P c.args.ps.now c.loop-p.p-index c.p-item.result c.loop-p-test.true c.p-item.is c.loop-p.invariant
+    (c.begins_in_each.ensures.0 c.if-not-begins_in_each.false)
 
 pub returns : goal.returns
 returns c =

@@ -10,13 +10,15 @@ piece_keeps-requires-clause-r_fit c =
 pub returns-then-not-piece_keeps : goal.returns-then-not-piece_keeps
 returns-then-not-piece_keeps c =
     let P = PieceKeeps c.args.c c.args.p.now in
-    let t = failed_here P c.args.rs.now c.loop-r.r-index c.r-item.result c.piece_keeps.result c.loop-r-test.true c.r-item.is c.piece_keeps.ensures c.if-not-piece_keeps.true in
+    let t = failed_here P c.args.rs.now c.loop-r.r-index c.r-item.result c.piece_keeps.result c.loop-r-test.true
+    c.r-item.is c.piece_keeps.ensures c.if-not-piece_keeps.true in
     (λ h. record { each = t.0 h }, λ h. t.1 h.each)
 
 pub loop-r-preserved : goal.loop-r-preserved
 loop-r-preserved c =
     let P = PieceKeeps c.args.c c.args.p.now in
-    passed_here P c.args.rs.now c.loop-r.r-index c.r-item.result c.loop-r-test.true c.r-item.is c.loop-r.invariant (c.piece_keeps.ensures.0 c.if-not-piece_keeps.false)
+    passed_here P c.args.rs.now c.loop-r.r-index c.r-item.result c.loop-r-test.true c.r-item.is c.loop-r.invariant
+    (c.piece_keeps.ensures.0 c.if-not-piece_keeps.false)
 
 pub returns : goal.returns
 returns c =

@@ -10,13 +10,15 @@ touches_some-requires-clause-p_fit c =
 pub returns-then-touches_some : goal.returns-then-touches_some
 returns-then-touches_some c =
     let P = TouchesSome c.args.rs.now in
-    let t = found_here P c.args.ps.now c.loop-p.p-index c.p-item.result c.loop-p-test.true c.p-item.is (c.touches_some.ensures.0 c.if-touches_some.true) in
+    let t = found_here P c.args.ps.now c.loop-p.p-index c.p-item.result c.loop-p-test.true c.p-item.is
+    (c.touches_some.ensures.0 c.if-touches_some.true) in
     (λ h. record { some = t.0 h }, λ h. t.1 h.some)
 
 pub loop-p-preserved : goal.loop-p-preserved
 loop-p-preserved c =
     let P = TouchesSome c.args.rs.now in
-    missed_here P c.args.ps.now c.loop-p.p-index c.p-item.result c.touches_some.result c.loop-p-test.true c.p-item.is c.touches_some.ensures c.if-touches_some.false c.loop-p.invariant
+    missed_here P c.args.ps.now c.loop-p.p-index c.p-item.result c.touches_some.result c.loop-p-test.true c.p-item.is
+    c.touches_some.ensures c.if-touches_some.false c.loop-p.invariant
 
 pub returns : goal.returns
 returns c =

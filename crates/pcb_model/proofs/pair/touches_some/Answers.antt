@@ -10,13 +10,15 @@ piece_touches-requires-clause-r_fit c =
 pub returns-then-piece_touches : goal.returns-then-piece_touches
 returns-then-piece_touches c =
     let P = PieceTouches c.args.p.now in
-    let t = found_here P c.args.rs.now c.loop-r.r-index c.r-item.result c.loop-r-test.true c.r-item.is (c.piece_touches.ensures.0 c.if-piece_touches.true) in
+    let t = found_here P c.args.rs.now c.loop-r.r-index c.r-item.result c.loop-r-test.true c.r-item.is
+    (c.piece_touches.ensures.0 c.if-piece_touches.true) in
     (λ h. record { some = t.0 h }, λ h. t.1 h.some)
 
 pub loop-r-preserved : goal.loop-r-preserved
 loop-r-preserved c =
     let P = PieceTouches c.args.p.now in
-    missed_here P c.args.rs.now c.loop-r.r-index c.r-item.result c.piece_touches.result c.loop-r-test.true c.r-item.is c.piece_touches.ensures c.if-piece_touches.false c.loop-r.invariant
+    missed_here P c.args.rs.now c.loop-r.r-index c.r-item.result c.piece_touches.result c.loop-r-test.true c.r-item.is
+    c.piece_touches.ensures c.if-piece_touches.false c.loop-r.invariant
 
 pub returns : goal.returns
 returns c =

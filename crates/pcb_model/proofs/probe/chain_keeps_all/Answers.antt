@@ -11,13 +11,15 @@ chain_keeps-requires-clause-r_fit c =
 pub returns-then-not-chain_keeps : goal.returns-then-not-chain_keeps
 returns-then-not-chain_keeps c =
     let P = PieceKeeps c.args.c (wire_piece c.args.layer c.args.width c.args.points.now) in
-    let t = failed_here P c.args.rs.now c.loop-r.r-index c.r-item.result c.chain_keeps.result c.loop-r-test.true c.r-item.is c.chain_keeps.ensures c.if-not-chain_keeps.true in
+    let t = failed_here P c.args.rs.now c.loop-r.r-index c.r-item.result c.chain_keeps.result c.loop-r-test.true
+    c.r-item.is c.chain_keeps.ensures c.if-not-chain_keeps.true in
     (λ h. record { each = t.0 h }, λ h. t.1 h.each)
 
 pub loop-r-preserved : goal.loop-r-preserved
 loop-r-preserved c =
     let P = PieceKeeps c.args.c (wire_piece c.args.layer c.args.width c.args.points.now) in
-    passed_here P c.args.rs.now c.loop-r.r-index c.r-item.result c.loop-r-test.true c.r-item.is c.loop-r.invariant (c.chain_keeps.ensures.0 c.if-not-chain_keeps.false)
+    passed_here P c.args.rs.now c.loop-r.r-index c.r-item.result c.loop-r-test.true c.r-item.is c.loop-r.invariant
+    (c.chain_keeps.ensures.0 c.if-not-chain_keeps.false)
 
 pub returns : goal.returns
 returns c =

@@ -13,14 +13,15 @@ moved_begins_in_each-requires-clause-p_fit c =
 
 pub moved_begins_in_each-requires-clause-moved_fit : goal.moved_begins_in_each-requires-clause-moved_fit
 moved_begins_in_each-requires-clause-moved_fit c =
-    holds_here (λ (p : Piece). IsFit (moved_piece c.args.by p)) c.args.ps.now c.loop-p.p-index c.p-item.result c.requires.moved_fit c.loop-p-test.true c.p-item.is
+    holds_here (λ (p : Piece). IsFit (moved_piece c.args.by p)) c.args.ps.now c.loop-p.p-index c.p-item.result
+    c.requires.moved_fit c.loop-p-test.true c.p-item.is
 
 pub returns-then-not-moved_begins_in_each : goal.returns-then-not-moved_begins_in_each
 returns-then-not-moved_begins_in_each c =
     let Q = BeginsInEach c.args.bounds.now in
     let P : Piece → Type 0 = λ p. BeginsInEach c.args.bounds.now (moved_piece c.args.by p) in
-    let t = failed_here P c.args.ps.now c.loop-p.p-index c.p-item.result c.moved_begins_in_each.result c.loop-p-test.true c.p-item.is c.moved_begins_in_each.ensures c.if-not-moved_begins_in_each.true in
-    (
+    let t = failed_here P c.args.ps.now c.loop-p.p-index c.p-item.result c.moved_begins_in_each.result
+    c.loop-p-test.true c.p-item.is c.moved_begins_in_each.ensures c.if-not-moved_begins_in_each.true in (
       λ h. record { each = All-map Q (moved_piece c.args.by) c.args.ps.now (t.0 h) },
       λ h. t.1 (All-unmap Q (moved_piece c.args.by) c.args.ps.now h.each),
     )
@@ -28,14 +29,14 @@ returns-then-not-moved_begins_in_each c =
 pub loop-p-preserved : goal.loop-p-preserved
 loop-p-preserved c =
     let P : Piece → Type 0 = λ p. BeginsInEach c.args.bounds.now (moved_piece c.args.by p) in
-    passed_here P c.args.ps.now c.loop-p.p-index c.p-item.result c.loop-p-test.true c.p-item.is c.loop-p.invariant (c.moved_begins_in_each.ensures.0 c.if-not-moved_begins_in_each.false)
+    passed_here P c.args.ps.now c.loop-p.p-index c.p-item.result c.loop-p-test.true c.p-item.is c.loop-p.invariant
+    (c.moved_begins_in_each.ensures.0 c.if-not-moved_begins_in_each.false)
 
 pub returns : goal.returns
 returns c =
     let Q = BeginsInEach c.args.bounds.now in
     let P : Piece → Type 0 = λ p. BeginsInEach c.args.bounds.now (moved_piece c.args.by p) in
-    let t = all_passed P c.args.ps.now c.loop-p.p-index c.loop-p-test.false c.loop-p.invariant in
-    (
+    let t = all_passed P c.args.ps.now c.loop-p.p-index c.loop-p-test.false c.loop-p.invariant in (
       λ h. record { each = All-map Q (moved_piece c.args.by) c.args.ps.now (t.0 h) },
       λ h. t.1 (All-unmap Q (moved_piece c.args.by) c.args.ps.now h.each),
     )

@@ -11,13 +11,15 @@ moved_piece_touches-requires-clause-r_fit c =
 pub returns-then-moved_piece_touches : goal.returns-then-moved_piece_touches
 returns-then-moved_piece_touches c =
     let P = PieceTouches (moved_piece c.args.by c.args.p.now) in
-    let t = found_here P c.args.rs.now c.loop-r.r-index c.r-item.result c.loop-r-test.true c.r-item.is (c.moved_piece_touches.ensures.0 c.if-moved_piece_touches.true) in
+    let t = found_here P c.args.rs.now c.loop-r.r-index c.r-item.result c.loop-r-test.true c.r-item.is
+    (c.moved_piece_touches.ensures.0 c.if-moved_piece_touches.true) in
     (λ h. record { some = t.0 h }, λ h. t.1 h.some)
 
 pub loop-r-preserved : goal.loop-r-preserved
 loop-r-preserved c =
     let P = PieceTouches (moved_piece c.args.by c.args.p.now) in
-    missed_here P c.args.rs.now c.loop-r.r-index c.r-item.result c.moved_piece_touches.result c.loop-r-test.true c.r-item.is c.moved_piece_touches.ensures c.if-moved_piece_touches.false c.loop-r.invariant
+    missed_here P c.args.rs.now c.loop-r.r-index c.r-item.result c.moved_piece_touches.result c.loop-r-test.true
+    c.r-item.is c.moved_piece_touches.ensures c.if-moved_piece_touches.false c.loop-r.invariant
 
 pub returns : goal.returns
 returns c =

@@ -24,4 +24,5 @@ loop-t-preserved c =
 pub returns : goal.returns
 returns c =
     c.loop-t.invariant
-    ∙ ap (last_value (λ t. names_pair c.args.ka c.args.kb t.a t.b)) (take_all c.loop-t.t-index c.args.ts.now c.loop-t-test.false)
+    ∙ ap (last_value (λ t. names_pair c.args.ka c.args.kb t.a t.b)) (take_all c.loop-t.t-index c.args.ts.now
+    c.loop-t-test.false)

@@ -21,4 +21,5 @@ loop-p-preserved c =
     c.has_whole_point.ensures c.if-not-has_whole_point.false c.loop-p.invariant
 
 pub returns : goal.returns
-returns c = tests_pass (is_whole_point c.args.nm) c.args.points.now c.loop-p.p-index c.loop-p-test.false c.loop-p.invariant
+returns c =
+    tests_pass (is_whole_point c.args.nm) c.args.points.now c.loop-p.p-index c.loop-p-test.false c.loop-p.invariant

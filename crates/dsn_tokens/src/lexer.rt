@@ -189,10 +189,19 @@ fn unquoted(alloc: Global, spelled: &[u8], quote: u8) -> Result<Text, AllocError
     if !spelled.contains(&quote) {
         return Text::of(alloc, spelled);
     }
-    let text: Vec<u8> = spelled
-        .iter()
-        .copied()
-        .filter(|b| *b != quote)
-        .collect(alloc)?;
+    let text = without(alloc, spelled, quote)?;
     Text::of(alloc, text.as_slice())
+}
+
+/// The bytes but for those that are this one.
+fn without(alloc: Global, bytes: &[u8], byte: u8) -> Result<Vec<u8>, AllocError>
+    ensures { IfOk result (λ rest. rest.items ≡ filter (λ b. not (b == byte)) bytes.now) }
+{
+    let mut rest = Vec::new(alloc);
+    for b in bytes {
+        if *b != byte {
+            rest.push(*b)?;
+        }
+    }
+    Ok(rest)
 }

@@ -42,7 +42,13 @@ pub fn is_headed(tree: &Tree, head: &[u8]) -> bool
 pub fn child<'a>(tree: &'a Tree, head: &[u8]) -> Option<&'a Tree>
     ensures { option_copied result ≡ child tree.now head.now }
 {
-    items(tree).iter().find(|item| is_headed(item, head))
+    let all = items(tree);
+    for item in all {
+        if is_headed(item, head) {
+            return Some(item);
+        }
+    }
+    None
 }
 
 /// The first group with this head among the items from `from` on, with its place.

@@ -1,9 +1,9 @@
 -- Terms, sums and products of a turn.
 use Rattle.std.proofs.Common.{◌≡◌, ◌<◌, ◌≤◌, ◌+◌, ◌*◌, ◌/◌, ◌^◌, ◌∙◌, ap, ap₂, sym, subst, ℕ, ℤ, Bool, true, false, suc}
-use Rattle.std.proofs.Common.{pos, neg_ℤ, ◌+ℤ◌, ◌-ℤ◌, ◌*ℤ◌, ◌≤ℤ◌, ◌<ℤ◌, arith, refl, add-one, w64, to_z, of_z}
+use Rattle.std.proofs.Common.{pos, negsuc, neg_ℤ, ◌+ℤ◌, ◌-ℤ◌, ◌*ℤ◌, ◌≤ℤ◌, ◌<ℤ◌, arith, refl, add-one, w64, to_z, of_z}
 use Rattle.std.proofs.Common.{FitsSigned, mul-le-mul}
 use Rattle.std.specs.Prelude.{unsigned_abs, int_lt}
-use Rattle.std.specs.Int.{w128}
+use Rattle.std.specs.Int.{w128, int_div_euclid}
 use Rattle.std.proofs.lemmas.Int.{ints, to_z-of_z, fits_signed_from_abs, unsigned_abs-mul}
 use Rattle.std.proofs.lemmas.Bool.Decides.{nat_tests}
 use Rattle.geo_kernel.specs.declared.point.Point.{Point}
@@ -52,6 +52,9 @@ seen_wide z = to_z w128 (of_z w128 z)
 
 pub unseen : (z : ℤ) → unsigned_abs z < 2 ^ 63 → seen z ≡ z
 unseen z h = to_z-of_z w64 z (fits_signed_from_abs w64 z h)
+
+pub seen_small : (z : ℤ) (m : ℕ) → unsigned_abs z ≤ m → m < 2 ^ 63 → unsigned_abs (seen z) ≤ m
+seen_small z m h k = subst (λ y. unsigned_abs y ≤ m) (sym (unseen z (omega arith))) h
 
 -- two products that are added or subtracted
 pub difference_value : (a b p q : ℤ) → unsigned_abs a ≤ 2 ^ 74 → unsigned_abs b ≤ 2 ^ 74 → a ≡ p → b ≡ q
@@ -104,6 +107,46 @@ module _ (a b : ℤ) (h : unsigned_abs a ≤ 2 ^ 31) (k : unsigned_abs b ≤ 800
       let g = unsigned_abs-mul a b in
       let m = mul-le-mul h k in
       omega arith
+
+-- twice a number of parts and one more, as the code computes it
+abbrev doubled_up : ℤ → ℤ
+doubled_up p = seen_wide (seen_wide (pos 2 *ℤ seen_wide p) +ℤ pos one)
+
+half_up : (p : ℤ) → unsigned_abs p ≤ 2 ^ 75 → doubled_up p ≡ (pos 2 *ℤ p) +ℤ pos one
+half_up p h = omega (arith, ints)
+
+euclid_small : (z : ℤ) → unsigned_abs z ≤ 2 ^ 76 + one → unsigned_abs (int_div_euclid z (pos (2 * one))) ≤ 2 ^ 36
+euclid_small (pos n) h = omega arith
+euclid_small (negsuc n) h = omega arith
+
+nearest_small : (p : ℤ) → unsigned_abs p ≤ 2 ^ 75 → unsigned_abs (nearest p one) ≤ 2 ^ 36
+nearest_small p h = euclid_small ((pos 2 *ℤ p) +ℤ pos one) (omega (arith, ints))
+
+-- the nearest whole number of parts, as the code computes it
+module _ (p r : ℤ) (h : unsigned_abs p ≤ 2 ^ 75) (e : r ≡ int_div_euclid (doubled_up p) (pos (2 * one))) where
+  is_nearest : r ≡ nearest p one
+  is_nearest = e ∙ ap (λ z. int_div_euclid z (pos (2 * one))) (half_up p h)
+
+  small : unsigned_abs r ≤ 2 ^ 36
+  small = subst (λ z. unsigned_abs z ≤ 2 ^ 36) (sym is_nearest) (nearest_small p h)
+
+  fits : FitsSigned w64 r
+  fits = let k = small in fits_signed_from_abs w64 r (omega arith)
+
+  seen_once : seen_wide r ≡ r
+  seen_once = let k = small in to_z-of_z w128 r (fits_signed_from_abs w128 r (omega arith))
+
+  pub rounded_fits : FitsSigned w64 (seen_wide r)
+  rounded_fits = subst (FitsSigned w64) (sym seen_once) fits
+
+  seen_twice : seen (seen_wide r) ≡ r
+  seen_twice = ap seen seen_once ∙ to_z-of_z w64 r fits
+
+  pub rounded_value : seen (seen_wide r) ≡ nearest p one
+  rounded_value = seen_twice ∙ is_nearest
+
+  pub rounded_within : unsigned_abs (seen (seen_wide r)) ≤ 2 ^ 36
+  rounded_within = subst (λ z. unsigned_abs z ≤ 2 ^ 36) (sym seen_twice) small
 
 -- no arc turns nothing
 no_cosine : cosine 0 ≡ pos one

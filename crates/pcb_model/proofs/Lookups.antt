@@ -2,16 +2,19 @@
 use Rattle.std.proofs.Common.{◌≡◌, ℕ, ◌<◌, ◌≤◌, Bool, true, false, not, List, [], ◌∷◌, ◌++◌, length, get_or, map}
 use Rattle.std.proofs.Common.{flat_map}
 use Rattle.std.proofs.Common.{Option, Some, None, IsTrue, ◌↔◌, ◌+◌, take, refl, sym, ap, ◌∙◌, subst, true≢false}
-use Rattle.std.proofs.Common.{slice_get}
-use Rattle.std.specs.Option.{IsSomeAnd, unwrap_or, option_to_list}
+use Rattle.std.proofs.Common.{slice_get, reverse, cond}
+use Rattle.std.specs.Option.{IsSomeAnd, unwrap_or, option_to_list, option_map}
+use Rattle.std.specs.List.{find}
 use Rattle.std.proofs.lemmas.Option.{slice_get_read, slice_get_past, none-some, same_Some}
-use Rattle.std.proofs.lemmas.List.{take_more, map_more}
+use Rattle.std.proofs.lemmas.List.{take_more, map_more, reverse-append}
 use Rattle.pcb_model.specs.declared.rules.TheConstants.{DEFAULT_WIDTH}
 use Rattle.pcb_model.specs.declared.item.Kind.{Kind}
 use Rattle.pcb_model.specs.declared.design.RuleSet.{RuleSet}
+use Rattle.pcb_model.specs.declared.design.Typed.{Typed}
 use Rattle.pcb_model.specs.declared.design.Net.{Net}
 use Rattle.pcb_model.specs.declared.design.Design.{Design}
 use Rattle.pcb_model.specs.Rules.{first_present, levels, class_rules, net_rules, with_class, width_for, typed_value}
+use Rattle.pcb_model.specs.Rules.{last_value}
 
 -- ---- an element, or none
 pub got : {X : Type 0} (xs ys : List X) (i : ℕ) (x : X) → xs ≡ ys → x ≡ get_or xs i x → i < length xs
@@ -144,3 +147,18 @@ pub copied_more : {X : Type 0} (xs : List X) (i : ℕ) (x : X) (ys : List X) (y 
     → ys ≡ take i xs → y ≡ x → ys ++ y ∷ [] ≡ take (i + 1) xs
 copied_more xs i x ys y h e p q =
     ap (λ zs. zs ++ y ∷ []) p ∙ ap (λ z. take i xs ++ z ∷ []) (q ∙ e) ∙ sym (take_more xs i x h)
+
+picked : (b : Bool) (t : Typed) (o : Option Typed) → option_map (λ (t : Typed). t.value) (cond b (Some t) o)
+    ≡ cond b (Some t.value) (option_map (λ (t : Typed). t.value) o)
+picked true t o = refl
+picked false t o = refl
+
+-- the last value up to a place, and one further
+pub last_more : (test : Typed → Bool) (ts : List Typed) (i : ℕ) (t : Typed) (b : Bool) → i < length ts
+    → test (get_or ts i t) ≡ b
+    → last_value test (take (i + 1) ts) ≡ cond b (Some (get_or ts i t).value) (last_value test (take i ts))
+last_more test ts i t b h is =
+    ap (last_value test) (take_more ts i t h)
+    ∙ (ap (λ l. option_map (λ (t : Typed). t.value) (find test l)) (reverse-append (take i ts) (get_or ts i t ∷ []))
+    ∙ (picked (test (get_or ts i t)) (get_or ts i t) (find test (reverse (take i ts)))
+    ∙ ap (λ (a : Bool). cond a (Some (get_or ts i t).value) (last_value test (take i ts))) is))

@@ -16,7 +16,12 @@ pub(crate) fn inside_each(p: Point, bounds: &[List<List<Point>>]) -> bool
     requires bounds_fit { All IsBoundFit bounds.now }
     ensures { IsTrue result ↔ IsInsideEach bounds.now p }
 {
-    bounds.iter().all(|loops| inside(p, loops))
+    for loops in bounds {
+        if !inside(p, loops) {
+            return false;
+        }
+    }
+    true
 }
 
 fn begins_in_each(p: &Piece, bounds: &[List<List<Point>>]) -> bool
@@ -32,7 +37,12 @@ fn are_inside(ps: &[Piece], bounds: &[List<List<Point>>]) -> bool
     requires bounds_fit { All IsBoundFit bounds.now }
     ensures { IsTrue result ↔ AreInside bounds.now ps.now }
 {
-    ps.iter().all(|p| begins_in_each(p, bounds))
+    for p in ps {
+        if !begins_in_each(p, bounds) {
+            return false;
+        }
+    }
+    true
 }
 
 /// Whether the first vertex of each of the item's spines lies inside every boundary.
@@ -56,7 +66,12 @@ fn is_signal(d: &Design, layer: u8) -> bool
 fn has_via(vias: &[u32], padstack: u32) -> bool
     ensures { IsTrue result ↔ Any (λ v. v ≡ padstack) vias.now }
 {
-    vias.iter().any(|v| *v == padstack)
+    for v in vias {
+        if *v == padstack {
+            return true;
+        }
+    }
+    false
 }
 
 fn is_listed(d: &Design, net: u32, padstack: u32) -> bool

@@ -31,7 +31,12 @@ fn keeps_all(c: u64, p: &Piece, rs: &[Piece]) -> bool
     requires rs_fit { All IsFit rs.now }
     ensures { IsTrue result ↔ KeepsFrom c rs.now p.now }
 {
-    rs.iter().all(|r| piece_keeps(c, p, r))
+    for r in rs {
+        if !piece_keeps(c, p, r) {
+            return false;
+        }
+    }
+    true
 }
 
 fn pieces_keep(c: u64, ps: &[Piece], rs: &[Piece]) -> bool
@@ -40,7 +45,12 @@ fn pieces_keep(c: u64, ps: &[Piece], rs: &[Piece]) -> bool
     requires rs_fit { All IsFit rs.now }
     ensures { IsTrue result ↔ PiecesKeep c ps.now rs.now }
 {
-    ps.iter().all(|p| keeps_all(c, p, rs))
+    for p in ps {
+        if !keeps_all(c, p, rs) {
+            return false;
+        }
+    }
+    true
 }
 
 fn piece_touches(p: &Piece, r: &Piece) -> bool
@@ -56,7 +66,12 @@ fn touches_some(p: &Piece, rs: &[Piece]) -> bool
     requires rs_fit { All IsFit rs.now }
     ensures { IsTrue result ↔ TouchesSome rs.now p.now }
 {
-    rs.iter().any(|r| piece_touches(p, r))
+    for r in rs {
+        if piece_touches(p, r) {
+            return true;
+        }
+    }
+    false
 }
 
 fn pieces_touch(ps: &[Piece], rs: &[Piece]) -> bool
@@ -64,7 +79,12 @@ fn pieces_touch(ps: &[Piece], rs: &[Piece]) -> bool
     requires rs_fit { All IsFit rs.now }
     ensures { IsTrue result ↔ PiecesTouch ps.now rs.now }
 {
-    ps.iter().any(|p| touches_some(p, rs))
+    for p in ps {
+        if touches_some(p, rs) {
+            return true;
+        }
+    }
+    false
 }
 
 /// Whether the items have pieces on one layer that touch.

@@ -39,7 +39,12 @@ fn chain_keeps_all(c: u64, layer: u8, width: u64, points: &[Point], rs: &[Piece]
     requires rs_fit { All IsFit rs.now }
     ensures { IsTrue result ↔ KeepsFrom c rs.now (wire_piece layer width points.now) }
 {
-    rs.iter().all(|r| chain_keeps(c, layer, width, points, r))
+    for r in rs {
+        if !chain_keeps(c, layer, width, points, r) {
+            return false;
+        }
+    }
+    true
 }
 
 fn meets_wires(m: &Metal) -> bool
@@ -126,7 +131,12 @@ fn moved_keeps_all(c: u64, p: &Piece, by: Point, rs: &[Piece]) -> bool
     requires rs_fit { All IsFit rs.now }
     ensures { IsTrue result ↔ KeepsFrom c rs.now (moved_piece by p.now) }
 {
-    rs.iter().all(|r| moved_piece_keeps(c, p, by, r))
+    for r in rs {
+        if !moved_piece_keeps(c, p, by, r) {
+            return false;
+        }
+    }
+    true
 }
 
 fn moved_keep(c: u64, ps: &[Piece], by: Point, rs: &[Piece]) -> bool
@@ -136,7 +146,12 @@ fn moved_keep(c: u64, ps: &[Piece], by: Point, rs: &[Piece]) -> bool
     requires rs_fit { All IsFit rs.now }
     ensures { IsTrue result ↔ PiecesKeep c (map (moved_piece by) ps.now) rs.now }
 {
-    ps.iter().all(|p| moved_keeps_all(c, p, by, rs))
+    for p in ps {
+        if !moved_keeps_all(c, p, by, rs) {
+            return false;
+        }
+    }
+    true
 }
 
 fn moved_piece_touches(p: &Piece, by: Point, r: &Piece) -> bool
@@ -154,7 +169,12 @@ fn moved_touches_some(p: &Piece, by: Point, rs: &[Piece]) -> bool
     requires rs_fit { All IsFit rs.now }
     ensures { IsTrue result ↔ TouchesSome rs.now (moved_piece by p.now) }
 {
-    rs.iter().any(|r| moved_piece_touches(p, by, r))
+    for r in rs {
+        if moved_piece_touches(p, by, r) {
+            return true;
+        }
+    }
+    false
 }
 
 fn moved_touch(ps: &[Piece], by: Point, rs: &[Piece]) -> bool
@@ -163,7 +183,12 @@ fn moved_touch(ps: &[Piece], by: Point, rs: &[Piece]) -> bool
     requires rs_fit { All IsFit rs.now }
     ensures { IsTrue result ↔ PiecesTouch (map (moved_piece by) ps.now) rs.now }
 {
-    ps.iter().any(|p| moved_touches_some(p, by, rs))
+    for p in ps {
+        if moved_touches_some(p, by, rs) {
+            return true;
+        }
+    }
+    false
 }
 
 fn via_keeps(d: &Design, own: u64, net: u32, ps: &[Piece], at: Point, b: &Item) -> bool
@@ -298,7 +323,12 @@ fn moved_are_inside(ps: &[Piece], by: Point, bounds: &[List<List<Point>>]) -> bo
     requires bounds_fit { All IsBoundFit bounds.now }
     ensures { IsTrue result ↔ AreInside bounds.now (map (moved_piece by) ps.now) }
 {
-    ps.iter().all(|p| moved_begins_in_each(p, by, bounds))
+    for p in ps {
+        if !moved_begins_in_each(p, by, bounds) {
+            return false;
+        }
+    }
+    true
 }
 
 /// Whether the first vertex of each spine of what the probe stands for lies inside every boundary.

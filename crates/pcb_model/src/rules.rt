@@ -52,19 +52,25 @@ fn is_wide(ka: Kind, kb: Kind, t: &Typed) -> bool
 fn last_exact(ts: &[Typed], ka: Kind, kb: Kind) -> Option<u64>
     ensures { result ≡ last_value (λ t. names_pair ka kb t.a t.b) ts.now }
 {
-    ts.iter()
-        .rev()
-        .find(|t| is_exact(ka, kb, t))
-        .map(|t| t.value)
+    let mut last = None;
+    for t in ts {
+        if is_exact(ka, kb, t) {
+            last = Some(t.value);
+        }
+    }
+    last
 }
 
 fn last_wide(ts: &[Typed], ka: Kind, kb: Kind) -> Option<u64>
     ensures { result ≡ last_value (λ t. names_one ka kb t.a t.b) ts.now }
 {
-    ts.iter()
-        .rev()
-        .find(|t| is_wide(ka, kb, t))
-        .map(|t| t.value)
+    let mut last = None;
+    for t in ts {
+        if is_wide(ka, kb, t) {
+            last = Some(t.value);
+        }
+    }
+    last
 }
 
 fn typed(rs: &RuleSet, ka: Kind, kb: Kind) -> Option<u64>

@@ -21,16 +21,24 @@ fn has_whole_points(nm: u64, points: &[Point]) -> bool
     requires { 0 < nm }
     ensures { result ≡ list_all (is_whole_point nm) points.now }
 {
-    points.iter().all(|p| has_whole_point(nm, p))
+    for p in points {
+        if !has_whole_point(nm, p) {
+            return false;
+        }
+    }
+    true
 }
 
 fn has_whole_loops(nm: u64, loops: &[List<Point>]) -> bool
     requires { 0 < nm }
     ensures { result ≡ list_all (list_all (is_whole_point nm)) loops.now }
 {
-    loops
-        .iter()
-        .all(|points| has_whole_points(nm, points.as_slice()))
+    for points in loops {
+        if !has_whole_points(nm, points.as_slice()) {
+            return false;
+        }
+    }
+    true
 }
 
 fn has_whole_spine(nm: u64, spine: &Spine) -> bool
@@ -47,9 +55,12 @@ fn has_whole_pieces(nm: u64, pieces: &[Piece]) -> bool
     requires { 0 < nm }
     ensures { result ≡ list_all (is_whole_piece nm) pieces.now }
 {
-    pieces
-        .iter()
-        .all(|c| c.width % nm == 0 && has_whole_spine(nm, &c.spine))
+    for c in pieces {
+        if c.width % nm != 0 || !has_whole_spine(nm, &c.spine) {
+            return false;
+        }
+    }
+    true
 }
 
 fn has_whole_padstack(d: &Design, nm: u64, padstack: u32) -> bool
@@ -91,7 +102,12 @@ fn has_whole_padstacks(d: &Design, nm: u64, padstacks: &[u32]) -> bool
     requires { 0 < nm }
     ensures { result ≡ list_all (is_whole_padstack d.now nm) padstacks.now }
 {
-    padstacks.iter().all(|p| has_whole_padstack(d, nm, *p))
+    for p in padstacks {
+        if !has_whole_padstack(d, nm, *p) {
+            return false;
+        }
+    }
+    true
 }
 
 fn has_whole_net(d: &Design, nm: u64, n: &Net) -> bool
@@ -105,28 +121,48 @@ fn has_whole_nets(d: &Design, nm: u64, nets: &[Net]) -> bool
     requires { 0 < nm }
     ensures { result ≡ list_all (is_whole_net d.now nm) nets.now }
 {
-    nets.iter().all(|n| has_whole_net(d, nm, n))
+    for n in nets {
+        if !has_whole_net(d, nm, n) {
+            return false;
+        }
+    }
+    true
 }
 
 fn has_whole_places(nm: u64, components: &[Component]) -> bool
     requires { 0 < nm }
     ensures { result ≡ list_all (λ c. is_whole_point nm c.at) components.now }
 {
-    components.iter().all(|c| has_whole_point(nm, &c.at))
+    for c in components {
+        if !has_whole_point(nm, &c.at) {
+            return false;
+        }
+    }
+    true
 }
 
 fn has_whole_items(d: &Design, nm: u64, items: &[Item]) -> bool
     requires { 0 < nm }
     ensures { result ≡ list_all (λ a. is_whole_metal d.now nm a.metal) items.now }
 {
-    items.iter().all(|a| has_whole_metal(d, nm, &a.metal))
+    for a in items {
+        if !has_whole_metal(d, nm, &a.metal) {
+            return false;
+        }
+    }
+    true
 }
 
 fn has_whole_free(d: &Design, nm: u64, free: &[FreeWire]) -> bool
     requires { 0 < nm }
     ensures { result ≡ list_all (λ w. is_whole_metal d.now nm w.metal) free.now }
 {
-    free.iter().all(|w| has_whole_metal(d, nm, &w.metal))
+    for w in free {
+        if !has_whole_metal(d, nm, &w.metal) {
+            return false;
+        }
+    }
+    true
 }
 
 fn has_whole_parts(d: &Design, nm: u64) -> bool

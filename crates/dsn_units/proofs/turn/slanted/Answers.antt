@@ -1,9 +1,9 @@
-use Rattle.std.proofs.Common.{arith, ap, ap₂, ◌∙◌}
+use Rattle.std.proofs.Common.{arith, ap, ap₂, ◌∙◌, ◌^◌}
 use Rattle.geo_kernel.specs.declared.point.Point.{Point}
 use Rattle.dsn_units.specs.Length.{nearest}
 use Rattle.dsn_units.specs.Turn.{one}
 use Rattle.dsn_units.proofs.Turns.{difference_fits, difference_small, difference_value, product_is}
-use Rattle.dsn_units.proofs.Turns.{sum_fits, sum_near, sum_value, unseen}
+use Rattle.dsn_units.proofs.Turns.{sum_fits, sum_near, sum_value, unseen, seen_small}
 use Rattle.dsn_units.proofs.turn.slanted.Goals as goal
 
 pub rounded-requires : goal.rounded-requires
@@ -32,3 +32,27 @@ returns-clause-value c = ap₂ (λ x y. let q : Point = record { x = x; y = y } 
     (product_is c.args.p.x c.args.s c.times-3.result c.requires.p_within.0 c.requires.s_within c.times-3.ensures.value)
     (product_is c.args.p.y c.args.c c.times-4.result c.requires.p_within.1 c.requires.c_within
     c.times-4.ensures.value)))
+
+pub returns-clause-within : goal.returns-clause-within
+returns-clause-within c = (
+  seen_small c.rounded.result (2 ^ 36) c.rounded.ensures.within (omega arith),
+  seen_small c.rounded-2.result (2 ^ 36) c.rounded-2.ensures.within (omega arith),
+)
+
+pub times-requires-4-clause-b_within : goal.times-requires-4-clause-b_within
+times-requires-4-clause-b_within c = seen_small c.args.c 8000000000000 c.requires.c_within (omega arith)
+
+pub times-requires-4-clause-a_within : goal.times-requires-4-clause-a_within
+times-requires-4-clause-a_within c = seen_small c.args.p.y (2 ^ 31) c.requires.p_within.1 (omega arith)
+
+pub times-requires-3-clause-b_within : goal.times-requires-3-clause-b_within
+times-requires-3-clause-b_within c = seen_small c.args.s 8000000000000 c.requires.s_within (omega arith)
+
+pub times-requires-3-clause-a_within : goal.times-requires-3-clause-a_within
+times-requires-3-clause-a_within c = seen_small c.args.p.x (2 ^ 31) c.requires.p_within.0 (omega arith)
+
+pub times-requires-2-clause-b_within : goal.times-requires-2-clause-b_within
+times-requires-2-clause-b_within c = seen_small c.args.s 8000000000000 c.requires.s_within (omega arith)
+
+pub times-requires-2-clause-a_within : goal.times-requires-2-clause-a_within
+times-requires-2-clause-a_within c = seen_small c.args.p.y (2 ^ 31) c.requires.p_within.1 (omega arith)

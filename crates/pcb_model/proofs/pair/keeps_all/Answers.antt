@@ -1,14 +1,27 @@
-use Rattle.std.proofs.Common.{rules, tests, IsTrue, ◌↔◌, All}
-use Rattle.std.proofs.lemmas.Iterator.{cases_from_all, YieldsList-from_slice}
 use Rattle.pcb_model.specs.Pairs.{PieceKeeps}
-use Rattle.pcb_model.proofs.Answered.{all_answered}
+use Rattle.pcb_model.specs.Bounds.{IsFit}
+use Rattle.pcb_model.proofs.Answered.{holds_here, failed_here, passed_here, all_passed}
 use Rattle.pcb_model.proofs.pair.keeps_all.Goals as goal
+
+pub piece_keeps-requires-clause-r_fit : goal.piece_keeps-requires-clause-r_fit
+piece_keeps-requires-clause-r_fit c =
+    holds_here IsFit c.args.rs.now c.loop-r.r-index c.r-item.result c.requires.rs_fit c.loop-r-test.true c.r-item.is
+
+pub returns-then-not-piece_keeps : goal.returns-then-not-piece_keeps
+returns-then-not-piece_keeps c =
+    let P = PieceKeeps c.args.c c.args.p.now in
+    let t = failed_here P c.args.rs.now c.loop-r.r-index c.r-item.result c.piece_keeps.result c.loop-r-test.true
+    c.r-item.is c.piece_keeps.ensures c.if-not-piece_keeps.true in
+    (λ h. record { each = t.0 h }, λ h. t.1 h.each)
+
+pub loop-r-preserved : goal.loop-r-preserved
+loop-r-preserved c =
+    let P = PieceKeeps c.args.c c.args.p.now in
+    passed_here P c.args.rs.now c.loop-r.r-index c.r-item.result c.loop-r-test.true c.r-item.is c.loop-r.invariant
+    (c.piece_keeps.ensures.0 c.if-not-piece_keeps.false)
 
 pub returns : goal.returns
 returns c =
     let P = PieceKeeps c.args.c c.args.p.now in
-    let t : IsTrue c.all.result ↔ All P c.args.rs.now =
-    all_answered P c.all.result c.args.rs.now
-    (cases_from_all _ _ _ P (λ p. ¬ (P p)) c.all.ensures.ran (YieldsList-from_slice c.args.rs.now cc)
-    (λ x q k. search (rules, tests)) (λ x q k. search (rules, tests))) in
+    let t = all_passed P c.args.rs.now c.loop-r.r-index c.loop-r-test.false c.loop-r.invariant in
     (λ h. record { each = t.0 h }, λ h. t.1 h.each)

@@ -1,14 +1,27 @@
-use Rattle.std.proofs.Common.{rules, tests, IsTrue, ◌↔◌, Any}
-use Rattle.std.proofs.lemmas.Iterator.{cases_from_any, YieldsList-from_slice}
 use Rattle.pcb_model.specs.Pairs.{PieceTouches}
-use Rattle.pcb_model.proofs.Answered.{any_answered}
+use Rattle.pcb_model.specs.Bounds.{IsFit}
+use Rattle.pcb_model.proofs.Answered.{holds_here, found_here, missed_here, all_missed}
 use Rattle.pcb_model.proofs.pair.touches_some.Goals as goal
+
+pub piece_touches-requires-clause-r_fit : goal.piece_touches-requires-clause-r_fit
+piece_touches-requires-clause-r_fit c =
+    holds_here IsFit c.args.rs.now c.loop-r.r-index c.r-item.result c.requires.rs_fit c.loop-r-test.true c.r-item.is
+
+pub returns-then-piece_touches : goal.returns-then-piece_touches
+returns-then-piece_touches c =
+    let P = PieceTouches c.args.p.now in
+    let t = found_here P c.args.rs.now c.loop-r.r-index c.r-item.result c.loop-r-test.true c.r-item.is
+    (c.piece_touches.ensures.0 c.if-piece_touches.true) in
+    (λ h. record { some = t.0 h }, λ h. t.1 h.some)
+
+pub loop-r-preserved : goal.loop-r-preserved
+loop-r-preserved c =
+    let P = PieceTouches c.args.p.now in
+    missed_here P c.args.rs.now c.loop-r.r-index c.r-item.result c.piece_touches.result c.loop-r-test.true c.r-item.is
+    c.piece_touches.ensures c.if-piece_touches.false c.loop-r.invariant
 
 pub returns : goal.returns
 returns c =
     let P = PieceTouches c.args.p.now in
-    let t : IsTrue c.any.result ↔ Any P c.args.rs.now =
-    any_answered P c.any.result c.args.rs.now
-    (cases_from_any _ _ _ P (λ p. ¬ (P p)) c.any.ensures.ran (YieldsList-from_slice c.args.rs.now cc)
-    (λ x q k. search (rules, tests)) (λ x q k. search (rules, tests))) in
+    let t = all_missed P c.args.rs.now c.loop-r.r-index c.loop-r-test.false c.loop-r.invariant in
     (λ h. record { some = t.0 h }, λ h. t.1 h.some)

@@ -1,0 +1,6 @@
+use Rattle.std.proofs.Common.{take, All}
+use Rattle.pcb_model.specs.Pairs.{PieceTouches}
+use Rattle.pcb_model.proofs.pair.touches_some.Given as goal
+
+abbrev pub invariant-loop-r : goal.invariant-loop-r
+invariant-loop-r l = All (λ y. ¬ (PieceTouches l.p y)) (take l.r-index l.rs)

@@ -1,0 +1,9 @@
+use Rattle.std.proofs.Common.{◌≡◌, drop}
+use Rattle.std.specs.List.{list_all}
+use Rattle.pcb_model.specs.Scale.{is_whole_padstack}
+use Rattle.pcb_model.proofs.scale.has_whole_padstacks.Given as goal
+
+abbrev pub invariant-loop-p : goal.invariant-loop-p
+invariant-loop-p l =
+    list_all (is_whole_padstack l.d l.nm) (drop l.p-index l.padstacks) ≡ list_all (is_whole_padstack l.d l.nm)
+    l.padstacks

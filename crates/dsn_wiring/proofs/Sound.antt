@@ -1,5 +1,5 @@
 -- Where no refusal of a wiring stands, it is sound.
-use Rattle.std.proofs.Common.{◌≡◌, ◌<◌, ◌≤◌, ◌-◌, ◌/◌, ◌%◌, ◌^◌, ◌++◌, ap, sym, subst, ⊎_elim, ℕ, ℤ, zero, suc, Bool}
+use Rattle.std.proofs.Common.{◌≡◌, ◌<◌, ◌≤◌, ◌/◌, ◌%◌, ◌^◌, ◌++◌, ap, sym, subst, ⊎_elim, ℕ, ℤ, zero, suc, Bool}
 use Rattle.std.proofs.Common.{true, false, cond, ◌||◌, List, [], ◌∷◌, Option, Some, None, length, map, refl, arith}
 use Rattle.std.specs.Prelude.{◌==◌, ◌+ℤ◌, All, IfSome, IsSome, codes, filter, is_some, slice_get, unsigned_abs}
 use Rattle.std.specs.Prelude.{unwrap_or}

@@ -98,7 +98,12 @@ fn is_past(at: Point, p: Point) -> bool
 fn some_past(at: Point, points: &[Point]) -> bool
     ensures { result ≡ list_any (is_past at) points.now }
 {
-    points.iter().any(|p| is_past(at, *p))
+    for p in points {
+        if is_past(at, *p) {
+            return true;
+        }
+    }
+    false
 }
 
 fn loops_past(at: Point, loops: &[List<Point>]) -> bool
@@ -125,11 +130,13 @@ pub fn spine_past(at: Point, spine: &Spine) -> bool
 fn stack_past(at: Point, stack: &Stack) -> bool
     ensures { result ≡ stack_past at stack.now }
 {
-    stack
-        .shapes
-        .as_slice()
-        .iter()
-        .any(|shape| spine_past(at, &shape.spine))
+    let shapes = stack.shapes.as_slice();
+    for shape in shapes {
+        if spine_past(at, &shape.spine) {
+            return true;
+        }
+    }
+    false
 }
 
 // Refuses a via whose copper lies past the greatest coordinate.

@@ -34,6 +34,11 @@ pub product_within : (a b r : ℤ) → unsigned_abs a ≤ 2 ^ 30 → unsigned_ab
 product_within a b r h k e = let f = ap unsigned_abs e in let g = unsigned_abs-mul a b in let m = mul-le-mul h k in
     omega arith
 
+-- that product fits 64 bits
+pub product_fits : (a b : ℤ) → unsigned_abs a ≤ 2 ^ 30 → unsigned_abs b ≤ 2 ^ 30 → SFits w64 (seen a *ℤ seen b)
+product_fits a b h k =
+    rw (short a h, short b k) (fits_signed_mul w64 a b (2 ^ 30) (2 ^ 30) h k (lit< tt))
+
 sum_value : (x y p q : ℤ) → x ≡ p → y ≡ q → unsigned_abs x ≤ 2 ^ 60 → unsigned_abs y ≤ 2 ^ 60
     → seen (seen x +ℤ seen y) ≡ p +ℤ q
 sum_value x y p q e f h k = omega (arith, ints)
@@ -103,6 +108,9 @@ middle z h = unseen z (omega arith)
 
 pub opposite : (z : ℤ) → unsigned_abs z ≤ 2 ^ 61 → seen (pos 0 -ℤ seen z) ≡ pos 0 -ℤ z
 opposite z h = omega (arith, ints)
+
+pub opposite_fits : (z : ℤ) → unsigned_abs z ≤ 2 ^ 61 → SFits w64 (pos 0 -ℤ seen z)
+opposite_fits z h = rw (middle z h) (fits_signed_from_abs w64 (pos 0 -ℤ z) (omega (arith, ints)))
 
 pub widened : (z n : ℤ) → unsigned_abs z ≤ 2 ^ 61 → z ≡ n → seen_wide (seen z) ≡ n
 widened z n h e = omega (arith, ints)
@@ -188,9 +196,23 @@ pub seen_gaps : (a0 a1 b0 b1 : ℤ) (k : ℕ) (r : Bool) → seen a0 ≡ a0 → 
     → IsTrue r ↔ (IsGap a1 b0 k ⊎ IsGap b1 a0 k)
 seen_gaps a0 a1 b0 b1 k r e f g i h = rw (e, f, g, i) at h
 
+-- the gap of two numbers of 64 bits, as a caller sees it
+pub seen_gap : (hi lo : ℤ) (k : ℕ) (r : Bool) → SFits w64 hi → SFits w64 lo → IsTrue r ↔ IsGap (seen hi) (seen lo) k
+    → IsTrue r ↔ IsGap hi lo k
+seen_gap hi lo k r h l f = rw (to_z-of_z w64 hi h, to_z-of_z w64 lo l) at f
+
 -- a coordinate as the code has it
 near : (z : ℤ) → unsigned_abs z ≤ 2 ^ 29 → seen z ≡ z
 near z h = unseen z (omega arith)
+
+-- the difference of two coordinates, as the code computes it
+pub apart_value : (p q : ℤ) → unsigned_abs p ≤ 2 ^ 29 → unsigned_abs q ≤ 2 ^ 29 → seen (seen p -ℤ seen q) ≡ p -ℤ q
+apart_value p q h k =
+    ap₂ (λ y z. seen (y -ℤ z)) (near p h) (near q k) ∙ unseen (p -ℤ q) (omega (arith, ints, h, k))
+
+pub apart_within : (p q : ℤ) → unsigned_abs p ≤ 2 ^ 29 → unsigned_abs q ≤ 2 ^ 29
+    → unsigned_abs (seen (seen p -ℤ seen q)) ≤ 2 ^ 30
+apart_within p q h k = rw (apart_value p q h k) (omega (arith, ints, h, k))
 
 -- the four ways through the test whether a segment is right of a point
 module _ (p a b u v : Point) (turn : ℤ) (hp : IsWithin (2 ^ 29) p) (ha : IsWithin (2 ^ 29) a)

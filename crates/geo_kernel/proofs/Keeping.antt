@@ -7,12 +7,13 @@ use Rattle.geo_kernel.specs.declared.point.Point.{Point}
 use Rattle.geo_kernel.specs.declared.point.Rect4.{Rect4}
 use Rattle.geo_kernel.specs.declared.spine.Spine.{Spine}
 use Rattle.geo_kernel.specs.declared.spine.Spine.TheVariants.{Chain}
+use Rattle.geo_kernel.specs.declared.close.Closeness.{Closeness}
 use Rattle.geo_kernel.specs.declared.close.Closeness.TheVariants.{Nearer}
 use Rattle.geo_kernel.specs.Plane.{SegmentsKeep}
 use Rattle.geo_kernel.specs.Spine.{Keeps, Touches, chain_segments, spine_segments, BeginsInside, IsFirst, SpinesKeep}
-use Rattle.geo_kernel.specs.Spine.{SpinesTouch}
+use Rattle.geo_kernel.specs.Spine.{Segment, SpinesTouch}
 use Rattle.geo_kernel.specs.Boxes.{IsIn, IsInBox, IsParted}
-use Rattle.geo_kernel.specs.Close.{IsCloseTo, IsMovedClose, IsInsideSpine}
+use Rattle.geo_kernel.specs.Close.{IsClose, IsCloseTo, IsMovedClose, IsInsideSpine}
 use Rattle.geo_kernel.proofs.Paths.{Any-here, Any-there, Any-cases, Any-nil}
 use Rattle.geo_kernel.proofs.Segments.{keep_swapped, touch_swapped, keep_less, keep_no_touch}
 use Rattle.geo_kernel.proofs.Boxes.{parted_keep}
@@ -76,6 +77,11 @@ keep_told s t k near within h e g =
 pub keep_not : (s t : Spine) (k : ℕ) (near : Bool) → IsTrue near ↔ Any (IsCloseTo Nearer k t) (spine_segments s)
     → near ≡ true → ¬ (SpinesKeep s t k)
 keep_not s t k near h e r = keep_far s t k r (h.0 e)
+
+-- what is close to these segments is close to the spine that has them
+pub close_to : (how : Closeness) (k : ℕ) (g : Segment) (t : Spine) (segments : List Segment) (r : Bool)
+    → segments ≡ spine_segments t → IsTrue r ↔ Any (IsClose how k g) segments → IsTrue r ↔ IsCloseTo how k t g
+close_to how k g t segments r is told = subst (λ xs. IsTrue r ↔ Any (IsClose how k g) xs) is told
 
 -- the same for the points of a chain
 pub chain_near : (ps : List Point) (t : Spine) (k : ℕ) (r : Bool)

@@ -4,10 +4,15 @@ use Rattle.std.proofs.Common.{◌≡◌, ℕ, suc, zero, ◌+◌, ◌%◌, ◌-�
 use Rattle.std.proofs.Common.{flat_map, length, drop-cons, add-one, All, Any, ◌↔◌, ◌⊎◌, inl, inr, ⊎_elim, count_by}
 use Rattle.std.proofs.Common.{Bool, true, false, true≢false, not, cond, IsTrue, refl, sym, ap, ◌∙◌, subst, arith}
 use Rattle.std.proofs.lemmas.List.{drop_all, take_all}
-use Rattle.std.proofs.lemmas.List.Elements.{All-nil, All-cons, All-head, All-tail, All-append}
+use Rattle.std.proofs.lemmas.List.Elements.{All-nil, All-cons, All-drop, All-head, All-tail, All-take, All-append}
 use Rattle.std.proofs.lemmas.List.Sums.{sum_by-cons, sum_by-append}
 use Rattle.geo_kernel.specs.declared.point.Point.{Point}
 use Rattle.geo_kernel.specs.Spine.{Segment, links, last_of, chain_segments, loop_segments}
+
+-- what all points are, the first is, and those behind it
+pub parts_keep : (P : Point → Type 0) (p : Point) (ps : List Point) → 0 < length ps → All P ps
+    → P (get_or ps 0 p) × All P (take (length ps - 1) (drop 1 ps))
+parts_keep P p ps some all = (all 0 p some, All-take P (length ps - 1) (drop 1 ps) (All-drop P 1 ps all))
 
 -- the link from the last point to that at place i
 abbrev pub link_at : Point → Point → List Point → ℕ → Segment

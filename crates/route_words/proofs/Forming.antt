@@ -1,5 +1,5 @@
 -- What `clap` makes of arguments, and of the form of the words.
-use Rattle.std.proofs.Common.{◌≡◌, ◌∙◌, refl, ap, ℕ, List, [], ◌∷◌, ◌++◌, All, false, true, Result, Ok, Err}
+use Rattle.std.proofs.Common.{◌≡◌, ◌∙◌, refl, ap, ℕ, List, [], ◌∷◌, ◌++◌, All, false, true, Result, Ok, Err, Some}
 use Rattle.std.proofs.Common.{inl, subst, sym}
 use Rattle.std.specs.Prelude.{IfOk, IsErrAnd, fold}
 use Rattle.std.proofs.lemmas.List.Elements.{All-head, All-nil, All-push, All-tail}
@@ -15,7 +15,10 @@ use Rattle.clap.specs.declared.builder.arg.Arg.{Arg}
 use Rattle.clap.specs.declared.builder.command.Command.{Command}
 use Rattle.clap.specs.declared.parser.matches.ArgMatches.{ArgMatches}
 use Rattle.clap.specs.declared.error.Error.{Error}
-use Rattle.route_words.specs.Forms.{Adds, IsPlainForm, Makes, Reads, bare_app, gen_app, route_app}
+use Rattle.clap.specs.Simple.{new_rule}
+use Rattle.clap.specs.declared.builder.action.ArgAction.TheVariants.{SetTrue}
+use denote.Bor.{Bor}
+use Rattle.route_words.specs.Forms.{Adds, IsPlainForm, Makes, Reads, bare_app, flag, gen_app, route_app}
 
 abbrev step : App → Arg → App
 step a x = with_rule a (rule_of x)
@@ -29,6 +32,13 @@ adds_one old new x r is rule local app made = record {
   local = subst (All (λ (a : Arg). a.global ≡ false)) (sym is) (All-push (λ (a : Arg). a.global ≡ false) old x
       made.local local);
 }
+
+-- an argument that was given its long name and its action is a flag
+pub flag_is : (name : Bor (List ℕ)) (x y z : Arg) → rule_of x ≡ new_rule name.now → x.global ≡ false
+    → y ≡ record x { long = Some name } → z ≡ record y { action = Some SetTrue }
+    → (rule_of z ≡ flag name.now) × (z.global ≡ false)
+flag_is name x y z rule local long acts =
+    rw (acts, long) (ap (λ (r : Rule). record r { long = Some name.now; action = Some SetTrue }) rule, local)
 
 -- what comes in turn makes what the rules make
 pub adds_in_turn : (args : List Arg) (old new : Command) → AddsInTurn AddsArg old args new

@@ -25,27 +25,12 @@ fn bare_form<'a>(alloc: Global) -> Command<'a>
         .disable_version_flag(true)
 }
 
-fn name_arg<'a>(alloc: Global, name: &'a str) -> Arg<'a>
-    ensures rule { rule_of result ≡ named name.entry.now }
-    ensures own { result.global ≡ false }
-{
-    Arg::new(alloc, name)
-}
-
 // An option with a value.
 fn valued_arg<'a>(alloc: Global, name: &'a str) -> Arg<'a>
     ensures rule { rule_of result ≡ valued name.entry.now }
     ensures own { result.global ≡ false }
 {
     Arg::new(alloc, name).long(name)
-}
-
-// An option without one.
-fn flag_arg<'a>(alloc: Global, name: &'a str) -> Arg<'a>
-    ensures rule { rule_of result ≡ flag name.entry.now }
-    ensures own { result.global ≡ false }
-{
-    Arg::new(alloc, name).long(name).action(ArgAction::SetTrue)
 }
 
 // Puts a value behind the others.
@@ -59,7 +44,7 @@ fn push<T: Drop>(list: &mut Vec<T>, value: T) -> Result<(), AllocError>
 fn push_name<'a>(alloc: Global, args: &mut Vec<Arg<'a>>, name: &'a str) -> Result<(), AllocError>
     ensures { IfOk result (λ _. Adds (named name.entry.now ∷ []) args.old.items args.new.items) }
 {
-    push(args, name_arg(alloc, name))
+    push(args, Arg::new(alloc, name))
 }
 
 fn push_valued<'a>(alloc: Global, args: &mut Vec<Arg<'a>>, name: &'a str) -> Result<(), AllocError>
@@ -71,7 +56,10 @@ fn push_valued<'a>(alloc: Global, args: &mut Vec<Arg<'a>>, name: &'a str) -> Res
 fn push_flag<'a>(alloc: Global, args: &mut Vec<Arg<'a>>, name: &'a str) -> Result<(), AllocError>
     ensures { IfOk result (λ _. Adds (flag name.entry.now ∷ []) args.old.items args.new.items) }
 {
-    push(args, flag_arg(alloc, name))
+    push(
+        args,
+        Arg::new(alloc, name).long(name).action(ArgAction::SetTrue),
+    )
 }
 
 fn push_counts<'a>(alloc: Global, args: &mut Vec<Arg<'a>>) -> Result<(), AllocError>

@@ -21,7 +21,12 @@ fn tests_digit(c: u8) -> bool
 fn are_digits(word: &[u8]) -> bool
     ensures { result ≡ list_all is_digit word.now }
 {
-    word.iter().all(|c| tests_digit(*c))
+    for c in word {
+        if !tests_digit(*c) {
+            return false;
+        }
+    }
+    true
 }
 
 fn tests_short_number(word: &[u8]) -> bool

@@ -1,5 +1,5 @@
 use Rattle.std.proofs.Common.{inl, inr, ⊎_elim, sym, ◌∙◌, true≢false}
-use Rattle.geo_kernel.proofs.Bounds.{middle, opposite}
+use Rattle.geo_kernel.proofs.Bounds.{middle, opposite, opposite_fits}
 use Rattle.geo_kernel.proofs.Segments.{cross_is}
 use Rattle.geo_kernel.proofs.segment.crosses.Goals as goal
 
@@ -38,3 +38,12 @@ returns-else-meets c =
       λ x. ⊎_elim (λ m. absurd (true≢false (sym (ahead.1 m) ∙ c.if-meets.false)))
           (λ m. back.1 m) (i.1 x),
     )
+
+pub overflow_sub-all : goal.overflow_sub-all
+overflow_sub-all c = opposite_fits c.cross-all.result c.cross-all.ensures.within
+
+pub overflow_sub-first : goal.overflow_sub-first
+overflow_sub-first c = opposite_fits c.cross-first.result c.cross-first.ensures.within
+
+pub overflow_sub-second : goal.overflow_sub-second
+overflow_sub-second c = opposite_fits c.cross-second.result c.cross-second.ensures.within

@@ -1,4 +1,4 @@
-use Rattle.std.proofs.Common.{pos, ◌*◌}
+use Rattle.std.proofs.Common.{pos, ◌*◌, le_trans, lit≤}
 use Rattle.geo_kernel.proofs.Bounds.{at_least_value, square_value, square_within}
 use Rattle.geo_kernel.proofs.segment.is_at_least.Goals as goal
 
@@ -8,3 +8,8 @@ returns c =
     c.wide.ensures.within
     (rw (square_value c.args.k c.requires.k_within) at c.wide.ensures.value)
     (square_within c.args.k c.requires.k_within) c.requires.below_within
+
+pub wide-requires-clause-a_within : goal.wide-requires-clause-a_within
+wide-requires-clause-a_within c =
+    rw (square_value c.args.k c.requires.k_within)
+    (le_trans (square_within c.args.k c.requires.k_within) (lit≤ tt))

@@ -9,3 +9,4 @@ pub mod Least
 pub mod Troubles
 mod Parting
 mod Tests
+mod Tested

@@ -6,7 +6,7 @@ use Rattle.std.specs.Prelude.{All, Contains, slice_get, nat_lt}
 use Rattle.std.specs.Option.{option_map_or}
 use Rattle.std.specs.List.{find, position, position_or_len}
 use Rattle.std.proofs.Math.Seq.{drop-append_seam}
-use Rattle.std.proofs.lemmas.Bool.{cases_lt, eqb-true, ltb-false}
+use Rattle.std.proofs.lemmas.Bool.{cases_lt, eqb-true, ne_eqb, eq-eqb, lt-ltb, le-ltb, ltb-false}
 use Rattle.std.proofs.lemmas.List.Quantifiers.{position-Some}
 use Rattle.std.proofs.lemmas.List.Sums.{position_or_len_is}
 use Rattle.std.proofs.lemmas.Option.{same_Some, none-some, get_or_from_slice_get}
@@ -240,7 +240,7 @@ joined_least d given items o r are stand h =
     r h
 
 -- ---- places
-no_shove : Shoved
+pub no_shove : Shoved
 no_shove = record { id = 0; chain = [] }
 
 pub place_found : (ss : List Shoved) (id i : ℕ) → position (λ (s : Shoved). s.id == id) ss ≡ Some i
@@ -259,3 +259,39 @@ place_missing ss id e = by (nat_lt (position_or_len (λ (s : Shoved). s.id == id
         → length ss ≤ position_or_len (λ (s : Shoved). s.id == id) ss
     by true less is = absurd (none-some (position_or_len (λ (s : Shoved). s.id == id) ss) (sym is))
     by false past is = ltb-false (position_or_len (λ (s : Shoved). s.id == id) ss) (length ss) past
+
+-- what a loop knows that seeks a place
+module _ (ss : List Shoved) (id i : ℕ) where
+  pub none_before : (s : Shoved) → i < length ss → ((k : ℕ) → k < i → ((get_or ss k no_shove).id == id) ≡ false)
+      → ((get_or ss i s).id ≡ id → ⊥) → (k : ℕ) → k < i + 1 → ((get_or ss k no_shove).id == id) ≡ false
+  none_before s within none other k less = elim (cases_lt k i) [
+    | inl before ↦ none k before
+    | inr past ↦
+        let same : i ≡ k = omega (arith, less, past) in
+        subst (λ (n : ℕ). ((get_or ss n no_shove).id == id) ≡ false) same
+        (subst (λ (a : Shoved). (a.id == id) ≡ false) (get_or_default ss i s no_shove within)
+        (ne_eqb (get_or ss i s).id id other))
+  ]
+
+  place_at : (n : ℕ) (b : Bool) → n ≡ i → nat_lt i (length ss) ≡ b
+      → cond b (Some i) None ≡ cond (nat_lt n (length ss)) (Some n) None
+  place_at n b is e =
+      subst (λ (m : ℕ). cond b (Some i) None ≡ cond (nat_lt m (length ss)) (Some m) None) (sym is)
+      (ap (λ (t : Bool). cond t (Some i) None) (sym e))
+
+  pub place_is : (s : Shoved) → i < length ss → ((k : ℕ) → k < i → ((get_or ss k no_shove).id == id) ≡ false)
+      → (get_or ss i s).id ≡ id → Some i ≡ position (λ (s : Shoved). s.id == id) ss
+  place_is s within none same =
+      place_at (position_or_len (λ (s : Shoved). s.id == id) ss) true
+      (position_or_len_is (λ (s : Shoved). s.id == id) ss i s (omega (arith, within))
+      (λ k less.
+      subst (λ (a : Shoved). (a.id == id) ≡ false)
+      (get_or_default ss k no_shove s (omega (arith, less, within))) (none k less))
+      (λ l. eq-eqb (get_or ss i s).id id same)) (lt-ltb i (length ss) within)
+
+  pub no_place : length ss ≤ i → i ≤ length ss → ((k : ℕ) → k < i → ((get_or ss k no_shove).id == id) ≡ false)
+      → None ≡ position (λ (s : Shoved). s.id == id) ss
+  no_place past within none =
+      place_at (position_or_len (λ (s : Shoved). s.id == id) ss) false
+      (position_or_len_is (λ (s : Shoved). s.id == id) ss i no_shove within none
+      (λ l. absurd (omega (arith, l, past)))) (le-ltb i (length ss) past)

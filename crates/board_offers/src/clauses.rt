@@ -131,5 +131,10 @@ pub(crate) fn may_rip_all(d: &Design, given: &[Item], net: u32, added: &[Item], 
     requires fit { All IsItemFit added.now }
     ensures { IsTrue result ↔ All (λ x. IsSomeAnd (slice_get given.now x) (IsInTheWayOf d.now net added.now)) rip.now }
 {
-    rip.iter().all(|id| may_rip(d, given, net, added, *id))
+    for id in rip {
+        if !may_rip(d, given, net, added, *id) {
+            return false;
+        }
+    }
+    true
 }

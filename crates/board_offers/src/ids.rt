@@ -15,14 +15,24 @@ use std::alloc::{AllocError, Global};
 pub(crate) fn is_named(ids: &[u64], id: u64) -> bool
     ensures { result ≡ names ids.now id }
 {
-    ids.iter().any(|x| *x == id)
+    for x in ids {
+        if *x == id {
+            return true;
+        }
+    }
+    false
 }
 
 // Whether the id is that of a shove.
 fn is_shoved(shoves: &[Shoved], id: u64) -> bool
     ensures { result ≡ list_any (λ (s : OneShove). s.id == id) shoves.now }
 {
-    shoves.iter().any(|s| s.id == id)
+    for s in shoves {
+        if s.id == id {
+            return true;
+        }
+    }
+    false
 }
 
 // Whether no id stands twice.

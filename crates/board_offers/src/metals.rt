@@ -21,7 +21,12 @@ fn is_signal(d: &Design, layer: u8) -> bool
 fn has_via(vias: &[u32], padstack: u32) -> bool
     ensures { IsTrue result ↔ Any (λ v. v ≡ padstack) vias.now }
 {
-    vias.iter().any(|v| *v == padstack)
+    for v in vias {
+        if *v == padstack {
+            return true;
+        }
+    }
+    false
 }
 
 fn is_listed(d: &Design, net: u32, padstack: u32) -> bool
@@ -59,7 +64,12 @@ fn are_addable(d: &Design, net: u32, add: &[Metal]) -> bool
     requires design { IsDesignFit d.now }
     ensures { IsTrue result ↔ All (IsAddable d.now net) add.now }
 {
-    add.iter().all(|m| is_addable(d, net, m))
+    for m in add {
+        if !is_addable(d, net, m) {
+            return false;
+        }
+    }
+    true
 }
 
 /// Whether there are metals, and each may be added.

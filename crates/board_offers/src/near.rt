@@ -24,7 +24,12 @@ pub(crate) fn is_near(p: Point) -> bool
 pub(crate) fn are_near(points: &[Point]) -> bool
     ensures { IsTrue result ↔ All (IsWithin (2 ^ 29)) points.now }
 {
-    points.iter().all(|p| is_near(*p))
+    for p in points {
+        if !is_near(*p) {
+            return false;
+        }
+    }
+    true
 }
 
 fn moved_by(p: Point, by: Point) -> Point
@@ -43,7 +48,12 @@ fn are_near_at(points: &[Point], at: Point) -> bool
     requires at_within { IsWithin (2 ^ 29) at }
     ensures { IsTrue result ↔ All (IsWithin (2 ^ 29)) (map (moved at) points.now) }
 {
-    points.iter().all(|p| is_near(moved_by(*p, at)))
+    for p in points {
+        if !is_near(moved_by(*p, at)) {
+            return false;
+        }
+    }
+    true
 }
 
 fn are_loops_near_at(loops: &[List<Point>], at: Point) -> bool
@@ -51,9 +61,12 @@ fn are_loops_near_at(loops: &[List<Point>], at: Point) -> bool
     requires at_within { IsWithin (2 ^ 29) at }
     ensures { IsTrue result ↔ All (All (IsWithin (2 ^ 29))) (map (map (moved at)) loops.now) }
 {
-    loops
-        .iter()
-        .all(|points| are_near_at(points.as_slice(), at))
+    for points in loops {
+        if !are_near_at(points.as_slice(), at) {
+            return false;
+        }
+    }
+    true
 }
 
 fn is_spine_near_at(s: &Spine, at: Point) -> bool
@@ -80,7 +93,12 @@ fn are_pieces_near_at(ps: &[Piece], at: Point) -> bool
     requires at_within { IsWithin (2 ^ 29) at }
     ensures { IsTrue result ↔ All (λ (p : OnePiece). IsSpineWithin (2 ^ 29) p.spine) (map (moved_piece at) ps.now) }
 {
-    ps.iter().all(|p| is_piece_near_at(p, at))
+    for p in ps {
+        if !is_piece_near_at(p, at) {
+            return false;
+        }
+    }
+    true
 }
 
 // The pieces of a padstack, about the origin.

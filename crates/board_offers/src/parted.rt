@@ -22,7 +22,12 @@ use std::sync::ledger::{Blank, Ledger};
 fn place_of_shove(shoves: &[Shoved], id: u64) -> Option<usize>
     ensures { result ≡ position (λ (s : OneShove). s.id == id) shoves.now }
 {
-    shoves.iter().position(|s| s.id == id)
+    for i in 0..shoves.len() {
+        if shoves[i].id == id {
+            return Some(i);
+        }
+    }
+    None
 }
 
 // An item as it lies after the shoves.

@@ -79,3 +79,13 @@ fails_le x y e = by (le_or_lt x y)
 
 pub passes_lt : (x y : ℤ) → int_lt x y ≡ true → x <ℤ y
 passes_lt x y e = lt_told x y e
+
+pub passes_le : (x y : ℤ) → int_le x y ≡ true → x ≤ℤ y
+passes_le x y e = le_told x y e
+
+pub fails_lt : (x y : ℤ) → int_lt x y ≡ false → y ≤ℤ x
+fails_lt x y e = by (le_or_lt y x)
+  where
+    by : (y ≤ℤ x) ⊎ (x <ℤ y) → y ≤ℤ x
+    by (inl h) = h
+    by (inr h) = absurd (true≢false (sym (lt_tells x y h) ∙ e))

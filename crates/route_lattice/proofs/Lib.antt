@@ -1,4 +1,5 @@
 pub mod Places
+mod Tested
 pub mod Steps
 pub mod Anchoring
 pub mod Numbered

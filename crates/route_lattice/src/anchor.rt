@@ -55,7 +55,12 @@ fn some_holds(layer: u8, p: Point, pieces: &[Piece]) -> bool
     requires fit { All IsFit pieces.now }
     ensures { IsTrue result ↔ Any (Holds layer p) pieces.now }
 {
-    pieces.iter().any(|q| holds(layer, p, q))
+    for q in pieces {
+        if holds(layer, p, q) {
+            return true;
+        }
+    }
+    false
 }
 
 fn is_anchor_of(d: &Design, unit: u64, metal: &Metal, p: Point) -> bool

@@ -1,7 +1,7 @@
 //! The nodes that anchor items, without a look at the whole lattice.
 //! Only the lines that cross the boxes of an item's segments are looked at.
 
-ghost use Rattle.std.specs.Prelude.{◌≡◌, ◌<◌, ◌≤◌, ◌<ℤ◌, ℕ, pos, IfOk, OnOk, length, slice_index_or};
+ghost use Rattle.std.specs.Prelude.{◌≡◌, ◌<◌, ◌≤◌, ◌<ℤ◌, ◌≤ℤ◌, ℕ, pos, IfOk, OnOk, length, slice_index_or};
 ghost use Rattle.std.specs.List.Sorted.{IsStrictlySortedBy};
 ghost use Rattle.std.specs.Ordering.{int_cmp};
 ghost use Rattle.pcb_model.specs.Copper.{Ascends};
@@ -27,17 +27,21 @@ pub(crate) struct Window {
     pub top: usize,
 }
 
-fn first_from(lines: &[i64], low: i64) -> usize
+/// The place of the first line from a number on.
+pub fn first_from(lines: &[i64], low: i64) -> usize
     requires { IsStrictlySortedBy int_cmp lines.now }
     ensures within { result ≤ length lines.now }
     ensures below { (k : ℕ) → k < result → slice_index_or lines.now k (pos 0) <ℤ low }
+    ensures from { (k : ℕ) → result ≤ k → k < length lines.now → low ≤ℤ slice_index_or lines.now k (pos 0) }
 {
     lines.partition_point(|z| *z < low)
 }
 
-fn first_above(lines: &[i64], high: i64) -> usize
+/// The place of the first line above a number.
+pub fn first_above(lines: &[i64], high: i64) -> usize
     requires { IsStrictlySortedBy int_cmp lines.now }
     ensures within { result ≤ length lines.now }
+    ensures up_to { (k : ℕ) → k < result → slice_index_or lines.now k (pos 0) ≤ℤ high }
     ensures above { (k : ℕ) → result ≤ k → k < length lines.now → high <ℤ slice_index_or lines.now k (pos 0) }
 {
     lines.partition_point(|z| *z <= high)

@@ -19,7 +19,7 @@ mod round;
 mod touch;
 mod ways;
 
-pub use found::{anchor_nodes, anchors_among};
+pub use found::{anchor_nodes, anchors_among, first_above, first_from};
 pub use laws::{lines_by_membership, nodes_within, outline_is_least};
 pub use legal::{LegalMoves, legal_among, legal_graph_sound, legal_node};
 pub use make::LatticeFault;

@@ -35,7 +35,12 @@ fn are_near(points: &[Point], by: Point) -> bool
     requires by_within { IsWithin (2 ^ 29) by }
     ensures { result ≡ list_all (is_near_at by) points.now }
 {
-    points.iter().all(|p| is_near(*p, by))
+    for p in points {
+        if !is_near(*p, by) {
+            return false;
+        }
+    }
+    true
 }
 
 fn loops_near(loops: &[List<Point>], by: Point) -> bool
@@ -43,7 +48,12 @@ fn loops_near(loops: &[List<Point>], by: Point) -> bool
     requires by_within { IsWithin (2 ^ 29) by }
     ensures { result ≡ list_all (list_all (is_near_at by)) loops.now }
 {
-    loops.iter().all(|points| are_near(points.as_slice(), by))
+    for points in loops {
+        if !are_near(points.as_slice(), by) {
+            return false;
+        }
+    }
+    true
 }
 
 fn spine_near(spine: &Spine, by: Point) -> bool
@@ -63,14 +73,24 @@ pub fn pieces_near(pieces: &[Piece], by: Point) -> bool
     requires by_within { IsWithin (2 ^ 29) by }
     ensures { result ≡ are_near_at by pieces.now }
 {
-    pieces.iter().all(|q| spine_near(&q.spine, by))
+    for q in pieces {
+        if !spine_near(&q.spine, by) {
+            return false;
+        }
+    }
+    true
 }
 
 /// Whether some piece lies on the layer.
 pub fn has_copper(pieces: &[Piece], layer: u8) -> bool
     ensures { result ≡ has_copper_on pieces.now layer }
 {
-    pieces.iter().any(|q| q.layer == layer)
+    for q in pieces {
+        if q.layer == layer {
+            return true;
+        }
+    }
+    false
 }
 
 /// Whether the pieces join two layers at a point.

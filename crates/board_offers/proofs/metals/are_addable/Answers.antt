@@ -1,14 +1,18 @@
-use Rattle.std.proofs.Common.{rules, tests}
-use Rattle.std.proofs.lemmas.Iterator.{cases_from_all, YieldsList-from_slice}
-use Rattle.pcb_model.specs.declared.item.Metal.{Metal}
-use Rattle.pcb_model.proofs.Answered.{all_answered}
 use Rattle.board_offers.specs.Offers.{IsAddable}
+use Rattle.board_offers.proofs.Tested.{passed, failed, all_passed}
 use Rattle.board_offers.proofs.metals.are_addable.Goals as goal
+
+pub loop-m-preserved : goal.loop-m-preserved
+loop-m-preserved c =
+    passed (IsAddable c.args.d.now c.args.net) c.args.add.now c.loop-m.m-index c.m-item.result c.is_addable.result
+    c.loop-m-test.true c.m-item.is c.loop-m.invariant c.is_addable.ensures c.if-not-is_addable.false
+
+pub returns-then-not-is_addable : goal.returns-then-not-is_addable
+returns-then-not-is_addable c =
+    failed (IsAddable c.args.d.now c.args.net) c.args.add.now c.loop-m.m-index c.m-item.result c.is_addable.result
+    c.loop-m-test.true c.m-item.is c.is_addable.ensures c.if-not-is_addable.true
 
 pub returns : goal.returns
 returns c =
-    let xs = c.args.add.now in
-    let P : Metal → Type 0 = IsAddable c.args.d.now c.args.net in
-    all_answered P c.all.result xs
-    (cases_from_all _ _ _ P (λ x. ¬ (P x)) c.all.ensures.ran (YieldsList-from_slice xs cc)
-    (λ x q k. search (rules, tests)) (λ x q k. search (rules, tests)))
+    all_passed (IsAddable c.args.d.now c.args.net) c.args.add.now c.loop-m.m-index c.loop-m-test.false
+    c.loop-m.invariant

@@ -1,20 +1,28 @@
-use Rattle.std.proofs.Common.{rules, tests, IsTrue, ◌↔◌, ◌^◌, All}
-use Rattle.std.proofs.lemmas.Iterator.{cases_from_all, YieldsList-from_slice}
-use Rattle.std.proofs.lemmas.List.Elements.{All-map}
+use Rattle.std.proofs.Common.{◌^◌}
 use Rattle.geo_kernel.specs.Spine.{IsSpineWithin}
 use Rattle.pcb_model.specs.declared.item.Piece.{Piece}
+use Rattle.pcb_model.specs.Bounds.{IsFit}
 use Rattle.pcb_model.specs.Pieces.{moved_piece}
-use Rattle.pcb_model.proofs.Answered.{all_answered}
-use Rattle.pcb_model.proofs.Probes.{All-unmap}
+use Rattle.board_offers.proofs.Tested.{here, passed, failed_mapped, mapped_passed}
 use Rattle.board_offers.proofs.near.are_pieces_near_at.Goals as goal
+
+pub is_piece_near_at-requires-clause-fits : goal.is_piece_near_at-requires-clause-fits
+is_piece_near_at-requires-clause-fits c =
+    here IsFit c.args.ps.now c.loop-p.p-index c.p-item.result c.loop-p-test.true c.p-item.is c.requires.fit
+
+pub loop-p-preserved : goal.loop-p-preserved
+loop-p-preserved c =
+    passed (λ (p : Piece). IsSpineWithin (2 ^ 29) (moved_piece c.args.at p).spine) c.args.ps.now c.loop-p.p-index
+    c.p-item.result c.is_piece_near_at.result c.loop-p-test.true c.p-item.is c.loop-p.invariant
+    c.is_piece_near_at.ensures c.if-not-is_piece_near_at.false
+
+pub returns-then-not-is_piece_near_at : goal.returns-then-not-is_piece_near_at
+returns-then-not-is_piece_near_at c =
+    failed_mapped (λ (p : Piece). IsSpineWithin (2 ^ 29) p.spine) (moved_piece c.args.at) c.args.ps.now c.loop-p.p-index
+    c.p-item.result c.is_piece_near_at.result c.loop-p-test.true c.p-item.is c.is_piece_near_at.ensures
+    c.if-not-is_piece_near_at.true
 
 pub returns : goal.returns
 returns c =
-    let xs = c.args.ps.now in
-    let Q : Piece → Type 0 = λ (p : Piece). IsSpineWithin (2 ^ 29) p.spine in
-    let f : Piece → Piece = moved_piece c.args.at in
-    let P : Piece → Type 0 = λ x. Q (f x) in
-    let t : IsTrue c.all.result ↔ All P xs = all_answered P c.all.result xs
-    (cases_from_all _ _ _ P (λ x. ¬ (P x)) c.all.ensures.ran (YieldsList-from_slice xs cc)
-    (λ x q k. search (rules, tests)) (λ x q k. search (rules, tests))) in
-    (λ h. All-map Q f xs (t.0 h), λ h. t.1 (All-unmap Q f xs h))
+    mapped_passed (λ (p : Piece). IsSpineWithin (2 ^ 29) p.spine) (moved_piece c.args.at) c.args.ps.now c.loop-p.p-index
+    c.loop-p-test.false c.loop-p.invariant

@@ -3,7 +3,7 @@
 use crate::Said;
 
 /// Why a call ended without a report.
-#[derive(Clone, Copy, PartialEq, Eq)]
+#[derive(Clone, Copy)]
 pub enum Fault {
     /// A status line says it.
     Told(Said),

@@ -2,7 +2,7 @@
 //! The names of what is counted are those of the line.
 
 /// What is counted where a limit is passed.
-#[derive(Clone, Copy, PartialEq, Eq)]
+#[derive(Clone, Copy)]
 pub enum Counted {
     /// The bytes of the design's file.
     Bytes,
@@ -21,7 +21,7 @@ pub enum Counted {
 }
 
 /// What a status line says.
-#[derive(Clone, Copy, PartialEq, Eq)]
+#[derive(Clone, Copy)]
 pub enum Said {
     /// The words are refused by this number.
     Usage { number: u64 },

@@ -11,7 +11,7 @@ use geo_kernel::{List, Point, Rect4};
 use pcb_model::Design;
 
 /// The board's left and upper end, how wide and high it is, and the unit of the legend; in nm.
-#[derive(Clone, Copy, PartialEq, Eq)]
+#[derive(Clone, Copy)]
 pub(crate) struct Sheet {
     pub left: i64,
     pub top: i64,

@@ -143,7 +143,12 @@ fn put_size_row(out: &mut Vec<u8>, row: u128, s: Sheet) -> Result<(), AllocError
 fn has_through(items: &[Item]) -> bool
     ensures { result ≡ has_through items.now }
 {
-    items.iter().any(is_through)
+    for a in items {
+        if is_through(a) {
+            return true;
+        }
+    }
+    false
 }
 
 fn is_hatched(a: &Item) -> bool
@@ -155,7 +160,12 @@ fn is_hatched(a: &Item) -> bool
 fn has_keepout(items: &[Item]) -> bool
     ensures { result ≡ has_keepout items.now }
 {
-    items.iter().any(is_hatched)
+    for a in items {
+        if is_hatched(a) {
+            return true;
+        }
+    }
+    false
 }
 
 fn put_through_rows(out: &mut Vec<u8>, there: bool, row: u128) -> Result<(), AllocError>
@@ -205,13 +215,25 @@ fn put_mark_rows(out: &mut Vec<u8>, row: u128, items: &[Item]) -> Result<(), All
 fn wire_count(items: &[Item]) -> usize
     ensures { result ≡ wire_count items.now }
 {
-    items.iter().filter(|a| is_wire(&a.metal)).count()
+    let mut count = 0;
+    for a in items {
+        if is_wire(&a.metal) {
+            count += 1;
+        }
+    }
+    count
 }
 
 fn via_count(items: &[Item]) -> usize
     ensures { result ≡ via_count items.now }
 {
-    items.iter().filter(|a| is_via(&a.metal)).count()
+    let mut count = 0;
+    for a in items {
+        if is_via(&a.metal) {
+            count += 1;
+        }
+    }
+    count
 }
 
 #[tactic(auto, unfolding(crate::specs::Legend::count_rows))]

@@ -93,7 +93,12 @@ fn has_breadth(c: &Piece) -> bool
 pub(crate) fn have_breadth(pieces: &[Piece]) -> bool
     ensures { result ≡ have_breadth pieces.now }
 {
-    pieces.iter().any(has_breadth)
+    for c in pieces {
+        if has_breadth(c) {
+            return true;
+        }
+    }
+    false
 }
 
 fn put_broad_piece(out: &mut Vec<u8>, c: &Piece) -> Result<(), AllocError>
@@ -166,7 +171,12 @@ pub(crate) fn is_land(metal: &Metal) -> bool
 fn leaves_layer(layer: u8, pieces: &[Piece]) -> bool
     ensures { result ≡ leaves_layer layer pieces.now }
 {
-    pieces.iter().any(|p| p.layer != layer)
+    for c in pieces {
+        if c.layer != layer {
+            return true;
+        }
+    }
+    false
 }
 
 fn spans_layers(pieces: &[Piece]) -> bool

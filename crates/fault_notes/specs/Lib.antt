@@ -3,3 +3,4 @@ pub mod Numbers
 pub mod Lines
 pub mod Kept
 pub mod Notes
+pub mod Parts

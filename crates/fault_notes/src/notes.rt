@@ -1,21 +1,72 @@
 //! What standard error says of a fault.
 //! It names the file and, in a design, the line and the column; then what is wrong, and what to do where that is known.
 
-ghost use Rattle.std.specs.Prelude.{◌≡◌, ◌++◌, IfOk, codes, string_bytes};
+ghost use Rattle.std.specs.Prelude.{◌≡◌, ◌++◌, IfOk, OnOk, codes, flat_map, string_bytes};
 ghost use Rattle.std.specs.Option.{option_map};
 ghost use Rattle.fault_notes.specs.Notes.{IsFramed, IsNote, place_front, number_back, limit_front};
+ghost use Rattle.fault_notes.specs.Parts.{part_word, part_words};
 
 use crate::line::word;
 use crate::refusals::{limit_words, refusal_words, usage_words};
 use crate::{Counted, Fault, Said, place_of};
+use itoa::Buffer;
 use route_words::USAGE;
 use std::alloc::{AllocError, Global};
+
+// ---- parts
+
+/// A part of a note: text, or a number.
+#[derive(Clone, Copy)]
+pub(crate) enum Part<'a> {
+    Number(u128),
+    Text(&'a str),
+}
+
+fn put_part(out: &mut String, part: Part) -> Result<(), AllocError>
+    ensures { OnOk result (string_bytes out.new ≡ string_bytes out.old ++ part_word part.entry) }
+{
+    match part {
+        Part::Number(n) => {
+            let mut buffer = Buffer::new();
+            out.push_str(buffer.format(n))
+        }
+        Part::Text(text) => out.push_str(text),
+    }
+}
+
+fn put_parts(out: &mut String, parts: &[Part]) -> Result<(), AllocError>
+    ensures { OnOk result (string_bytes out.new ≡ string_bytes out.old ++ flat_map part_word parts.now) }
+{
+    for part in parts {
+        put_part(out, *part)?;
+    }
+    Ok(())
+}
+
+// Parts, one after another.
+fn text_of(alloc: Global, parts: &[Part]) -> Result<String, AllocError>
+    ensures { IfOk result (λ text. string_bytes text ≡ part_words parts.now) }
+{
+    let mut text = String::new(alloc);
+    put_parts(&mut text, parts)?;
+    Ok(text)
+}
+
+// ---- notes
 
 fn usage_note(alloc: Global, number: u64) -> Result<String, AllocError>
     ensures { IfOk result (λ note. IsFramed (codes "dsnroute: ") (codes "\n" ++ USAGE.now) (string_bytes note)) }
 {
     let words = usage_words(number);
-    format!(in alloc; "dsnroute: {words}\n{USAGE}")
+    text_of(
+        alloc,
+        &[
+            Part::Text("dsnroute: "),
+            Part::Text(words),
+            Part::Text("\n"),
+            Part::Text(USAGE),
+        ],
+    )
 }
 
 fn place_front(
@@ -29,11 +80,29 @@ fn place_front(
     match text {
         Some(text) => {
             let place = place_of(text, at);
-            let line = place.line;
-            let column = place.column;
-            format!(in alloc; "{file}:{line}:{column}: refused: ")
+            text_of(
+                alloc,
+                &[
+                    Part::Text(file),
+                    Part::Text(":"),
+                    Part::Number(place.line as u128),
+                    Part::Text(":"),
+                    Part::Number(place.column as u128),
+                    Part::Text(": refused: "),
+                ],
+            )
         }
-        None => format!(in alloc; "{file}: refused at byte {at}: "),
+        None => {
+            text_of(
+                alloc,
+                &[
+                    Part::Text(file),
+                    Part::Text(": refused at byte "),
+                    Part::Number(at as u128),
+                    Part::Text(": "),
+                ],
+            )
+        }
     }
 }
 
@@ -52,18 +121,6 @@ fn refused_note(
     format!(in alloc; "{front}{words} (refusal {number})\n")
 }
 
-fn limit_front(
-    alloc: Global,
-    file: &str,
-    counted: Counted,
-    number: u128,
-) -> Result<String, AllocError>
-    ensures { IfOk result (λ front. string_bytes front ≡ limit_front file.now counted number) }
-{
-    let what = word(counted);
-    format!(in alloc; "{file}: too large: {number} {what}")
-}
-
 fn limit_note(
     alloc: Global,
     file: &str,
@@ -72,9 +129,20 @@ fn limit_note(
 ) -> Result<String, AllocError>
     ensures { IfOk result (λ note. IsFramed (limit_front file.now counted number) (codes "\n") (string_bytes note)) }
 {
-    let front = limit_front(alloc, file, counted, number)?;
+    let what = word(counted);
     let words = limit_words(counted);
-    format!(in alloc; "{front}{words}\n")
+    text_of(
+        alloc,
+        &[
+            Part::Text(file),
+            Part::Text(": too large: "),
+            Part::Number(number),
+            Part::Text(" "),
+            Part::Text(what),
+            Part::Text(words),
+            Part::Text("\n"),
+        ],
+    )
 }
 
 /// The note of a fault, for a person. `input` and `output` name the files of the design and of the session, and `text`
@@ -94,10 +162,19 @@ pub fn note_text(
         Fault::Told(Said::Refused { number, place }) => {
             refused_note(alloc, input, text, number, place)
         }
-        Fault::Told(Said::ReadFault) => format!(in alloc; "{input}: the file can't be read\n"),
+        Fault::Told(Said::ReadFault) => text_of(
+            alloc,
+            &[Part::Text(input), Part::Text(": the file can't be read\n")],
+        ),
         Fault::Told(Said::Limit { counted, number }) => limit_note(alloc, input, counted, number),
         Fault::Told(Said::Other) => Ok(String::new(alloc)),
-        Fault::Session => format!(in alloc; "{output}: the file can't be written\n"),
+        Fault::Session => text_of(
+            alloc,
+            &[
+                Part::Text(output),
+                Part::Text(": the file can't be written\n"),
+            ],
+        ),
         Fault::Report => String::from_str(alloc, "dsnroute: standard output can't be written\n"),
         Fault::Memory => String::from_str(alloc, "dsnroute: memory was wanting\n"),
     }

@@ -28,7 +28,14 @@ fn whole_number(digits: &[u8]) -> Option<u128>
 fn count_of_digits(bytes: &[u8]) -> usize
     ensures { result ≡ digit_count bytes.now }
 {
-    bytes.iter().take_while(|c| c.is_ascii_digit()).count()
+    let mut count = 0;
+    for b in bytes {
+        if !b.is_ascii_digit() {
+            return count;
+        }
+        count += 1;
+    }
+    count
 }
 
 // The number that the digits at the front spell, and what stands behind them.

@@ -2,12 +2,20 @@
 use Rattle.std.proofs.Common.{◌≡◌, List, [], ◌∷◌, ℕ, ◌+◌, ◌<◌, ◌≤◌, ◌++◌, length, get_or, drop, ap}
 use Rattle.std.proofs.Common.{sym, ◌∙◌, append_assoc, append-nil}
 use Rattle.std.proofs.lemmas.List.{drop_more, drop_all}
+use Rattle.std.proofs.lemmas.Result.{on_ok_weaker}
+use Rattle.std.specs.Prelude.{Result, OnOk}
 use Rattle.ses_writer.specs.Words.{Appends}
 
 -- first x, and then y
 pub then_put : {a b c x y : List ℕ} → Appends a b x → Appends b c y → Appends a c (x ++ y)
 then_put {a} {b} {c} {x} {y} first second =
     record { is = second.is ∙ ap (λ (l : List ℕ). l ++ y) first.is ∙ append_assoc a x y }
+
+module _ {T E : Type 0} (r : Result T E) where
+  -- first x, and y last
+  pub put_last : {a b x : List ℕ} (c y : List ℕ) → Appends a b x → OnOk r (Appends b c y)
+      → OnOk r (Appends a c (x ++ y))
+  put_last {a} {b} {x} c y first last = on_ok_weaker r (λ (put : Appends b c y). then_put first put) last
 
 -- what is written, and what is left, is all
 pub record Leads (out rest all : List ℕ) : Type 0 where

@@ -154,3 +154,10 @@ routes_part d s items = codes "  (routes\n" ++ resolution_line s ++ parser_lines
 unfoldable pub session_of : Design → List Item → Bool → List ℕ
 session_of d items omit_fixed =
     placement_part d (scale_of d) ++ routes_part d (scale_of d) (filter (is_printed omit_fixed) items) ++ codes ")\n"
+
+-- ---- what private functions put at once
+
+-- the line of a host, whose word stands in its front
+abbrev pub fronted_line : List ℕ → Option (List ℕ) → List ℕ
+fronted_line front None = []
+fronted_line front (Some host) = front ++ spelled host ++ codes ")\n"

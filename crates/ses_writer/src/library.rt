@@ -1,35 +1,36 @@
 //! The library of a session: the padstacks of the printed vias.
 //! Source: SPECCTRA reference, padstack and shape descriptors.
 
-ghost use Rattle.std.specs.Prelude.{◌≡◌, ◌<◌, ◌++◌, OnOk, IfOk, flat_map, filter, length};
-ghost use Rattle.ses_writer.specs.Words.{Appends};
+ghost use Rattle.std.specs.Prelude.{◌≡◌, ◌<◌, ◌++◌, OnOk, IfOk, flat_map, filter, length, codes};
+ghost use Rattle.ses_writer.specs.Words.{Appends, spelled};
 ghost use Rattle.ses_writer.specs.Passes.{TellsVias, Marks};
 ghost use Rattle.ses_writer.specs.Session.{layer_word, shape_word, spine_words, shape_line, padstack_lines};
 ghost use Rattle.ses_writer.specs.Session.{library_lines, is_printed};
 
-use crate::words::{put, put_area, put_chain, put_no_name, put_spelled, put_width};
+use crate::words::{put, put_area, put_chain, put_framed, put_run};
 use geo_kernel::{List, Spine};
 use pcb_model::{Design, Item, Metal, Padstack, Piece};
 use std::alloc::{AllocError, Global};
 
-pub(crate) fn put_layer(out: &mut Vec<u8>, d: &Design, layer: u8) -> Result<(), AllocError>
-    ensures { OnOk result (Appends out.old.items out.new.items (layer_word d.now layer)) }
+// The name of a layer, and none where there is no such layer.
+pub(crate) fn layer_name(d: &Design, layer: u8) -> &[u8]
+    ensures { spelled result.now ≡ layer_word d.now layer }
 {
     match d.layers.as_slice().get(layer as usize) {
-        Some(l) => put_spelled(out, &l.name),
-        None => put_no_name(out),
+        Some(l) => l.name.as_slice(),
+        None => &[],
     }
 }
 
-fn put_shape_word(out: &mut Vec<u8>, spine: &Spine) -> Result<(), AllocError>
-    ensures { OnOk result (Appends out.old.items out.new.items (shape_word spine.now)) }
+fn shape_front(spine: &Spine) -> &'static [u8]
+    ensures { result.now ≡ codes "        (shape (" ++ shape_word spine.now }
 {
     match spine {
         Spine::Chain(points) => match points.as_slice() {
-            [_] => put(out, b"circle "),
-            _ => put(out, b"path "),
+            [_] => b"        (shape (circle ",
+            _ => b"        (shape (path ",
         },
-        Spine::Area(_) => put(out, b"polygon "),
+        Spine::Area(_) => b"        (shape (polygon ",
     }
 }
 
@@ -48,13 +49,10 @@ fn put_shape(out: &mut Vec<u8>, d: &Design, nm: u64, c: &Piece) -> Result<(), Al
     requires { 0 < nm }
     ensures { OnOk result (Appends out.old.items out.new.items (shape_line d.now nm c.now)) }
 {
-    put(out, b"        (shape (")?;
-    put_shape_word(out, &c.spine)?;
-    put_layer(out, d, c.layer)?;
-    put_width(out, nm, c.width)?;
+    let name = layer_name(d, c.layer);
+    put_run(out, nm, shape_front(&c.spine), name, c.width)?;
     put_spine(out, nm, &c.spine)?;
-    put(out, b"))\n")?;
-    Ok(())
+    put(out, b"))\n")
 }
 
 fn put_shapes(
@@ -77,12 +75,9 @@ fn put_padstack(out: &mut Vec<u8>, d: &Design, nm: u64, s: &Padstack) -> Result<
     requires { 0 < nm }
     ensures { OnOk result (Appends out.old.items out.new.items (padstack_lines d.now nm s.now)) }
 {
-    put(out, b"      (padstack ")?;
-    put_spelled(out, &s.name)?;
-    put(out, b"\n")?;
+    put_framed(out, b"      (padstack ", s.name.as_slice(), b"\n")?;
     put_shapes(out, d, nm, &s.pieces)?;
-    put(out, b"        (attach off)\n      )\n")?;
-    Ok(())
+    put(out, b"        (attach off)\n      )\n")
 }
 
 // An item with a net is printed, a fixed one where fixed ones aren't left out.

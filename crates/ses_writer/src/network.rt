@@ -3,23 +3,59 @@
 
 ghost use Rattle.std.specs.Prelude.{◌≡◌, ◌<◌, ◌++◌, [], ℕ, OnOk, IfOk, All, filter, length, Vec};
 ghost use Rattle.std.specs.Global.{Global as Memory};
-ghost use Rattle.ses_writer.specs.Words.{Appends};
+ghost use Rattle.pcb_model.specs.declared.item.Metal.TheVariants.{Wire, Via};
+ghost use Rattle.ses_writer.specs.Words.{Appends, spelled};
 ghost use Rattle.ses_writer.specs.Passes.{AddsLine, TellsLines};
 ghost use Rattle.ses_writer.specs.Session.{padstack_word, metal_line, net_lines, is_printed, network_lines};
 
-use crate::library::{prints, put_layer};
-use crate::words::{put, put_chain, put_no_name, put_point, put_spelled, put_width};
-use geo_kernel::Name;
+use crate::library::{layer_name, prints};
+use crate::words::{put, put_chain, put_framed, put_placed, put_run};
+use geo_kernel::{List, Name, Point};
 use pcb_model::{Design, Item, Metal};
 use std::alloc::{AllocError, Global};
 
-fn put_padstack_name(out: &mut Vec<u8>, d: &Design, padstack: u32) -> Result<(), AllocError>
-    ensures { OnOk result (Appends out.old.items out.new.items (padstack_word d.now padstack)) }
+// The name of a padstack, and none where there is no such padstack.
+fn padstack_name(d: &Design, padstack: u32) -> &[u8]
+    ensures { spelled result.now ≡ padstack_word d.now padstack }
 {
     match d.padstacks.as_slice().get(padstack as usize) {
-        Some(s) => put_spelled(out, &s.name),
-        None => put_no_name(out),
+        Some(s) => s.name.as_slice(),
+        None => &[],
     }
+}
+
+#[tactic(auto, unfolding(crate::specs::Session::metal_line))]
+fn put_wire(
+    out: &mut Vec<u8>,
+    d: &Design,
+    nm: u64,
+    layer: u8,
+    width: u64,
+    chain: &List<Point>,
+) -> Result<(), AllocError>
+    requires { 0 < nm }
+    ensures { OnOk result (Appends out.old.items out.new.items (metal_line d.now nm (Wire layer width chain.now))) }
+{
+    let name = layer_name(d, layer);
+    put_run(out, nm, b"        (wire (path ", name, width)?;
+    put_chain(out, nm, chain)?;
+    put(out, b"))\n")
+}
+
+#[tactic(auto, unfolding(crate::specs::Session::metal_line))]
+fn put_via(
+    out: &mut Vec<u8>,
+    d: &Design,
+    nm: u64,
+    padstack: u32,
+    at: &Point,
+) -> Result<(), AllocError>
+    requires { 0 < nm }
+    ensures { OnOk result (Appends out.old.items out.new.items (metal_line d.now nm (Via padstack at.now))) }
+{
+    let name = padstack_name(d, padstack);
+    put_placed(out, nm, b"        (via ", name, at)?;
+    put(out, b")\n")
 }
 
 #[tactic(auto, unfolding(crate::specs::Session::metal_line))]
@@ -32,21 +68,8 @@ fn put_metal(out: &mut Vec<u8>, d: &Design, nm: u64, metal: &Metal) -> Result<()
             layer,
             width,
             chain,
-        } => {
-            put(out, b"        (wire (path ")?;
-            put_layer(out, d, *layer)?;
-            put_width(out, nm, *width)?;
-            put_chain(out, nm, chain)?;
-            put(out, b"))\n")?;
-            Ok(())
-        }
-        Metal::Via { padstack, at } => {
-            put(out, b"        (via ")?;
-            put_padstack_name(out, d, *padstack)?;
-            put_point(out, nm, at)?;
-            put(out, b")\n")?;
-            Ok(())
-        }
+        } => put_wire(out, d, nm, *layer, *width, chain),
+        Metal::Via { padstack, at } => put_via(out, d, nm, *padstack, at),
         Metal::Pad { .. } => Ok(()),
         Metal::Ban { .. } => Ok(()),
     }
@@ -59,12 +82,9 @@ fn put_net(out: &mut Vec<u8>, name: &Name, lines: &[u8]) -> Result<(), AllocErro
     if lines.is_empty() {
         return Ok(());
     }
-    put(out, b"      (net ")?;
-    put_spelled(out, name)?;
-    put(out, b"\n")?;
+    put_framed(out, b"      (net ", name.as_slice(), b"\n")?;
     put(out, lines)?;
-    put(out, b"      )\n")?;
-    Ok(())
+    put(out, b"      )\n")
 }
 
 fn add_line(

@@ -1,25 +1,27 @@
 //! The placement of a session: its scale and its components.
 //! Source: SPECCTRA reference, placement descriptor.
 
-ghost use Rattle.std.specs.Prelude.{◌≡◌, ◌<◌, ◌++◌, OnOk};
+ghost use Rattle.std.specs.Prelude.{◌≡◌, ◌<◌, ◌++◌, OnOk, codes};
 ghost use Rattle.ses_writer.specs.Words.{Appends};
 ghost use Rattle.ses_writer.specs.Session.{unit_word, resolution_line, side_words, place_line, component_line};
 ghost use Rattle.ses_writer.specs.Session.{image_change, places_after, component_lines};
 
-use crate::words::{put, put_degrees, put_point, put_spelled, put_whole};
+use crate::words::{put, put_degrees, put_framed, put_placed, put_whole};
 use geo_kernel::Unit;
 use pcb_model::{Component, SesScale};
 use std::alloc::AllocError;
 
+// The front of the line, with the unit.
 fn put_unit(out: &mut Vec<u8>, unit: Unit) -> Result<(), AllocError>
-    ensures { OnOk result (Appends out.old.items out.new.items (unit_word unit)) }
+    ensures { OnOk result (Appends out.old.items out.new.items
+        (codes "    (resolution " ++ unit_word unit ++ codes " ")) }
 {
     match unit {
-        Unit::Inch => put(out, b"inch"),
-        Unit::Mil => put(out, b"mil"),
-        Unit::Cm => put(out, b"cm"),
-        Unit::Mm => put(out, b"mm"),
-        Unit::Um => put(out, b"um"),
+        Unit::Inch => put(out, b"    (resolution inch "),
+        Unit::Mil => put(out, b"    (resolution mil "),
+        Unit::Cm => put(out, b"    (resolution cm "),
+        Unit::Mm => put(out, b"    (resolution mm "),
+        Unit::Um => put(out, b"    (resolution um "),
     }
 }
 
@@ -27,12 +29,9 @@ fn put_unit(out: &mut Vec<u8>, unit: Unit) -> Result<(), AllocError>
 pub(crate) fn put_resolution(out: &mut Vec<u8>, scale: SesScale) -> Result<(), AllocError>
     ensures { OnOk result (Appends out.old.items out.new.items (resolution_line scale)) }
 {
-    put(out, b"    (resolution ")?;
     put_unit(out, scale.unit)?;
-    put(out, b" ")?;
     put_whole(out, scale.per)?;
-    put(out, b")\n")?;
-    Ok(())
+    put(out, b")\n")
 }
 
 fn put_side(out: &mut Vec<u8>, back: bool) -> Result<(), AllocError>
@@ -50,23 +49,17 @@ fn put_place(out: &mut Vec<u8>, nm: u64, c: &Component) -> Result<(), AllocError
     requires { 0 < nm }
     ensures { OnOk result (Appends out.old.items out.new.items (place_line nm c.now)) }
 {
-    put(out, b"      (place ")?;
-    put_spelled(out, &c.name)?;
-    put_point(out, nm, &c.at)?;
+    put_placed(out, nm, b"      (place ", c.name.as_slice(), &c.at)?;
     put_side(out, c.back)?;
     put_degrees(out, c.microdegrees)?;
-    put(out, b")\n")?;
-    Ok(())
+    put(out, b")\n")
 }
 
 #[tactic(auto, unfolding(crate::specs::Session::component_line))]
 fn put_component_line(out: &mut Vec<u8>, c: &Component) -> Result<(), AllocError>
     ensures { OnOk result (Appends out.old.items out.new.items (component_line c.now)) }
 {
-    put(out, b"    (component ")?;
-    put_spelled(out, &c.image)?;
-    put(out, b"\n")?;
-    Ok(())
+    put_framed(out, b"    (component ", c.image.as_slice(), b"\n")
 }
 
 fn put_image_change(out: &mut Vec<u8>, b: &Component, c: &Component) -> Result<(), AllocError>
@@ -111,8 +104,7 @@ pub(crate) fn put_components(
         [first, others @ ..] => {
             put_component_line(out, first)?;
             put_place(out, nm, first)?;
-            put_places_after(out, nm, first, others)?;
-            Ok(())
+            put_places_after(out, nm, first, others)
         }
     }
 }

@@ -2,32 +2,37 @@
 //! Source: SPECCTRA reference, session file descriptor.
 
 ghost use Rattle.std.specs.Prelude.{◌≡◌, ◌<◌, ◌++◌, OnOk, IfOk, codes, filter};
-ghost use Rattle.ses_writer.specs.Words.{Appends};
-ghost use Rattle.ses_writer.specs.Session.{host_line, is_printed, placement_part, parser_lines, routes_part};
-ghost use Rattle.ses_writer.specs.Session.{session_of};
+ghost use Rattle.ses_writer.specs.Words.{Appends, spelled};
+ghost use Rattle.ses_writer.specs.Session.{resolution_line, is_printed, placement_part, parser_lines, routes_part};
+ghost use Rattle.ses_writer.specs.Session.{session_of, fronted_line};
 
 use crate::items::items_of;
 use crate::library::put_library;
 use crate::network::put_network;
 use crate::placement::{put_components, put_resolution};
-use crate::words::{put, put_spelled};
+use crate::words::{put, put_framed};
 use geo_kernel::Name;
 use pcb_board::Board;
 use pcb_model::{Design, Item, SesScale};
 use std::alloc::{AllocError, Global};
 
-#[tactic(auto, unfolding(crate::specs::Session::host_line))]
-fn put_host(out: &mut Vec<u8>, word: &[u8], host: &Option<Name>) -> Result<(), AllocError>
-    ensures { OnOk result (Appends out.old.items out.new.items (host_line word.now host.now)) }
+// The line of a host's word, which stands in its front.
+fn put_host(out: &mut Vec<u8>, front: &[u8], host: &Option<Name>) -> Result<(), AllocError>
+    ensures { OnOk result (Appends out.old.items out.new.items (fronted_line front.now host.now)) }
 {
-    if let Some(host) = host {
-        put(out, b"      (")?;
-        put(out, word)?;
-        put(out, b" ")?;
-        put_spelled(out, host)?;
-        put(out, b")\n")?;
+    match host {
+        Some(host) => put_framed(out, front, host.as_slice(), b")\n"),
+        None => Ok(()),
     }
-    Ok(())
+}
+
+// The session's head, with the name of the design twice.
+fn put_head(out: &mut Vec<u8>, name: &[u8]) -> Result<(), AllocError>
+    ensures { OnOk result (Appends out.old.items out.new.items (codes "(session " ++ spelled name.now
+        ++ codes "\n  (base_design " ++ spelled name.now ++ codes ")\n  (placement\n")) }
+{
+    put_framed(out, b"(session ", name, b"\n  (base_design ")?;
+    put_framed(out, b"", name, b")\n  (placement\n")
 }
 
 #[tactic(auto, unfolding(crate::specs::Session::placement_part))]
@@ -35,15 +40,10 @@ fn put_placement(out: &mut Vec<u8>, d: &Design, scale: SesScale) -> Result<(), A
     requires { 0 < scale.nm }
     ensures { OnOk result (Appends out.old.items out.new.items (placement_part d.now scale)) }
 {
-    put(out, b"(session ")?;
-    put_spelled(out, &d.name)?;
-    put(out, b"\n  (base_design ")?;
-    put_spelled(out, &d.name)?;
-    put(out, b")\n  (placement\n")?;
+    put_head(out, d.name.as_slice())?;
     put_resolution(out, scale)?;
     put_components(out, scale.nm, d.components.as_slice())?;
-    put(out, b"  )\n  (was_is\n  )\n")?;
-    Ok(())
+    put(out, b"  )\n  (was_is\n  )\n")
 }
 
 #[tactic(auto, unfolding(crate::specs::Session::parser_lines))]
@@ -51,10 +51,20 @@ fn put_parser(out: &mut Vec<u8>, d: &Design) -> Result<(), AllocError>
     ensures { OnOk result (Appends out.old.items out.new.items (parser_lines d.now)) }
 {
     put(out, b"    (parser\n")?;
-    put_host(out, b"host_cad", &d.host_cad)?;
-    put_host(out, b"host_version", &d.host_version)?;
-    put(out, b"    )\n")?;
-    Ok(())
+    put_host(out, b"      (host_cad ", &d.host_cad)?;
+    put_host(out, b"      (host_version ", &d.host_version)?;
+    put(out, b"    )\n")
+}
+
+// The front of the routes, up to their library.
+fn put_routes_head(out: &mut Vec<u8>, d: &Design, scale: SesScale) -> Result<(), AllocError>
+    ensures { OnOk result (Appends out.old.items out.new.items
+        (codes "  (routes\n" ++ resolution_line scale ++ parser_lines d.now ++ codes "    (library_out\n")) }
+{
+    put(out, b"  (routes\n")?;
+    put_resolution(out, scale)?;
+    put_parser(out, d)?;
+    put(out, b"    (library_out\n")
 }
 
 #[tactic(auto, unfolding(crate::specs::Session::routes_part))]
@@ -70,21 +80,31 @@ fn put_routes(
     ensures { OnOk result
         (Appends out.old.items out.new.items (routes_part d.now scale (filter (is_printed omit_fixed) items.now))) }
 {
-    put(out, b"  (routes\n")?;
-    put_resolution(out, scale)?;
-    put_parser(out, d)?;
-    put(out, b"    (library_out\n")?;
+    put_routes_head(out, d, scale)?;
     put_library(out, alloc, d, scale.nm, items, omit_fixed)?;
     put(out, b"    )\n    (network_out\n")?;
     put_network(out, alloc, d, scale.nm, items, omit_fixed)?;
-    put(out, b"    )\n  )\n")?;
-    Ok(())
+    put(out, b"    )\n  )\n")
 }
 
-/// The session's bytes: the placement of the design, and the wires and vias among `items` that have a net, net by
-/// net and
-/// in the order of `items`; with `omit_fixed` the fixed ones are left out. The only error is want of memory.
 #[tactic(auto, unfolding(crate::specs::Session::session_of))]
+fn put_session(
+    out: &mut Vec<u8>,
+    alloc: Global,
+    d: &Design,
+    items: &[Item],
+    omit_fixed: bool,
+) -> Result<(), AllocError>
+    ensures { OnOk result (Appends out.old.items out.new.items (session_of d.now items.now omit_fixed)) }
+{
+    let scale = SesScale::pick(d);
+    put_placement(out, d, scale)?;
+    put_routes(out, alloc, d, scale, items, omit_fixed)?;
+    put(out, b")\n")
+}
+
+/// The session's bytes: the placement of the design, and the wires and vias among `items` that have a net, net by net
+/// and in the order of `items`; with `omit_fixed` the fixed ones are left out. The only error is want of memory.
 pub fn items_session(
     alloc: Global,
     d: &Design,
@@ -93,11 +113,8 @@ pub fn items_session(
 ) -> Result<Vec<u8>, AllocError>
     ensures { IfOk result (λ v. v.items ≡ session_of d.now items.now omit_fixed) }
 {
-    let scale = SesScale::pick(d);
     let mut out = Vec::new(alloc);
-    put_placement(&mut out, d, scale)?;
-    put_routes(&mut out, alloc, d, scale, items, omit_fixed)?;
-    put(&mut out, b")\n")?;
+    put_session(&mut out, alloc, d, items, omit_fixed)?;
     Ok(out)
 }
 

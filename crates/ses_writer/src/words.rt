@@ -1,13 +1,13 @@
 //! Names, numbers, angles and points, as a session spells them.
 //! Source: SPECCTRA reference, identifiers, numbers and the path descriptor.
 
-ghost use Rattle.std.specs.Prelude.{◌≡◌, ◌<◌, ◌≤◌, ◌++◌, [], All, pos, OnOk, codes, decimal, flat_map, reverse};
+ghost use Rattle.std.specs.Prelude.{◌≡◌, ◌<◌, ◌≤◌, ◌++◌, All, pos, OnOk, codes, decimal, flat_map, reverse};
 ghost use Rattle.std.specs.List.{list_all};
 ghost use Rattle.ses_writer.specs.Words.{Appends, is_bare_byte, is_bare, spelled, nearest, length_word, decimals};
 ghost use Rattle.ses_writer.specs.Words.{fraction, degrees, point_words, is_before, is_lesser, directed};
 ghost use Rattle.ses_writer.specs.Words.{chain_words, area_words};
 
-use geo_kernel::{List, Name, Point};
+use geo_kernel::{List, Point};
 use itoa::Buffer;
 use std::alloc::AllocError;
 
@@ -27,7 +27,12 @@ fn needs_no_quotes(b: u8) -> bool
 fn need_no_quotes(bytes: &[u8]) -> bool
     ensures { result ≡ list_all is_bare_byte bytes.now }
 {
-    bytes.iter().all(|b| needs_no_quotes(*b))
+    for b in bytes {
+        if !needs_no_quotes(*b) {
+            return false;
+        }
+    }
+    true
 }
 
 fn is_bare_name(name: &[u8]) -> bool
@@ -49,18 +54,18 @@ pub fn put_word(out: &mut Vec<u8>, name: &[u8]) -> Result<(), AllocError>
     put(out, b"\"")
 }
 
-pub(crate) fn put_spelled(out: &mut Vec<u8>, name: &Name) -> Result<(), AllocError>
-    ensures { OnOk result (Appends out.old.items out.new.items (spelled name.now)) }
+// A name between two pieces of text.
+pub(crate) fn put_framed(
+    out: &mut Vec<u8>,
+    front: &[u8],
+    name: &[u8],
+    back: &[u8],
+) -> Result<(), AllocError>
+    ensures { OnOk result (Appends out.old.items out.new.items (front.now ++ spelled name.now ++ back.now)) }
 {
-    put_word(out, name.as_slice())
-}
-
-// The empty name.
-#[tactic(auto, unfolding(crate::specs::Words::spelled))]
-pub(crate) fn put_no_name(out: &mut Vec<u8>) -> Result<(), AllocError>
-    ensures { OnOk result (Appends out.old.items out.new.items (spelled [])) }
-{
-    put(out, b"\"\"")
+    put(out, front)?;
+    put_word(out, name)?;
+    put(out, back)
 }
 
 fn coordinate_in(nm: u64, x: i64) -> i128
@@ -90,7 +95,7 @@ fn put_coordinate(out: &mut Vec<u8>, nm: u64, x: i64) -> Result<(), AllocError>
 
 // A blank and a width.
 #[tactic(auto, unfolding(crate::specs::Words::length_word))]
-pub(crate) fn put_width(out: &mut Vec<u8>, nm: u64, width: u64) -> Result<(), AllocError>
+fn put_width(out: &mut Vec<u8>, nm: u64, width: u64) -> Result<(), AllocError>
     requires { 0 < nm }
     ensures { OnOk result (Appends out.old.items out.new.items (length_word nm (pos width))) }
 {
@@ -139,12 +144,46 @@ pub(crate) fn put_degrees(out: &mut Vec<u8>, microdegrees: u32) -> Result<(), Al
     put_fraction(out, microdegrees)
 }
 
-pub(crate) fn put_point(out: &mut Vec<u8>, nm: u64, p: &Point) -> Result<(), AllocError>
+fn put_point(out: &mut Vec<u8>, nm: u64, p: &Point) -> Result<(), AllocError>
     requires { 0 < nm }
     ensures { OnOk result (Appends out.old.items out.new.items (point_words nm p.now)) }
 {
     put_coordinate(out, nm, p.x)?;
     put_coordinate(out, nm, p.y)
+}
+
+// A name behind a piece of text, and a point behind the name.
+pub(crate) fn put_placed(
+    out: &mut Vec<u8>,
+    nm: u64,
+    front: &[u8],
+    name: &[u8],
+    at: &Point,
+) -> Result<(), AllocError>
+    requires { 0 < nm }
+    ensures { OnOk result (Appends out.old.items out.new.items
+        (front.now ++ spelled name.now ++ point_words nm at.now)) }
+{
+    put(out, front)?;
+    put_word(out, name)?;
+    put_point(out, nm, at)
+}
+
+// A name behind a piece of text, and a width behind the name.
+pub(crate) fn put_run(
+    out: &mut Vec<u8>,
+    nm: u64,
+    front: &[u8],
+    name: &[u8],
+    width: u64,
+) -> Result<(), AllocError>
+    requires { 0 < nm }
+    ensures { OnOk result (Appends out.old.items out.new.items
+        (front.now ++ spelled name.now ++ length_word nm (pos width))) }
+{
+    put(out, front)?;
+    put_word(out, name)?;
+    put_width(out, nm, width)
 }
 
 fn put_points(out: &mut Vec<u8>, nm: u64, points: &[Point]) -> Result<(), AllocError>

@@ -248,7 +248,12 @@ impl<'a> Part<LayerShape> for Bounds<'a> {
 fn notes_beside(tree: &Tree) -> u64
     ensures { result ≡ notes_beside tree.now }
 {
-    let lists = items(tree).iter().filter(|item| !is_word(item)).count() as u64;
+    let mut lists: u64 = 0;
+    for item in items(tree) {
+        if !is_word(item) {
+            lists += 1;
+        }
+    }
     lists.saturating_sub(1)
 }
 
@@ -291,7 +296,12 @@ fn is_beside(tree: &Tree) -> bool
 fn notes_of_ban(tree: &Tree) -> u64
     ensures { result ≡ capped (ban_notes tree.now) }
 {
-    let beside = items(tree).iter().filter(|item| is_beside(item)).count() as u64;
+    let mut beside: u64 = 0;
+    for item in items(tree) {
+        if is_beside(item) {
+            beside += 1;
+        }
+    }
     beside
         .saturating_sub(1)
         .saturating_add(notes_of_windows(items(tree)))

@@ -51,7 +51,12 @@ fn stands_for(group: Group, word: &[u8], layer: &Layer) -> bool
 fn some_stands(group: Group, word: &[u8], layers: &[Layer]) -> bool
     ensures { result ≡ list_any (stands_for group word.now) layers.now }
 {
-    layers.iter().any(|layer| stands_for(group, word, layer))
+    for layer in layers {
+        if stands_for(group, word, layer) {
+            return true;
+        }
+    }
+    false
 }
 
 #[tactic(auto, unfolding(crate::specs::Layers::named_by))]

@@ -92,7 +92,7 @@ pub fn says(tree: &Tree, i: usize, keyword: &[u8]) -> bool
 fn has_quote(text: &[u8]) -> bool
     ensures { result ≡ has_quote text.now }
 {
-    text.iter().any(|b| *b == b'"')
+    text.contains(&b'"')
 }
 
 /// Refuses a name that is given by word `i` and that a session can't print.

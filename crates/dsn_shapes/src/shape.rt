@@ -200,7 +200,12 @@ pub(crate) fn note_loop(
 fn form_in(tree: &Tree) -> Option<&Tree>
     ensures { option_copied result ≡ form_in tree.now }
 {
-    items(tree).iter().find(|item| is_form_like(item))
+    for item in items(tree) {
+        if is_form_like(item) {
+            return Some(item);
+        }
+    }
+    None
 }
 
 /// Whether the list has the head of a form, or of one that is left out.

@@ -179,10 +179,13 @@ fn is_note(tree: &Tree, kind: ListKind) -> bool
 fn notes_of(tree: &Tree, kind: ListKind) -> u64
     ensures { result ≡ count_by (is_note kind) (items_of tree.now) }
 {
-    items(tree)
-        .iter()
-        .filter(|item| is_note(item, kind))
-        .count() as u64
+    let mut notes: u64 = 0;
+    for item in items(tree) {
+        if is_note(item, kind) {
+            notes += 1;
+        }
+    }
+    notes
 }
 
 /// Passes over what stands directly in these lists of one kind, beside what is read or known there:

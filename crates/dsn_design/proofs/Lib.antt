@@ -1,3 +1,4 @@
+mod Loops
 pub mod Fitting
 pub mod Padded
 pub mod Laid

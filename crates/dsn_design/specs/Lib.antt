@@ -9,3 +9,4 @@ pub mod Made
 pub mod Counts
 pub mod Reading
 pub mod Refused
+pub mod First

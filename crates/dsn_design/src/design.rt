@@ -5,6 +5,7 @@ ghost use Rattle.std.specs.Prelude.{◌≡◌, ◌≢◌, ◌≤◌, ◌^◌, �
 ghost use Rattle.pcb_model.specs.Sound.{IsSound};
 ghost use Rattle.pcb_model.specs.Plain.{IsPlainCopper};
 ghost use Rattle.dsn_shapes.specs.Tabled.{IsTabled};
+ghost use Rattle.dsn_design.specs.First.{AreFirst};
 ghost use Rattle.dsn_design.specs.Reading.{ReadsDesign, ReadsParts};
 ghost use Rattle.dsn_design.specs.Refused.{IfRefused};
 ghost use Rattle.dsn_design.specs.Sound.{ArePartsSound, weight};
@@ -14,12 +15,54 @@ use crate::parts::Parts;
 use dsn_library::read_library;
 use dsn_network::read_network;
 use dsn_placement::read_placement;
-use dsn_shapes::{DesignFault, ReadFault};
+use dsn_shapes::{DesignFault, Head, Library, Placing, ReadFault, Structure};
 use dsn_structure::{read_head, read_structure};
 use dsn_tree::{Tree, TreeFault, read_tree};
 use dsn_wiring::read_wiring;
 use pcb_model::Design;
 use std::alloc::Global;
+
+// What the sections of a tree hold, where its first four hold this.
+fn read_rest(
+    alloc: Global,
+    pcb: &Tree,
+    head: Head,
+    structure: Structure,
+    library: Library,
+    placing: Placing,
+) -> Result<Parts, ReadFault>
+    requires few { weight (pcb.now ∷ []) ≤ 2 ^ 26 }
+    requires first { AreFirst pcb.now head structure library placing }
+    ensures reads { ReadsParts pcb.now result }
+    ensures sound { IfOk result ArePartsSound }
+{
+    let s = head.scale;
+    let network = match read_network(alloc, pcb, s, &library, &placing) {
+        Ok(network) => network,
+        Err(fault) => {
+            drop((head, structure));
+            drop((library, placing));
+            return Err(fault);
+        }
+    };
+    let wiring = match read_wiring(alloc, pcb, s, &structure, &library, &placing, &network) {
+        Ok(wiring) => wiring,
+        Err(fault) => {
+            drop((head, structure));
+            drop((library, placing));
+            drop(network);
+            return Err(fault);
+        }
+    };
+    Ok(Parts {
+        head,
+        structure,
+        library,
+        placing,
+        network,
+        wiring,
+    })
+}
 
 // What the sections of a tree hold.
 fn read_parts(alloc: Global, pcb: &Tree) -> Result<Parts, ReadFault>
@@ -49,32 +92,12 @@ fn read_parts(alloc: Global, pcb: &Tree) -> Result<Parts, ReadFault>
     let placing = match read_placement(alloc, pcb, s, &structure, &library) {
         Ok(placing) => placing,
         Err(fault) => {
-            drop((head, structure, library));
+            drop((head, structure));
+            drop(library);
             return Err(fault);
         }
     };
-    let network = match read_network(alloc, pcb, s, &library, &placing) {
-        Ok(network) => network,
-        Err(fault) => {
-            drop((head, structure, library, placing));
-            return Err(fault);
-        }
-    };
-    let wiring = match read_wiring(alloc, pcb, s, &structure, &library, &placing, &network) {
-        Ok(wiring) => wiring,
-        Err(fault) => {
-            drop((head, structure, library, placing, network));
-            return Err(fault);
-        }
-    };
-    Ok(Parts {
-        head,
-        structure,
-        library,
-        placing,
-        network,
-        wiring,
-    })
+    read_rest(alloc, pcb, head, structure, library, placing)
 }
 
 /// The design of a text of at most 2^26 bytes. All lengths are in nm; indices count from 0.

@@ -69,9 +69,13 @@ fn usable_of(alloc: Global, stacks: &List<Padstack>, vias: &[u32]) -> Result<Lis
 fn unusable_in(stacks: &List<Padstack>, vias: &[u32]) -> u64
     ensures { result ≡ unusable_in stacks.now vias.now }
 {
-    vias.iter()
-        .filter(|via| !is_usable_at(stacks, **via))
-        .count() as u64
+    let mut count = 0;
+    for via in vias {
+        if !is_usable_at(stacks, *via) {
+            count += 1;
+        }
+    }
+    count
 }
 
 /// A net's list of vias: its class's, or else the structure's.

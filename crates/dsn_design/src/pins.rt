@@ -137,7 +137,12 @@ fn centre_of(flip_last: bool, place: &Place, pin: &ImagePin) -> Point
 fn are_on(layer: u8, pieces: &[Piece]) -> bool
     ensures { result ≡ list_all (λ (q : ThePiece). q.layer == layer) pieces.now }
 {
-    pieces.iter().all(|piece| piece.layer == layer)
+    for piece in pieces {
+        if piece.layer != layer {
+            return false;
+        }
+    }
+    true
 }
 
 fn is_on_one(pieces: &[Piece]) -> bool

@@ -15,7 +15,8 @@ use std::alloc::{AllocError, Global};
 pub(crate) fn origin_spine(alloc: Global) -> Result<Spine, AllocError>
     ensures { IfOk result (λ s. s ≡ origin_spine) }
 {
-    let points = List::from_slice(alloc, &[Point { x: 0, y: 0 }])?;
+    let mut points = List::new(alloc);
+    points.push(Point { x: 0, y: 0 })?;
     Ok(Spine::Chain(points))
 }
 
@@ -40,7 +41,12 @@ fn is_covered(centre: &Spine, all: &[Piece], p: &Piece) -> bool
     requires fit { All IsFit all.now }
     ensures { IsTrue result ↔ IsCovered all.now p.now }
 {
-    all.iter().any(|r| covers_on(centre, p.layer, r))
+    for r in all {
+        if covers_on(centre, p.layer, r) {
+            return true;
+        }
+    }
+    false
 }
 
 fn are_covered(centre: &Spine, all: &[Piece]) -> bool
@@ -48,19 +54,34 @@ fn are_covered(centre: &Spine, all: &[Piece]) -> bool
     requires fit { All IsFit all.now }
     ensures { IsTrue result ↔ All (IsCovered all.now) all.now }
 {
-    all.iter().all(|p| is_covered(centre, all, p))
+    for p in all {
+        if !is_covered(centre, all, p) {
+            return false;
+        }
+    }
+    true
 }
 
 fn has_other(all: &[Piece], p: &Piece) -> bool
     ensures { IsTrue result ↔ HasOther all.now p.now }
 {
-    all.iter().any(|r| p.layer != r.layer)
+    for r in all {
+        if p.layer != r.layer {
+            return true;
+        }
+    }
+    false
 }
 
 fn has_two_layers(all: &[Piece]) -> bool
     ensures { IsTrue result ↔ Any (HasOther all.now) all.now }
 {
-    all.iter().any(|p| has_other(all, p))
+    for p in all {
+        if has_other(all, p) {
+            return true;
+        }
+    }
+    false
 }
 
 /// Whether these pieces of a padstack have copper on at least two layers, and at the origin on each of them.

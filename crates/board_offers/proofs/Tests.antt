@@ -33,6 +33,10 @@ got_at xs i (Some x) there is =
     sym (slice_get-get_or xs i x.now (ltb-true i (length xs) (sym there)) ∙ ap Some (sym is))
 
 -- whether a list has an element, by its length
+pub no_length : {X : Type 0} (xs : List X) → (length xs == 0) ≡ true → xs ≡ []
+no_length [] e = refl
+no_length (x ∷ xs) e = let none = eqb-true (length (x ∷ xs)) 0 e in absurd (omega (arith, none))
+
 pub none_there : {X : Type 0} (xs : List X) → (length xs == 0) ≡ true → ¬ (0 < length xs)
 none_there xs e h = let none = eqb-true (length xs) 0 e in omega (arith, none, h)
 

@@ -29,3 +29,4 @@ pub mod Strides
 pub mod Fences
 pub mod Spotting
 pub mod Vaulting
+mod Tested

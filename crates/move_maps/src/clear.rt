@@ -32,7 +32,12 @@ fn chain_keeps_all(c: u64, layer: u8, width: u64, points: &[Point], rs: &[Piece]
     requires rs_fit { All IsFit rs.now }
     ensures { IsTrue result ↔ KeepsFrom c rs.now (wire_piece layer width points.now) }
 {
-    rs.iter().all(|r| chain_keeps(c, layer, width, points, r))
+    for r in rs {
+        if !chain_keeps(c, layer, width, points, r) {
+            return false;
+        }
+    }
+    true
 }
 
 fn moved_piece_keeps(c: u64, p: &Piece, by: Point, r: &Piece) -> bool
@@ -55,7 +60,12 @@ fn moved_keeps_all(c: u64, p: &Piece, by: Point, rs: &[Piece]) -> bool
     requires rs_fit { All IsFit rs.now }
     ensures { IsTrue result ↔ KeepsFrom c rs.now (moved_piece by p.now) }
 {
-    rs.iter().all(|r| moved_piece_keeps(c, p, by, r))
+    for r in rs {
+        if !moved_piece_keeps(c, p, by, r) {
+            return false;
+        }
+    }
+    true
 }
 
 fn moved_keep(c: u64, ps: &[Piece], by: Point, rs: &[Piece]) -> bool
@@ -65,7 +75,12 @@ fn moved_keep(c: u64, ps: &[Piece], by: Point, rs: &[Piece]) -> bool
     requires rs_fit { All IsFit rs.now }
     ensures { IsTrue result ↔ PiecesKeep c (map (moved_piece by) ps.now) rs.now }
 {
-    ps.iter().all(|p| moved_keeps_all(c, p, by, rs))
+    for p in ps {
+        if !moved_keeps_all(c, p, by, rs) {
+            return false;
+        }
+    }
+    true
 }
 
 fn moved_piece_touches(p: &Piece, by: Point, r: &Piece) -> bool
@@ -83,7 +98,12 @@ fn moved_touches_some(p: &Piece, by: Point, rs: &[Piece]) -> bool
     requires rs_fit { All IsFit rs.now }
     ensures { IsTrue result ↔ TouchesSome rs.now (moved_piece by p.now) }
 {
-    rs.iter().any(|r| moved_piece_touches(p, by, r))
+    for r in rs {
+        if moved_piece_touches(p, by, r) {
+            return true;
+        }
+    }
+    false
 }
 
 fn moved_touch(ps: &[Piece], by: Point, rs: &[Piece]) -> bool
@@ -92,7 +112,12 @@ fn moved_touch(ps: &[Piece], by: Point, rs: &[Piece]) -> bool
     requires rs_fit { All IsFit rs.now }
     ensures { IsTrue result ↔ PiecesTouch (map (moved_piece by) ps.now) rs.now }
 {
-    ps.iter().any(|p| moved_touches_some(p, by, rs))
+    for p in ps {
+        if moved_touches_some(p, by, rs) {
+            return true;
+        }
+    }
+    false
 }
 
 /// Whether a wire is compared with the metal.
@@ -171,7 +196,10 @@ fn via_stays_off(d: &Design, g: u32, padstack: u32, at: Point, b: &Item) -> bool
     requires b_fits { IsItemFit b.now }
     ensures { IsTrue result ↔ StaysOffPad d.now g padstack at b.now }
 {
-    if d.via_at_smd || !is_own_pad(d, g, b) {
+    if d.via_at_smd {
+        return true;
+    }
+    if !is_own_pad(d, g, b) {
         return true;
     }
     !moved_touch(padstack_pieces(d, padstack), at, b.pieces.as_slice())

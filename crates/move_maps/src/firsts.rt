@@ -26,7 +26,12 @@ fn is_like_some(d: &Design, firsts: &[u32], net: u32) -> bool
     requires net { net < length d.now.nets }
     ensures { IsTrue result ↔ Any (λ g. AreAlike d.now g net) firsts.now }
 {
-    firsts.iter().any(|g| are_alike(d, *g, net))
+    for g in firsts {
+        if are_alike(d, *g, net) {
+            return true;
+        }
+    }
+    false
 }
 
 // Whether the net has a rule of its own, or is like one of the nets.

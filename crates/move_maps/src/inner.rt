@@ -19,7 +19,12 @@ fn is_inside(at: Point, bounds: &[List<List<Point>>]) -> bool
     requires bounds { All IsBoundFit bounds.now }
     ensures { IsTrue result ↔ IsInsideEach bounds.now at }
 {
-    bounds.iter().all(|loops| inside(at, loops))
+    for loops in bounds {
+        if !inside(at, loops) {
+            return false;
+        }
+    }
+    true
 }
 
 // Appends what is said of the crossings of a y line.

@@ -21,7 +21,10 @@ fn spread(span: Span, w: &Window, columns: usize, row: usize) -> Span
     ensures within { result.right ≤ columns }
     ensures outs { (c : ℕ) → c < columns → c < result.left ⊎ result.right ≤ c → IsPlaceOut w.now c row }
 {
-    if row < w.bottom || w.top <= row {
+    if row < w.bottom {
+        return span;
+    }
+    if w.top <= row {
         return span;
     }
     Span {

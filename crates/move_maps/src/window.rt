@@ -1,14 +1,13 @@
 //! The part of the lattice whose moves an item may shut.
 
-ghost use Rattle.std.specs.Prelude.{◌≡◌, ◌≤◌, ◌<◌, ◌↔◌, ◌≤ℤ◌, ◌<ℤ◌, ◌-ℤ◌, ◌+ℤ◌, ◌^◌, ℕ, pos, length, slice_index_or};
-ghost use Rattle.std.specs.Prelude.{All, IsTrue};
+ghost use Rattle.std.specs.Prelude.{◌≡◌, ◌≤◌, ◌<◌, ◌↔◌, ◌-ℤ◌, ◌+ℤ◌, ◌^◌, pos, length, All, IsTrue};
 ghost use Rattle.std.specs.List.Sorted.{IsStrictlySortedBy};
 ghost use Rattle.std.specs.Ordering.{int_cmp};
 ghost use Rattle.pcb_model.specs.Near.{IsBoxWithin};
 ghost use Rattle.move_maps.specs.Windows.{LeavesOut, IsWindowFor, IsPlaceOut, StepsOffAreClear, ViasOutAreClear};
 
 use geo_kernel::Rect4;
-use route_lattice::Lattice;
+use route_lattice::{Lattice, first_above, first_from};
 
 /// The places of lines: columns from `left` to below `right`, and rows from `bottom` to below `top`.
 #[derive(Clone, Copy, Default)]
@@ -17,22 +16,6 @@ pub(crate) struct Window {
     pub right: usize,
     pub bottom: usize,
     pub top: usize,
-}
-
-fn first_from(lines: &[i64], low: i64) -> usize
-    requires { IsStrictlySortedBy int_cmp lines.now }
-    ensures within { result ≤ length lines.now }
-    ensures below { (k : ℕ) → k < result → slice_index_or lines.now k (pos 0) <ℤ low }
-{
-    lines.partition_point(|z| *z < low)
-}
-
-fn first_above(lines: &[i64], high: i64) -> usize
-    requires { IsStrictlySortedBy int_cmp lines.now }
-    ensures within { result ≤ length lines.now }
-    ensures above { (k : ℕ) → result ≤ k → k < length lines.now → high <ℤ slice_index_or lines.now k (pos 0) }
-{
-    lines.partition_point(|z| *z <= high)
 }
 
 /// A box with its sides moved out.
@@ -91,7 +74,16 @@ pub(crate) fn window_for(lat: &Lattice, r: Rect4, grow: u64) -> Window
 fn is_place_out(w: &Window, column: usize, row: usize) -> bool
     ensures { IsTrue result ↔ IsPlaceOut w.now column row }
 {
-    (column < w.left || column >= w.right) || (row < w.bottom || row >= w.top)
+    if column < w.left {
+        return true;
+    }
+    if column >= w.right {
+        return true;
+    }
+    if row < w.bottom {
+        return true;
+    }
+    row >= w.top
 }
 
 /// Whether a column and a row are out of all the windows.

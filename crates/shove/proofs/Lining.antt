@@ -1,31 +1,17 @@
 -- The next of ascending lines.
-use Rattle.std.proofs.Common.{◌≡◌, ℕ, ℤ, pos, ◌-◌, ◌<◌, ◌≤◌, ◌≤ℤ◌, ◌<ℤ◌, true, false, true≢false, List, [], ◌∷◌, length}
-use Rattle.std.proofs.Common.{get_or, refl, sym, ◌∙◌, arith, inl, inr, ◌⊎◌, int_lt, int_le}
-use Rattle.std.proofs.Common.{◌≢◌, ap₂, Bool, Option, Some, None, subst}
+use Rattle.std.proofs.Common.{◌≡◌, ℕ, ℤ, pos, ◌-◌, ◌<◌, ◌≤◌, ◌≤ℤ◌, ◌<ℤ◌, List, [], ◌∷◌, length}
+use Rattle.std.proofs.Common.{get_or, refl, sym, ◌∙◌, arith, inl, inr, ◌⊎◌}
+use Rattle.std.proofs.Common.{◌≢◌, ap₂, Bool, Some, None, subst}
 use Rattle.std.specs.Prelude.{Contains}
 use Prim.Native.Nat.{zero, suc}
 use Rattle.std.specs.Ordering.{int_cmp}
 use Rattle.std.specs.List.Sorted.{IsStrictlySortedBy}
 use Rattle.std.proofs.lemmas.Int.{ints}
 use Rattle.std.proofs.lemmas.List.Elements.{Contains-get_or}
-use borrow.Author.Differences.{true_is_lt, false_is_le}
 use Rattle.geo_kernel.specs.declared.point.Point.{Point}
 use Rattle.route_lattice.specs.Mesh.{Mesh}
-use Rattle.route_lattice.proofs.Covering.{le_or_lt}
 use Rattle.route_lattice.proofs.Between.{lines_rise}
 use Rattle.shove.specs.Shoves.{IsNextAbove, IsNextBelow, IsNextLine, FindsLine, FindsRun}
-
-pub passes_le : (x y : ℤ) → int_le x y ≡ true → x ≤ℤ y
-passes_le x y e = elim (le_or_lt x y) [
-  | inl h ↦ h
-  | inr h ↦ absurd (true≢false (sym e ∙ sym (false_is_le x y (omega (arith, ints)))))
-]
-
-pub fails_lt : (x y : ℤ) → int_lt x y ≡ false → y ≤ℤ x
-fails_lt x y e = elim (le_or_lt y x) [
-  | inl h ↦ h
-  | inr h ↦ absurd (true≢false (true_is_lt x y (omega (arith, ints)) ∙ e))
-]
 
 low_or_high : (n m : ℕ) → (n < m) ⊎ (m ≤ n)
 low_or_high n zero = inr (omega arith)

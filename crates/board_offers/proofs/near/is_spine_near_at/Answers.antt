@@ -13,3 +13,11 @@ returns-in-Area c =
     let h : F c.in-Area.loops = subst F c.as_slice-in-Area.ensures c.are_loops_near_at.ensures in
     subst (λ (s : Spine). IsTrue c.are_loops_near_at.result ↔ IsSpineWithin (2 ^ 29) (moved_spine c.args.at s))
     (sym c.in-Area.is) h
+
+pub returns-in-Chain : goal.returns-in-Chain
+returns-in-Chain c =
+    let F : List Point → Type 0 = λ ps. IsTrue c.are_near_at.result ↔ All (IsWithin (2 ^ 29))
+    (map (moved c.args.at) ps) in
+    let h : F c.in-Chain.points = subst F c.as_slice.ensures c.are_near_at.ensures in
+    subst (λ (s : Spine). IsTrue c.are_near_at.result ↔ IsSpineWithin (2 ^ 29) (moved_spine c.args.at s))
+    (sym c.in-Chain.is) h

@@ -1,6 +1,7 @@
 use Rattle.std.proofs.Common.{take, refl, subst}
 use Rattle.std.specs.List.{AllPairs}
 use Rattle.std.proofs.lemmas.List.{take_all}
+use Rattle.std.proofs.lemmas.List.Elements.{All-take}
 use Rattle.pcb_model.specs.declared.item.Item.{Item}
 use Rattle.pcb_model.specs.Bounds.{IsItemFit}
 use Rattle.pcb_model.specs.Pairs.{Agrees}
@@ -35,3 +36,6 @@ returns c = (
       c.loop-i.invariant,
   λ pairs. refl,
 )
+
+pub some_disagrees-requires-clause-fit : goal.some_disagrees-requires-clause-fit
+some_disagrees-requires-clause-fit c = All-take IsItemFit c.loop-i.i c.args.items.now c.requires.fit

@@ -1,4 +1,4 @@
-use Rattle.std.proofs.Common.{◌≡◌, sym, ◌∙◌, subst}
+use Rattle.std.proofs.Common.{◌≡◌, refl, sym, ap, ◌∙◌, subst}
 use Rattle.std.proofs.lemmas.List.Elements.{All-contains}
 use Rattle.pcb_model.specs.declared.item.Item.{Item}
 use Rattle.pcb_model.specs.Bounds.{IsItemFit}
@@ -40,3 +40,11 @@ returns-in-Some g c =
           (subst (λ (x : Item). AreTouching (lies_after ss rs old) x) (sym c.lying_after-in-Some.ensures)
           (h.each a there c.in-Some.ensures.1))),
     )
+
+pub returns-in-None : goal.returns-in-None
+returns-in-None g c = (
+  λ t. record {
+    each = λ a there e. absurd (c.in-None.ensures there.0 a there.1 (ap (λ (x : Item). x.id) there.2 ∙ e));
+  },
+  λ h. refl,
+)

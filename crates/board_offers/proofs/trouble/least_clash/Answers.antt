@@ -1,4 +1,4 @@
-use Rattle.std.proofs.Common.{◌≡◌, ◌+◌, List, [], ◌∷◌, ◌++◌, take, sym, ◌∙◌, ap, subst}
+use Rattle.std.proofs.Common.{arith, ◌≡◌, ◌+◌, List, [], ◌∷◌, ◌++◌, take, sym, ◌∙◌, ap, subst}
 use Rattle.std.proofs.lemmas.List.{take_all, take_more}
 use Rattle.pcb_model.specs.declared.item.Item.{Item}
 use Rattle.pcb_model.specs.Bounds.{IsItemFit}
@@ -31,3 +31,6 @@ returns g c =
     subst (λ (xs : List Item).
     FailsLeast (AgreesWithAll c.args.d.now (g.C.Copper.items c.args.c.now) c.args.ids.now xs) c.loop-n.least)
     (take_all c.loop-n.n-index c.args.new.now c.loop-n-test.false) c.loop-n.invariant
+
+pub loop-n-init : goal.loop-n-init
+loop-n-init g c = λ x a there is on k d less. absurd (omega (arith, less))

@@ -65,3 +65,6 @@ pub least_parted-parted-requires-clause-items_fit : goal.least_parted-parted-req
 least_parted-parted-requires-clause-items_fit g c =
     All-weaker (IsItemOf c.args.d.now) IsItemFit (λ a h. h.fits) (g.C.Copper.items c.args.c.now)
     (g.met.C.Copper.serving _ _ c.requires.serves).items_fit
+
+pub least_clash-clash-requires-clause-above : goal.least_clash-clash-requires-clause-above
+least_clash-clash-requires-clause-above g c = c.requires.above

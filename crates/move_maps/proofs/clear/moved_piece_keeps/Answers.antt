@@ -1,4 +1,4 @@
-use Rattle.std.proofs.Common.{◌≡◌, ℕ, ◌+◌, ◌*◌, max, arith, sym, subst}
+use Rattle.std.proofs.Common.{◌≡◌, ℕ, ◌+◌, ◌*◌, max, arith, sym, subst, refl}
 use Rattle.geo_kernel.specs.Spine.{SpinesKeep}
 use Rattle.geo_kernel.specs.Moved.{moved_spine}
 use Rattle.move_maps.proofs.clear.moved_piece_keeps.Goals as goal
@@ -11,3 +11,6 @@ returns c =
       λ t. record { keep = λ l. subst F e (c.spine_keeps_moved.ensures.0 t) },
       λ h. c.spine_keeps_moved.ensures.1 (subst F (sym e) (h.keep c.if-p-r.false)),
     )
+
+pub returns-then-p-r : goal.returns-then-p-r
+returns-then-p-r c = (λ t. record { keep = λ l. absurd (c.if-p-r.true l) }, λ h. refl)

@@ -1,4 +1,4 @@
-use Rattle.std.proofs.Common.{◌∙◌, List, map, sym, subst}
+use Rattle.std.proofs.Common.{◌∙◌, List, map, sym, subst, refl, true≢false}
 use Rattle.pcb_model.specs.declared.item.Piece.{Piece}
 use Rattle.pcb_model.specs.Pairs.{PiecesKeep}
 use Rattle.pcb_model.specs.Pieces.{moved_piece, padstack_pieces}
@@ -16,3 +16,7 @@ returns c =
           (subst (λ (ps : List Piece). F ps c.args.b.now.pieces) (sym c.padstack_pieces.ensures)
           (f (sym c.meets_vias.ensures ∙ c.if-not-meets_vias.false)))),
     )
+
+pub returns-then-not-meets_vias : goal.returns-then-not-meets_vias
+returns-then-not-meets_vias c =
+    (λ t k. absurd (true≢false (sym (c.meets_vias.ensures ∙ k) ∙ c.if-not-meets_vias.true)), λ h. refl)

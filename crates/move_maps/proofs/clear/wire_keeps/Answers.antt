@@ -1,4 +1,4 @@
-use Rattle.std.proofs.Common.{◌∙◌, List, sym, subst}
+use Rattle.std.proofs.Common.{◌∙◌, List, sym, subst, refl, true≢false}
 use Rattle.pcb_model.specs.declared.item.Piece.{Piece}
 use Rattle.pcb_model.specs.Pairs.{KeepsFrom}
 use Rattle.pcb_model.specs.Pieces.{wire_piece}
@@ -12,3 +12,7 @@ returns c =
       λ f. c.chain_keeps_all.ensures.1
           (subst F (sym c.as_slice.ensures) (f (sym c.meets_wires.ensures ∙ c.if-not-meets_wires.false))),
     )
+
+pub returns-then-not-meets_wires : goal.returns-then-not-meets_wires
+returns-then-not-meets_wires c =
+    (λ t k. absurd (true≢false (sym (c.meets_wires.ensures ∙ k) ∙ c.if-not-meets_wires.true)), λ h. refl)

@@ -8,18 +8,18 @@ use Rattle.shove.proofs.line.next_above.Goals as goal
 pub returns-then-place-lines : goal.returns-then-place-lines
 returns-then-place-lines c =
     let e = to_z-of_z w64 c.args.at c.ranges.at in
-    none_above c.args.lines.now c.args.at c.count_up_to-place.result c.requires
-    (λ k h. subst (λ (z : ℤ). get_or c.args.lines.now k (pos 0) ≤ℤ z) e (c.count_up_to-place.ensures.up_to k h))
-    (λ k h l. subst (λ (z : ℤ). z <ℤ get_or c.args.lines.now k (pos 0)) e (c.count_up_to-place.ensures.above k h l))
+    none_above c.args.lines.now c.args.at c.first_above-place.result c.requires
+    (λ k h. subst (λ (z : ℤ). get_or c.args.lines.now k (pos 0) ≤ℤ z) e (c.first_above-place.ensures.up_to k h))
+    (λ k h l. subst (λ (z : ℤ). z <ℤ get_or c.args.lines.now k (pos 0)) e (c.first_above-place.ensures.above k h l))
     (omega arith)
 
 pub returns : goal.returns
 returns c =
     let e = to_z-of_z w64 c.args.at c.ranges.at in
-    let x = slice_index_or c.args.lines.now c.count_up_to-place.result (pos 0) in
+    let x = slice_index_or c.args.lines.now c.first_above-place.result (pos 0) in
     let same : to_z w64 (of_z w64 x) ≡ x = search rules in
     subst (IsNextAbove c.args.lines.now c.args.at) (sym same)
-    (first_above c.args.lines.now c.args.at c.count_up_to-place.result c.requires
-    (λ k h. subst (λ (z : ℤ). get_or c.args.lines.now k (pos 0) ≤ℤ z) e (c.count_up_to-place.ensures.up_to k h))
-    (λ k h l. subst (λ (z : ℤ). z <ℤ get_or c.args.lines.now k (pos 0)) e (c.count_up_to-place.ensures.above k h l))
+    (first_above c.args.lines.now c.args.at c.first_above-place.result c.requires
+    (λ k h. subst (λ (z : ℤ). get_or c.args.lines.now k (pos 0) ≤ℤ z) e (c.first_above-place.ensures.up_to k h))
+    (λ k h l. subst (λ (z : ℤ). z <ℤ get_or c.args.lines.now k (pos 0)) e (c.first_above-place.ensures.above k h l))
     (omega arith))

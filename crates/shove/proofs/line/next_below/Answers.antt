@@ -8,18 +8,18 @@ use Rattle.shove.proofs.line.next_below.Goals as goal
 pub returns-then-place-eq0 : goal.returns-then-place-eq0
 returns-then-place-eq0 c =
     let e = to_z-of_z w64 c.args.at c.ranges.at in
-    none_below c.args.lines.now c.args.at c.count_below-place.result c.requires
-    (λ k h. subst (λ (z : ℤ). get_or c.args.lines.now k (pos 0) <ℤ z) e (c.count_below-place.ensures.below k h))
-    (λ k h l. subst (λ (z : ℤ). z ≤ℤ get_or c.args.lines.now k (pos 0)) e (c.count_below-place.ensures.from k h l))
+    none_below c.args.lines.now c.args.at c.first_from-place.result c.requires
+    (λ k h. subst (λ (z : ℤ). get_or c.args.lines.now k (pos 0) <ℤ z) e (c.first_from-place.ensures.below k h))
+    (λ k h l. subst (λ (z : ℤ). z ≤ℤ get_or c.args.lines.now k (pos 0)) e (c.first_from-place.ensures.from k h l))
     (omega arith)
 
 pub returns : goal.returns
 returns c =
     let e = to_z-of_z w64 c.args.at c.ranges.at in
-    let x = slice_index_or c.args.lines.now (c.count_below-place.result - 1) (pos 0) in
+    let x = slice_index_or c.args.lines.now (c.first_from-place.result - 1) (pos 0) in
     let same : to_z w64 (of_z w64 x) ≡ x = search rules in
     subst (IsNextBelow c.args.lines.now c.args.at) (sym same)
-    (last_below c.args.lines.now c.args.at c.count_below-place.result c.requires
-    (λ k h. subst (λ (z : ℤ). get_or c.args.lines.now k (pos 0) <ℤ z) e (c.count_below-place.ensures.below k h))
-    (λ k h l. subst (λ (z : ℤ). z ≤ℤ get_or c.args.lines.now k (pos 0)) e (c.count_below-place.ensures.from k h l))
+    (last_below c.args.lines.now c.args.at c.first_from-place.result c.requires
+    (λ k h. subst (λ (z : ℤ). get_or c.args.lines.now k (pos 0) <ℤ z) e (c.first_from-place.ensures.below k h))
+    (λ k h l. subst (λ (z : ℤ). z ≤ℤ get_or c.args.lines.now k (pos 0)) e (c.first_from-place.ensures.from k h l))
     (omega arith) (omega arith))

@@ -1,0 +1,7 @@
+use Rattle.std.proofs.Common.{take, All}
+use Rattle.std.proofs.Common.{ℕ}
+use Rattle.move_maps.specs.Groups.{AreAlike}
+use Rattle.move_maps.proofs.firsts.is_like_some.Given as goal
+
+abbrev pub invariant-loop-g : goal.invariant-loop-g
+invariant-loop-g l = All (λ (g : ℕ). ¬ (AreAlike l.d g l.net)) (take l.g-index l.firsts)

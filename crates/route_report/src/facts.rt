@@ -5,7 +5,7 @@ use cut_certificate::Cut;
 use geo_kernel::List;
 
 /// What a pass made: how many entries, and how many connections are open after it.
-#[derive(Clone, Copy, PartialEq, Eq)]
+#[derive(Clone, Copy)]
 pub struct PassLine {
     pub commits: u64,
     pub parted: u64,

@@ -1,9 +1,8 @@
 //! Open connections: lines between the islands of each net.
 
-ghost use Rattle.std.specs.Prelude.{◌≡◌, ◌++◌, ◌+◌, ◌<◌, IfOk, OnOk, length};
+ghost use Rattle.std.specs.Prelude.{◌≡◌, ◌++◌, ◌<◌, IfOk, OnOk, length};
 ghost use Rattle.pcb_model.specs.Sound.{IsSound};
-ghost use Rattle.board_picture.specs.Open.{centre_of, island_place, line_between, lines_from, lines_of, AreOpenUpTo};
-ghost use Rattle.board_picture.specs.Open.{AreOpenLines};
+ghost use Rattle.board_picture.specs.Open.{centre_of, island_place, line_between, lines_from, lines_of, AreOpenLines};
 
 use geo_kernel::{List, Point};
 use pcb_islands::{Island, islands};
@@ -71,24 +70,6 @@ fn push_lines(lines: &mut List<OpenLine>, d: &Design, found: &[Island]) -> Resul
     }
 }
 
-// Adds the open connections of a net to those of the nets before it.
-fn push_net<C: Copper>(
-    alloc: Global,
-    d: &Design,
-    c: &C,
-    net: u32,
-    lines: &mut List<OpenLine>,
-) -> Result<(), AllocError>
-    requires sound { IsSound d.now }
-    requires net { net < length d.now.nets }
-    requires serves { C.serves c.now d.now }
-    requires before { AreOpenUpTo d.now (C.items c.now) net lines.old }
-    ensures { OnOk result (AreOpenUpTo d.now (C.items c.now) (net + 1) lines.new) }
-{
-    let found = islands(alloc, d, c, net)?;
-    push_lines(lines, d, found.as_slice())
-}
-
 /// The open connections of all nets, in the design's order: from each island of a net to its next one.
 /// The only error is want of memory.
 pub fn open_lines<C: Copper>(alloc: Global, d: &Design, c: &C) -> Result<List<OpenLine>, AllocError>
@@ -98,7 +79,8 @@ pub fn open_lines<C: Copper>(alloc: Global, d: &Design, c: &C) -> Result<List<Op
 {
     let mut lines = List::new(alloc);
     for net in 0..d.nets.len() as u32 {
-        push_net(alloc, d, c, net, &mut lines)?;
+        let found = islands(alloc, d, c, net)?;
+        push_lines(&mut lines, d, found.as_slice())?;
     }
     Ok(lines)
 }

@@ -1,11 +1,10 @@
 //! The picture of a board.
 //! Source: Scalable Vector Graphics 1.1, document structure and coordinate systems.
 
-ghost use Rattle.std.specs.Prelude.{◌≡◌, ◌≤◌, ◌^◌, ◌++◌, OnOk, IfOk, codes};
+ghost use Rattle.std.specs.Prelude.{◌≡◌, ◌≤◌, ◌^◌, OnOk, IfOk};
 ghost use Rattle.ses_writer.specs.Words.{Appends};
 ghost use Rattle.board_picture.specs.Words.{mm_word};
 ghost use Rattle.board_picture.specs.Sheet.{shift_x, shift_y};
-ghost use Rattle.board_picture.specs.Legend.{legend_part};
 ghost use Rattle.board_picture.specs.Picture.{ground_words, head_part, board_head, board_part, picture_of};
 
 use crate::copper::put_copper;
@@ -98,23 +97,6 @@ fn put_board(
     put(out, b"</g>\n")
 }
 
-fn put_picture(
-    out: &mut Vec<u8>,
-    s: Sheet,
-    d: &Design,
-    items: &[Item],
-    lines: &[OpenLine],
-) -> Result<(), AllocError>
-    requires { s.unit ≤ 2 ^ 59 }
-    ensures { OnOk result (Appends out.old.items out.new.items (head_part s d.now ++ board_part s d.now items.now lines.now
-        ++ legend_part s d.now items.now lines.now ++ codes "</svg>\n")) }
-{
-    put_head(out, s, d)?;
-    put_board(out, s, d, items, lines)?;
-    put_legend(out, s, d, items, lines)?;
-    put(out, b"</svg>\n")
-}
-
 /// The picture's bytes: the design's edge, layers and names, what the items are made of, and the open connections
 /// that `open_lines` gives for them. The only error is want of memory.
 #[tactic(auto, unfolding(crate::specs::Picture::picture_of))]
@@ -128,6 +110,9 @@ pub fn picture_text(
 {
     let s = sheet_of(d);
     let mut text = Vec::new(alloc);
-    put_picture(&mut text, s, d, items, lines)?;
+    put_head(&mut text, s, d)?;
+    put_board(&mut text, s, d, items, lines)?;
+    put_legend(&mut text, s, d, items, lines)?;
+    put(&mut text, b"</svg>\n")?;
     Ok(text)
 }

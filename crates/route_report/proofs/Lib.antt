@@ -2,3 +2,4 @@ pub mod Named
 pub mod Counted
 pub mod Tallied
 pub mod Stretched
+pub mod Lasts

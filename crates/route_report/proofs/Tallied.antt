@@ -1,6 +1,8 @@
 -- What is counted and told of each net, cut by cut.
 use Rattle.std.proofs.Common.{◌≡◌, ℕ, ◌+◌, ◌<◌, ◌≤◌, ◌==◌, Bool, true, false, cond, refl, sym, ◌∙◌, ap, subst, arith}
-use Rattle.std.proofs.Common.{List, [], ◌∷◌, ◌++◌, length, get_or, drop, filter, flat_map}
+use Rattle.std.proofs.Common.{List, [], ◌∷◌, ◌++◌, length, get_or, drop, filter, flat_map, suc, ap₂}
+use Rattle.std.specs.List.{enumerate_from}
+use Rattle.pcb_model.specs.declared.design.Net.{Net}
 use Rattle.std.specs.Prelude.{if◌then◌else◌}
 use Rattle.std.proofs.lemmas.List.{at_drop_all, at_drop_more, append-nil}
 use Rattle.cut_certificate.specs.declared.cut.Cut.{Cut}
@@ -60,3 +62,15 @@ all_counted k cuts i count n past so_far =
 -- before the first cut all are left
 pub none_counted : {count : ℕ} (n : ℕ) → count ≡ 0 → count + n ≡ n
 none_counted n none = omega (arith, none)
+
+-- nets whose lines are the same
+pub same_lines : (f g : (ℕ × Net) → List ℕ) (nets : List Net) (i : ℕ)
+    → ((k : ℕ) (net : Net) → k < length nets → f (i + k, net) ≡ g (i + k, net))
+    → flat_map f (enumerate_from i nets) ≡ flat_map g (enumerate_from i nets)
+same_lines f g [] i same = refl
+same_lines f g (net ∷ nets) i same =
+    let here : i + 0 ≡ i = omega arith in
+    ap₂ (λ (xs ys : List ℕ). xs ++ ys) (subst (λ j. f (j, net) ≡ g (j, net)) here (same 0 net (omega arith)))
+    (same_lines f g nets (i + 1) (λ k n within.
+    let there : i + suc k ≡ i + 1 + k = omega arith in
+    subst (λ j. f (j, n) ≡ g (j, n)) there (same (suc k) n (omega (arith, within)))))

@@ -1,6 +1,6 @@
 //! What the report tells of a cut: its island, what blocks it, and the nodes that it holds.
 
-ghost use Rattle.std.specs.Prelude.{◌≡◌, [], false, OnOk, IfOk, filter, flat_map};
+ghost use Rattle.std.specs.Prelude.{◌≡◌, ◌++◌, [], false, OnOk, IfOk, codes, filter, flat_map};
 ghost use Rattle.ses_writer.specs.Words.{Appends};
 ghost use Rattle.route_report.specs.Report.{component_name as component_name_of, name_of_pin, pin_name, pin_word};
 ghost use Rattle.route_report.specs.Report.{cut_line, kind_word, is_outside as is_outside_by};
@@ -9,7 +9,7 @@ ghost use Rattle.route_report.specs.Report.{detail_lines, cut_lines};
 ghost use Rattle.route_report.specs.Naming.{has_id, is_among, AreNamed, AreNamedOnce, AreAscending};
 
 use crate::stretches::put_stretches;
-use crate::words::{put_count, put_counted};
+use crate::words::{put_count, put_pair};
 use cut_certificate::{Block, Blocker, Cut};
 use pcb_board::Board;
 use pcb_model::{Copper, Design, Item, Kind, Pin};
@@ -63,21 +63,28 @@ fn put_cut_line(out: &mut Vec<u8>, alloc: Global, d: &Design, cut: &Cut) -> Resu
 {
     put(out, b"cut ")?;
     put_pin_word(out, alloc, d, cut.pin)?;
-    put_counted(out, b" reached ", cut.reach.nodes.len() as u64)?;
-    put_count(out, b" blocked ", cut.blocked.len() as u64)
+    let reached = cut.reach.nodes.len() as u64;
+    put_pair(
+        out,
+        b" reached ",
+        reached,
+        b" blocked ",
+        cut.blocked.len() as u64,
+    )
 }
 
 // ---- what blocks
 
+// The front of an item's line, with its kind.
 fn put_kind(out: &mut Vec<u8>, kind: Kind) -> Result<(), AllocError>
-    ensures { OnOk result (Appends out.old.items out.new.items (kind_word kind)) }
+    ensures { OnOk result (Appends out.old.items out.new.items (codes "by " ++ kind_word kind)) }
 {
     match kind {
-        Kind::Wire => put(out, b"wire"),
-        Kind::Via => put(out, b"via"),
-        Kind::Pin => put(out, b"pin"),
-        Kind::Smd => put(out, b"smd"),
-        Kind::Area => put(out, b"area"),
+        Kind::Wire => put(out, b"by wire"),
+        Kind::Via => put(out, b"by via"),
+        Kind::Pin => put(out, b"by pin"),
+        Kind::Smd => put(out, b"by smd"),
+        Kind::Area => put(out, b"by area"),
     }
 }
 
@@ -85,7 +92,6 @@ fn put_kind(out: &mut Vec<u8>, kind: Kind) -> Result<(), AllocError>
 fn put_by(out: &mut Vec<u8>, item: &Item) -> Result<(), AllocError>
     ensures { OnOk result (Appends out.old.items out.new.items (by_line item.now)) }
 {
-    put(out, b"by ")?;
     put_kind(out, item.kind)?;
     put_count(out, b" ", item.id)
 }
@@ -149,7 +155,12 @@ fn is_outside(b: &Block) -> bool
 fn has_outside(blocked: &[Block]) -> bool
     ensures { result ≡ has_outside_in blocked.now }
 {
-    blocked.iter().any(|b| is_outside(b))
+    for b in blocked {
+        if is_outside(b) {
+            return true;
+        }
+    }
+    false
 }
 
 fn put_outside(out: &mut Vec<u8>, blocked: &[Block]) -> Result<(), AllocError>

@@ -6,11 +6,11 @@ ghost use Rattle.std.specs.List.{enumerate_from};
 ghost use Rattle.std.specs.Global.{Global as Memory};
 ghost use Rattle.ses_writer.specs.Words.{Appends};
 ghost use Rattle.route_report.specs.Report.{cut_lines, verdict_words, net_line, net_lines, total_line};
-ghost use Rattle.route_report.specs.Tallies.{AddsOne, AreCounts, AddsPiece, TellsCuts};
+ghost use Rattle.route_report.specs.Tallies.{AddsOne, AreCounts, AddsPiece, TellsCuts, told_lines};
 
 use crate::cuts::put_cut;
 use crate::facts::Facts;
-use crate::words::{put_count, put_counted};
+use crate::words::{put_count, put_pair};
 use cut_certificate::Cut;
 use pcb_board::Board;
 use pcb_model::{Design, Net};
@@ -120,6 +120,24 @@ fn put_net(out: &mut Vec<u8>, net: &Net, count: u64, lines: &[u8]) -> Result<(),
     put(out, lines)
 }
 
+// The lines of each net, by how many cuts it has and what is told of these.
+fn put_told(
+    out: &mut Vec<u8>,
+    nets: &[Net],
+    counts: &[u64],
+    texts: &[Vec<u8>],
+) -> Result<(), AllocError>
+    requires counts { length counts.now ≡ length nets.now }
+    requires texts { length texts.now ≡ length nets.now }
+    ensures { OnOk result (Appends out.old.items out.new.items
+        (flat_map (told_lines counts.now texts.now) (enumerate_from 0 nets.now))) }
+{
+    for (i, net) in nets.iter().enumerate() {
+        put_net(out, net, counts[i], texts[i].as_slice())?;
+    }
+    Ok(())
+}
+
 /// The lines of each net, in the design's order.
 pub(crate) fn put_nets(
     out: &mut Vec<u8>,
@@ -135,22 +153,31 @@ pub(crate) fn put_nets(
 {
     let counts = cut_counts(alloc, facts.cuts.as_slice(), d.nets.len())?;
     let texts = cut_texts(alloc, d, lat, board, short, facts.cuts.as_slice())?;
-    for (i, net) in d.nets.as_slice().iter().enumerate() {
-        put_net(out, net, counts[i], texts[i].as_slice())?;
-    }
-    Ok(())
+    put_told(out, d.nets.as_slice(), counts.as_slice(), texts.as_slice())
 }
 
 fn zeros(counts: &[u64]) -> usize
     ensures { result ≡ count_by (λ n. n == 0) counts.now }
 {
-    counts.iter().filter(|n| **n == 0).count()
+    let mut count = 0;
+    for n in counts {
+        if *n == 0 {
+            count += 1;
+        }
+    }
+    count
 }
 
 fn others(counts: &[u64]) -> usize
     ensures { result ≡ count_by (λ n. not (n == 0)) counts.now }
 {
-    counts.iter().filter(|n| **n != 0).count()
+    let mut count = 0;
+    for n in counts {
+        if *n != 0 {
+            count += 1;
+        }
+    }
+    count
 }
 
 /// How many nets are complete, and how many open.
@@ -164,7 +191,12 @@ pub(crate) fn put_totals(
     ensures { OnOk result (Appends out.old.items out.new.items (total_line d.now facts.now)) }
 {
     let counts = cut_counts(alloc, facts.cuts.as_slice(), d.nets.len())?;
-    put_counted(out, b"complete ", zeros(&counts) as u64)?;
-    put_count(out, b" open ", others(&counts) as u64)?;
-    Ok(())
+    let complete = zeros(&counts) as u64;
+    put_pair(
+        out,
+        b"complete ",
+        complete,
+        b" open ",
+        others(&counts) as u64,
+    )
 }

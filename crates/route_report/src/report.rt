@@ -7,7 +7,7 @@ ghost use Rattle.route_report.specs.Report.{pass_lines, head_lines, run_lines, r
 
 use crate::facts::{Facts, PassLine};
 use crate::nets::{put_nets, put_totals};
-use crate::words::{put_count, put_counted};
+use crate::words::{put_count, put_counted, put_pair};
 use pcb_board::Board;
 use pcb_model::Design;
 use route_lattice::Lattice;
@@ -36,8 +36,7 @@ fn put_size(out: &mut Vec<u8>, d: &Design) -> Result<(), AllocError>
 fn put_lattice(out: &mut Vec<u8>, facts: &Facts) -> Result<(), AllocError>
     ensures { OnOk result (Appends out.old.items out.new.items (lattice_line facts.now)) }
 {
-    put_counted(out, b"grid ", facts.grid)?;
-    put_count(out, b" nodes ", facts.nodes)
+    put_pair(out, b"grid ", facts.grid, b" nodes ", facts.nodes)
 }
 
 fn put_drops(out: &mut Vec<u8>, places: &[u64]) -> Result<(), AllocError>
@@ -66,8 +65,7 @@ fn put_pass(out: &mut Vec<u8>, number: u64, pass: &PassLine) -> Result<(), Alloc
     ensures { OnOk result (Appends out.old.items out.new.items (pass_line (number, pass.now))) }
 {
     put_counted(out, b"pass ", number)?;
-    put_counted(out, b" commits ", pass.commits)?;
-    put_count(out, b" open ", pass.parted)
+    put_pair(out, b" commits ", pass.commits, b" open ", pass.parted)
 }
 
 fn put_passes(out: &mut Vec<u8>, passes: &[PassLine]) -> Result<(), AllocError>
@@ -88,9 +86,27 @@ fn put_run(out: &mut Vec<u8>, facts: &Facts) -> Result<(), AllocError>
     put_count(out, b"joins ", facts.joins)
 }
 
+#[tactic(auto, unfolding(crate::specs::Report::report_of))]
+fn put_report(
+    out: &mut Vec<u8>,
+    alloc: Global,
+    d: &Design,
+    lat: &Lattice,
+    board: &Board,
+    facts: &Facts,
+    short: bool,
+) -> Result<(), AllocError>
+    ensures { OnOk result (Appends out.old.items out.new.items
+        (report_of d.now lat.now board.now.items facts.now short)) }
+{
+    put_head(out, d, facts)?;
+    put_run(out, facts)?;
+    put_nets(out, alloc, d, lat, board, facts, short)?;
+    put_totals(out, alloc, d, facts)
+}
+
 /// The report's bytes. With `short` the lines of what blocks a cut and of its reached nodes are left out.
 /// The only error is want of memory.
-#[tactic(auto, unfolding(crate::specs::Report::report_of))]
 pub fn report_text(
     alloc: Global,
     d: &Design,
@@ -102,9 +118,6 @@ pub fn report_text(
     ensures { IfOk result (λ text. text.items ≡ report_of d.now lat.now board.now.items facts.now short) }
 {
     let mut text = Vec::new(alloc);
-    put_head(&mut text, d, facts)?;
-    put_run(&mut text, facts)?;
-    put_nets(&mut text, alloc, d, lat, board, facts, short)?;
-    put_totals(&mut text, alloc, d, facts)?;
+    put_report(&mut text, alloc, d, lat, board, facts, short)?;
     Ok(text)
 }

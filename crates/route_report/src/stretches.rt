@@ -5,7 +5,7 @@ ghost use Rattle.ses_writer.specs.Words.{Appends};
 ghost use Rattle.route_lattice.specs.Mesh.{column as column_in, row as row_in, level as level_in};
 ghost use Rattle.route_report.specs.Report.{stretch_line, goes_on as goes_on_in, stretches_from, stretch_lines};
 
-use crate::words::{put_count, put_counted};
+use crate::words::{put_counted, put_pair};
 use route_lattice::Lattice;
 use std::alloc::AllocError;
 
@@ -61,8 +61,7 @@ fn put_stretch(out: &mut Vec<u8>, lat: &Lattice, first: u32, last: u32) -> Resul
 {
     put_counted(out, b"run ", level(lat, first))?;
     put_counted(out, b" ", row(lat, first))?;
-    put_counted(out, b" ", column(lat, first))?;
-    put_count(out, b" ", column(lat, last))
+    put_pair(out, b" ", column(lat, first), b" ", column(lat, last))
 }
 
 fn put_stretches_from(

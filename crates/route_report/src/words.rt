@@ -1,6 +1,6 @@
 //! Words with a number behind them.
 
-ghost use Rattle.std.specs.Prelude.{◌≡◌, OnOk};
+ghost use Rattle.std.specs.Prelude.{◌≡◌, ◌++◌, OnOk};
 ghost use Rattle.ses_writer.specs.Words.{Appends};
 ghost use Rattle.route_report.specs.Report.{counted, count_line};
 
@@ -16,10 +16,24 @@ pub(crate) fn put_counted(out: &mut Vec<u8>, word: &[u8], n: u64) -> Result<(), 
     put_whole(out, n)
 }
 
-/// The same at the end of a line.
+/// A word and its number at the end of a line.
 pub(crate) fn put_count(out: &mut Vec<u8>, word: &[u8], n: u64) -> Result<(), AllocError>
     ensures { OnOk result (Appends out.old.items out.new.items (count_line word.now n)) }
 {
     put_counted(out, word, n)?;
     put(out, b"\n")
+}
+
+/// Two words with their numbers at the end of a line.
+pub(crate) fn put_pair(
+    out: &mut Vec<u8>,
+    word: &[u8],
+    n: u64,
+    last: &[u8],
+    m: u64,
+) -> Result<(), AllocError>
+    ensures { OnOk result (Appends out.old.items out.new.items (counted word.now n ++ count_line last.now m)) }
+{
+    put_counted(out, word, n)?;
+    put_count(out, last, m)
 }

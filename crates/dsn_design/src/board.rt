@@ -105,7 +105,6 @@ fn counted_nets(
 fn connect(alloc: Global, parts: &Parts, design: &mut Design) -> Result<(), AllocError>
     ensures { OnOk result (design.new ≡ connected parts.now design.old) }
 {
-    design.classes = classes_of(alloc, parts.network.classes.as_slice())?;
     let vias = stack_numbers(
         alloc,
         &parts.library.stacks,
@@ -113,6 +112,7 @@ fn connect(alloc: Global, parts: &Parts, design: &mut Design) -> Result<(), Allo
     )?;
     design.notes = notes_of(parts, &design.padstacks, &vias);
     design.nets = counted_nets(alloc, parts, &design.padstacks, &vias)?;
+    design.classes = classes_of(alloc, parts.network.classes.as_slice())?;
     Ok(())
 }
 

@@ -1,4 +1,5 @@
-use Rattle.std.proofs.Common.{◌≡◌, ℕ, List, ◌++◌, Vec, Global, flat_map, refl, ap, subst, sym, ◌∙◌, arith, get_or, length}
+use Rattle.std.proofs.Common.{◌≡◌, ℕ, List, ◌++◌, Vec, Global, flat_map, refl, ap, subst, sym, ◌∙◌, arith, get_or}
+use Rattle.std.proofs.Common.{length}
 use Rattle.std.specs.List.{enumerate_from}
 use Rattle.std.specs.Option.{option_map_or}
 use Rattle.std.specs.Prelude.{Option, []}
@@ -21,7 +22,8 @@ loop-i-preserved c =
     let net = c.index-nets-i.result in
     let text = c.index-texts-i.result in
     let F : List Net → List ℕ = λ ns. flat_map lines (enumerate_from i ns) in
-    let there = slice_get_read texts (length nets) i text (sym c.requires.texts) c.loop-i-test.true c.index-texts-i.is in
+    let there = slice_get_read texts (length nets) i text (sym c.requires.texts) c.loop-i-test.true
+    c.index-texts-i.is in
     let told = c.as_slice.ensures.value
     ∙ sym (ap (λ (o : Option (Vec ℕ Global)). option_map_or (λ (t : Vec ℕ Global). t.items) o []) there) in
     let piece : net_line net.name (get_or counts i 0) ++ c.as_slice.result.now ≡ lines (i, net) =

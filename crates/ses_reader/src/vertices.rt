@@ -12,9 +12,11 @@ use pcb_model::Padstack;
 pub(crate) fn is_stack_past(at: Point, padstack: &Padstack) -> bool
     ensures { result ≡ is_stack_past at padstack.now }
 {
-    padstack
-        .pieces
-        .as_slice()
-        .iter()
-        .any(|piece| spine_past(at, &piece.spine))
+    let pieces = padstack.pieces.as_slice();
+    for piece in pieces {
+        if spine_past(at, &piece.spine) {
+            return true;
+        }
+    }
+    false
 }

@@ -47,16 +47,11 @@ fn last_classes<'a>(alloc: Global, lists: &[&'a Tree]) -> Result<NameMap<'a>, Al
 }
 
 /// Which of these class lists last names a net.
+#[derive(Drop)]
 pub(crate) struct ClassIndex<'a, 'b> {
     lists: &'b Trees<'a>,
     last: NameMap<'a>,
     ghost by_name: { (q : List ℕ) → place_by last q ≡ last_naming q 0 lists.now },
-}
-
-impl<'a, 'b> Drop for ClassIndex<'a, 'b> {
-    fn drop(self) {
-        let ClassIndex { lists: _, last: _ } = self;
-    }
 }
 
 impl<'a, 'b> ClassIndex<'a, 'b> {

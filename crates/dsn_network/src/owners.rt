@@ -76,15 +76,10 @@ fn first_nets(alloc: Global, nets: &[ReadNet]) -> Result<PinMap, AllocError>
 }
 
 /// Which of some nets first names each pin.
+#[derive(Drop)]
 pub struct Owners<'a> {
     nets: &'a [ReadNet],
     first: PinMap,
-}
-
-impl<'a> Drop for Owners<'a> {
-    fn drop(self) {
-        let Owners { nets: _, first: _ } = self;
-    }
 }
 
 impl<'a> Model for Owners<'a> {

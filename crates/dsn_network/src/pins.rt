@@ -10,6 +10,7 @@ use dsn_shapes::{Image, Library, NameIndex, PinRef, Placing, names_of};
 use std::alloc::{AllocError, Global};
 
 /// Pins that are looked up in indices of the components' names and of each image's pins' names.
+#[derive(Drop)]
 pub(crate) struct PinIndex<'a, 'b> {
     pub(crate) lib: &'a Library,
     pub(crate) placing: &'b Placing,
@@ -17,17 +18,6 @@ pub(crate) struct PinIndex<'a, 'b> {
     images: Vec<NameIndex<'a>>,
     ghost by_place: { places ≡ place_names placing.now.places },
     ghost by_image: { images.items ≡ map (λ (image : TheImage). pin_names image.pins) lib.now.images },
-}
-
-impl<'a, 'b> Drop for PinIndex<'a, 'b> {
-    fn drop(self) {
-        let PinIndex {
-            lib: _,
-            placing: _,
-            places: _,
-            images: _,
-        } = self;
-    }
 }
 
 fn push_pins<'a>(

@@ -18,18 +18,10 @@ use std::collections::BTreeMap;
 use std::marker::Model;
 
 /// The names that lists give, in order, with where each first stands.
+#[derive(Drop)]
 pub struct NameIndex<'a> {
     names: Vec<&'a [u8]>,
     places: BTreeMap<&'a [u8], usize>,
-}
-
-impl<'a> Drop for NameIndex<'a> {
-    fn drop(self) {
-        let NameIndex {
-            names: _,
-            places: _,
-        } = self;
-    }
 }
 
 impl<'a> Model for NameIndex<'a> {

@@ -45,6 +45,7 @@ pub struct BanShape {
 /// The structure: layers, boundaries, keepouts, the names of its via padstacks, and its rules.
 /// `via_at_smd` lets vias touch surface-mounted pins of their net; with `flip_last`
 /// a component on the back is mirrored after its turn.
+#[derive(Drop)]
 pub struct Structure {
     pub layers: List<Layer>,
     pub bounds: List<LayerShape>,
@@ -54,21 +55,6 @@ pub struct Structure {
     pub via_at_smd: bool,
     pub flip_last: bool,
     pub notes: u64,
-}
-
-impl Drop for Structure {
-    fn drop(self) {
-        let Structure {
-            layers: _,
-            bounds: _,
-            bans: _,
-            vias: _,
-            rules: _,
-            via_at_smd: _,
-            flip_last: _,
-            notes: _,
-        } = self;
-    }
 }
 
 /// A padstack.
@@ -96,20 +82,11 @@ pub struct Image {
 }
 
 /// The padstacks and the images.
+#[derive(Drop)]
 pub struct Library {
     pub stacks: List<Stack>,
     pub images: List<Image>,
     pub notes: u64,
-}
-
-impl Drop for Library {
-    fn drop(self) {
-        let Library {
-            stacks: _,
-            images: _,
-            notes: _,
-        } = self;
-    }
 }
 
 /// A component: its image by index, and where it is placed, if it is.
@@ -123,18 +100,10 @@ pub struct Place {
 }
 
 /// The components.
+#[derive(Drop)]
 pub struct Placing {
     pub places: List<Place>,
     pub notes: u64,
-}
-
-impl Drop for Placing {
-    fn drop(self) {
-        let Placing {
-            places: _,
-            notes: _,
-        } = self;
-    }
 }
 
 /// A pin by the indices of its component and of the image's pin.
@@ -169,20 +138,11 @@ pub struct ReadClass {
 }
 
 /// The nets and the classes.
+#[derive(Drop)]
 pub struct Network {
     pub nets: List<ReadNet>,
     pub classes: List<ReadClass>,
     pub notes: u64,
-}
-
-impl Drop for Network {
-    fn drop(self) {
-        let Network {
-            nets: _,
-            classes: _,
-            notes: _,
-        } = self;
-    }
 }
 
 /// A wire or a via, its net, and the byte offset of its list.
@@ -195,13 +155,8 @@ pub struct ReadWire {
 }
 
 /// The wires and vias.
+#[derive(Drop)]
 pub struct Wiring {
     pub wires: List<ReadWire>,
     pub notes: u64,
-}
-
-impl Drop for Wiring {
-    fn drop(self) {
-        let Wiring { wires: _, notes: _ } = self;
-    }
 }

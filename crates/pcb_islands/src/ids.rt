@@ -11,14 +11,9 @@ use std::collections::BTreeSet;
 use std::marker::Model;
 
 /// A set of item ids.
+#[derive(Drop)]
 pub(crate) struct Ids {
     ids: BTreeSet<u64>,
-}
-
-impl Drop for Ids {
-    fn drop(self) {
-        let Ids { ids: _ } = self;
-    }
 }
 
 impl Model for Ids {

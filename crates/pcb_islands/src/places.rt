@@ -9,14 +9,9 @@ use std::collections::BTreeMap;
 use std::marker::Model;
 
 /// Places of numbers.
+#[derive(Drop)]
 pub(crate) struct Places {
     places: BTreeMap<u64, usize>,
-}
-
-impl Drop for Places {
-    fn drop(self) {
-        let Places { places: _ } = self;
-    }
 }
 
 impl Model for Places {

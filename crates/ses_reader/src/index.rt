@@ -14,22 +14,12 @@ use std::alloc::{AllocError, Global};
 use std::marker::Model;
 
 /// A design, with where each of its names first stands.
+#[derive(Drop)]
 pub(crate) struct DesignIndex<'a> {
     design: &'a Design,
     layers: NameIndex<'a>,
     padstacks: NameIndex<'a>,
     nets: NameIndex<'a>,
-}
-
-impl<'a> Drop for DesignIndex<'a> {
-    fn drop(self) {
-        let DesignIndex {
-            design: _,
-            layers: _,
-            padstacks: _,
-            nets: _,
-        } = self;
-    }
 }
 
 impl<'a> Model for DesignIndex<'a> {

@@ -2,7 +2,7 @@
 //! Every token and every blank is read under such a context.
 
 /// How the line of a place stands before it.
-#[derive(Clone, Copy)]
+#[derive(Clone, Copy, PartialEq, Eq)]
 pub enum Line {
     /// Blanks alone; a `#` begins a skipped line.
     Fresh,

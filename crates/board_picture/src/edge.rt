@@ -15,20 +15,13 @@ use std::alloc::AllocError;
 
 // ---- edge
 
-#[tactic(auto, unfolding(crate::specs::Picture::bound_shape))]
-fn put_bound(out: &mut Vec<u8>, loops: &[List<Point>]) -> Result<(), AllocError>
-    ensures { OnOk result (Appends out.old.items out.new.items (bound_shape loops.now)) }
-{
-    put(out, b"<path d=\"")?;
-    put_loops(out, loops)?;
-    put(out, b"\"/>\n")
-}
-
 fn put_bounds(out: &mut Vec<u8>, bounds: &[List<List<Point>>]) -> Result<(), AllocError>
     ensures { OnOk result (Appends out.old.items out.new.items (flat_map bound_shape bounds.now)) }
 {
     for loops in bounds {
-        put_bound(out, loops.as_slice())?;
+        put(out, b"<path d=\"")?;
+        put_loops(out, loops.as_slice())?;
+        put(out, b"\"/>\n")?;
     }
     Ok(())
 }
@@ -52,27 +45,20 @@ pub(crate) fn put_edge(out: &mut Vec<u8>, s: Sheet, d: &Design) -> Result<(), Al
 
 // ---- names
 
-#[tactic(auto, unfolding(crate::specs::Picture::name_text))]
-fn put_name(out: &mut Vec<u8>, c: &Component) -> Result<(), AllocError>
-    ensures { OnOk result (Appends out.old.items out.new.items (name_text c.now)) }
-{
-    put_parts(
-        out,
-        &[
-            Part::Text(b"<text transform=\"matrix(1 0 0 -1"),
-            Part::At(c.at),
-            Part::Text(b")\">"),
-            Part::Name(c.name.as_slice()),
-            Part::Text(b"</text>\n"),
-        ],
-    )
-}
-
 fn put_name_texts(out: &mut Vec<u8>, components: &[Component]) -> Result<(), AllocError>
     ensures { OnOk result (Appends out.old.items out.new.items (flat_map name_text components.now)) }
 {
     for c in components {
-        put_name(out, c)?;
+        put_parts(
+            out,
+            &[
+                Part::Text(b"<text transform=\"matrix(1 0 0 -1"),
+                Part::At(c.at),
+                Part::Text(b")\">"),
+                Part::Name(c.name.as_slice()),
+                Part::Text(b"</text>\n"),
+            ],
+        )?;
     }
     Ok(())
 }
@@ -103,26 +89,19 @@ pub(crate) fn put_names(out: &mut Vec<u8>, s: Sheet, d: &Design) -> Result<(), A
 
 // ---- open connections
 
-#[tactic(auto, unfolding(crate::specs::Picture::open_shape))]
-fn put_line(out: &mut Vec<u8>, line: &OpenLine) -> Result<(), AllocError>
-    ensures { OnOk result (Appends out.old.items out.new.items (open_shape line.now)) }
-{
-    put_parts(
-        out,
-        &[
-            Part::Text(b"<path d=\"M"),
-            Part::At(line.from),
-            Part::At(line.to),
-            Part::Text(b"\"/>\n"),
-        ],
-    )
-}
-
 fn put_lines(out: &mut Vec<u8>, lines: &[OpenLine]) -> Result<(), AllocError>
     ensures { OnOk result (Appends out.old.items out.new.items (flat_map open_shape lines.now)) }
 {
     for line in lines {
-        put_line(out, line)?;
+        put_parts(
+            out,
+            &[
+                Part::Text(b"<path d=\"M"),
+                Part::At(line.from),
+                Part::At(line.to),
+                Part::Text(b"\"/>\n"),
+            ],
+        )?;
     }
     Ok(())
 }

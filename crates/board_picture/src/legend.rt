@@ -3,8 +3,8 @@
 
 ghost use Rattle.std.specs.Prelude.{◌≡◌, ◌≤◌, ◌^◌, ◌++◌, OnOk, codes, length};
 ghost use Rattle.ses_writer.specs.Words.{Appends};
-ghost use Rattle.board_picture.specs.Legend.{count_row, layer_row, layer_rows, through_row};
-ghost use Rattle.board_picture.specs.Legend.{keepout_row, open_row, size_row, has_through, is_hatched, has_keepout};
+ghost use Rattle.board_picture.specs.Legend.{count_row, layer_row, layer_rows};
+ghost use Rattle.board_picture.specs.Legend.{open_row, size_row, has_through, has_keepout};
 ghost use Rattle.board_picture.specs.Legend.{through_rows, keepout_rows, row_if, mark_count, mark_rows};
 ghost use Rattle.board_picture.specs.Legend.{wire_count, via_count, count_rows};
 ghost use Rattle.board_picture.specs.Legend.{legend_head, legend_part};
@@ -70,40 +70,6 @@ fn put_layer_rows(out: &mut Vec<u8>, d: &Design) -> Result<(), AllocError>
     Ok(())
 }
 
-fn put_through_row(out: &mut Vec<u8>, row: u128) -> Result<(), AllocError>
-    ensures { OnOk result (Appends out.old.items out.new.items (through_row row)) }
-{
-    let number = Part::Number(row);
-    put_parts(
-        out,
-        &[
-            Part::Text(b"<path d=\"M0 "),
-            number,
-            Part::Text(
-                b".5h2\" stroke-width=\"0.6\" fill=\"#000\" stroke=\"#000\" opacity=\"0.85\"/><text x=\"2.5\" y=\"",
-            ),
-            number,
-            Part::Text(b".8\">through pads and vias</text>\n"),
-        ],
-    )
-}
-
-fn put_keepout_row(out: &mut Vec<u8>, row: u128) -> Result<(), AllocError>
-    ensures { OnOk result (Appends out.old.items out.new.items (keepout_row row)) }
-{
-    let number = Part::Number(row);
-    put_parts(
-        out,
-        &[
-            Part::Text(b"<path d=\"M0 "),
-            number,
-            Part::Text(b".5h2\" stroke-width=\"0.6\" stroke=\"url(#hatch)\"/><text x=\"2.5\" y=\""),
-            number,
-            Part::Text(b".8\">keepouts</text>\n"),
-        ],
-    )
-}
-
 fn put_open_row(out: &mut Vec<u8>, row: u128, count: u64) -> Result<(), AllocError>
     ensures { OnOk result (Appends out.old.items out.new.items (open_row row count)) }
 {
@@ -151,17 +117,11 @@ fn has_through(items: &[Item]) -> bool
     false
 }
 
-fn is_hatched(a: &Item) -> bool
-    ensures { result ≡ is_hatched a.now }
-{
-    is_keepout(&a.metal) && have_breadth(a.pieces.as_slice())
-}
-
 fn has_keepout(items: &[Item]) -> bool
     ensures { result ≡ has_keepout items.now }
 {
     for a in items {
-        if is_hatched(a) {
+        if is_keepout(&a.metal) && have_breadth(a.pieces.as_slice()) {
             return true;
         }
     }
@@ -171,19 +131,41 @@ fn has_keepout(items: &[Item]) -> bool
 fn put_through_rows(out: &mut Vec<u8>, there: bool, row: u128) -> Result<(), AllocError>
     ensures { OnOk result (Appends out.old.items out.new.items (through_rows there row)) }
 {
-    if there {
-        return put_through_row(out, row);
+    if !there {
+        return Ok(());
     }
-    Ok(())
+    let number = Part::Number(row);
+    put_parts(
+        out,
+        &[
+            Part::Text(b"<path d=\"M0 "),
+            number,
+            Part::Text(
+                b".5h2\" stroke-width=\"0.6\" fill=\"#000\" stroke=\"#000\" opacity=\"0.85\"/><text x=\"2.5\" y=\"",
+            ),
+            number,
+            Part::Text(b".8\">through pads and vias</text>\n"),
+        ],
+    )
 }
 
 fn put_keepout_rows(out: &mut Vec<u8>, there: bool, row: u128) -> Result<(), AllocError>
     ensures { OnOk result (Appends out.old.items out.new.items (keepout_rows there row)) }
 {
-    if there {
-        return put_keepout_row(out, row);
+    if !there {
+        return Ok(());
     }
-    Ok(())
+    let number = Part::Number(row);
+    put_parts(
+        out,
+        &[
+            Part::Text(b"<path d=\"M0 "),
+            number,
+            Part::Text(b".5h2\" stroke-width=\"0.6\" stroke=\"url(#hatch)\"/><text x=\"2.5\" y=\""),
+            number,
+            Part::Text(b".8\">keepouts</text>\n"),
+        ],
+    )
 }
 
 fn row_if(there: bool) -> u128

@@ -2,7 +2,7 @@
 
 ghost use Rattle.std.specs.Prelude.{◌≡◌, ◌++◌, ◌<◌, IfOk, OnOk, length};
 ghost use Rattle.pcb_model.specs.Sound.{IsSound};
-ghost use Rattle.board_picture.specs.Open.{centre_of, island_place, line_between, lines_from, lines_of, AreOpenLines};
+ghost use Rattle.board_picture.specs.Open.{island_place, line_between, lines_from, lines_of, AreOpenLines};
 
 use geo_kernel::{List, Point};
 use pcb_islands::{Island, islands};
@@ -17,20 +17,14 @@ pub struct OpenLine {
     pub to: Point,
 }
 
-fn centre_of(d: &Design, pin: u32) -> Point
-    ensures { result ≡ centre_of d.now pin }
-{
-    match d.pins.as_slice().get(pin as usize) {
-        Some(p) => p.centre,
-        None => Point { x: 0, y: 0 },
-    }
-}
-
 fn island_place(d: &Design, island: &Island) -> Point
     ensures { result ≡ island_place d.now island.now }
 {
     match island.pins.as_slice().get(0) {
-        Some(pin) => centre_of(d, *pin),
+        Some(pin) => match d.pins.as_slice().get(*pin as usize) {
+            Some(p) => p.centre,
+            None => Point { x: 0, y: 0 },
+        },
         None => Point { x: 0, y: 0 },
     }
 }

@@ -5,7 +5,7 @@ ghost use Rattle.std.specs.Prelude.{◌≡◌, ◌≤◌, ◌^◌, OnOk, IfOk};
 ghost use Rattle.ses_writer.specs.Words.{Appends};
 ghost use Rattle.board_picture.specs.Words.{mm_word};
 ghost use Rattle.board_picture.specs.Sheet.{shift_x, shift_y};
-ghost use Rattle.board_picture.specs.Picture.{ground_words, head_part, board_head, board_part, picture_of};
+ghost use Rattle.board_picture.specs.Picture.{head_part, board_head, board_part, picture_of};
 
 use crate::copper::put_copper;
 use crate::edge::{put_edge, put_names, put_open};
@@ -19,19 +19,7 @@ use std::alloc::{AllocError, Global};
 
 // ---- the head
 
-#[tactic(auto, unfolding(crate::specs::Picture::ground_words))]
-fn put_ground(out: &mut Vec<u8>) -> Result<(), AllocError>
-    ensures { OnOk result (Appends out.old.items out.new.items ground_words) }
-{
-    put(
-        out,
-        b"<pattern id=\"hatch\" width=\"0.8\" height=\"0.8\" patternUnits=\"userSpaceOnUse\" \
-        patternTransform=\"rotate(45)\"><path d=\"M0 0v1\" stroke=\"#777\" stroke-width=\"0.5\"/></pattern>\n\
-        <rect width=\"100%\" height=\"100%\" fill=\"#fff\"/>\n",
-    )
-}
-
-#[tactic(auto, unfolding(crate::specs::Picture::head_part))]
+#[tactic(auto, unfolding(crate::specs::Picture::head_part, crate::specs::Picture::ground_words))]
 fn put_head(out: &mut Vec<u8>, s: Sheet, d: &Design) -> Result<(), AllocError>
     requires { s.unit ≤ 2 ^ 59 }
     ensures { OnOk result (Appends out.old.items out.new.items (head_part s d.now)) }
@@ -48,7 +36,12 @@ fn put_head(out: &mut Vec<u8>, s: Sheet, d: &Design) -> Result<(), AllocError>
             Part::Text(b"</title>\n"),
         ],
     )?;
-    put_ground(out)
+    put(
+        out,
+        b"<pattern id=\"hatch\" width=\"0.8\" height=\"0.8\" patternUnits=\"userSpaceOnUse\" \
+        patternTransform=\"rotate(45)\"><path d=\"M0 0v1\" stroke=\"#777\" stroke-width=\"0.5\"/></pattern>\n\
+        <rect width=\"100%\" height=\"100%\" fill=\"#fff\"/>\n",
+    )
 }
 
 // ---- the board

@@ -4,8 +4,8 @@
 ghost use Rattle.std.specs.Prelude.{◌≡◌, OnOk, flat_map};
 ghost use Rattle.ses_writer.specs.Words.{Appends};
 ghost use Rattle.board_picture.specs.Shapes.{loop_words, spine_words, piece_shape, shape_on, shapes_on, broad_shape};
-ghost use Rattle.board_picture.specs.Shapes.{is_wire, is_via, is_keepout, is_land, leaves_layer, spans_layers};
-ghost use Rattle.board_picture.specs.Shapes.{is_through, is_area, has_breadth, have_breadth, breadth, hole_radius};
+ghost use Rattle.board_picture.specs.Shapes.{is_wire, is_via, is_keepout, is_land, leaves_layer};
+ghost use Rattle.board_picture.specs.Shapes.{is_through, has_breadth, have_breadth, hole_radius};
 ghost use Rattle.board_picture.specs.Shapes.{hole_dot, hole_at, hole_of};
 
 use crate::sheet::narrow_side;
@@ -15,22 +15,13 @@ use pcb_model::{Design, Item, Metal, Piece};
 use ses_writer::put;
 use std::alloc::AllocError;
 
-#[tactic(auto, unfolding(crate::specs::Shapes::loop_words))]
-fn put_loop(out: &mut Vec<u8>, points: &[Point]) -> Result<(), AllocError>
-    ensures { OnOk result (Appends out.old.items out.new.items (loop_words points.now)) }
-{
-    put_parts(
-        out,
-        &[Part::Text(b"M"), Part::Line(points), Part::Text(b"z")],
-    )
-}
-
 /// The loops of an area.
 pub(crate) fn put_loops(out: &mut Vec<u8>, loops: &[List<Point>]) -> Result<(), AllocError>
     ensures { OnOk result (Appends out.old.items out.new.items (flat_map loop_words loops.now)) }
 {
     for points in loops {
-        put_loop(out, points.as_slice())?;
+        let line = Part::Line(points.as_slice());
+        put_parts(out, &[Part::Text(b"M"), line, Part::Text(b"z")])?;
     }
     Ok(())
 }
@@ -77,16 +68,10 @@ pub(crate) fn put_pieces(out: &mut Vec<u8>, pieces: &[Piece]) -> Result<(), Allo
     Ok(())
 }
 
-fn is_area(spine: &Spine) -> bool
-    ensures { result ≡ is_area spine.now }
-{
-    matches!(spine, Spine::Area(_))
-}
-
 fn has_breadth(c: &Piece) -> bool
     ensures { result ≡ has_breadth c.now }
 {
-    is_area(&c.spine) || c.width != 0
+    matches!(c.spine, Spine::Area(_)) || c.width != 0
 }
 
 /// Whether they aren't all lines without width.
@@ -179,39 +164,28 @@ fn leaves_layer(layer: u8, pieces: &[Piece]) -> bool
     false
 }
 
-fn spans_layers(pieces: &[Piece]) -> bool
-    ensures { result ≡ spans_layers pieces.now }
-{
-    match pieces {
-        [] => false,
-        [c, rest @ ..] => leaves_layer(c.layer, rest),
-    }
-}
-
 /// Whether it is a via or pad with copper on two layers or more.
 pub(crate) fn is_through(a: &Item) -> bool
     ensures { result ≡ is_through a.now }
 {
-    is_land(&a.metal) && spans_layers(a.pieces.as_slice())
+    is_land(&a.metal)
+        && match a.pieces.as_slice() {
+            [] => false,
+            [c, rest @ ..] => leaves_layer(c.layer, rest),
+        }
 }
 
 // ---- holes
-
-fn breadth(width: u64, spine: &Spine) -> u64
-    ensures { result ≡ breadth width spine.now }
-{
-    match spine {
-        Spine::Chain(_) => width,
-        Spine::Area(loops) => narrow_side(loops.as_slice()),
-    }
-}
 
 fn hole_radius(pieces: &[Piece]) -> u64
     ensures { result ≡ hole_radius pieces.now }
 {
     match pieces {
         [] => 0,
-        [c, ..] => breadth(c.width, &c.spine) / 5,
+        [c, ..] => match &c.spine {
+            Spine::Chain(_) => c.width / 5,
+            Spine::Area(loops) => narrow_side(loops.as_slice()) / 5,
+        },
     }
 }
 

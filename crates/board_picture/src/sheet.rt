@@ -54,21 +54,15 @@ fn grown_by_bound(b: Rect4, loops: &[List<Point>]) -> Rect4
     all
 }
 
-fn first_in_loop(points: &[Point]) -> Point
-    ensures { result ≡ slice_index_or points.now 0 origin }
-{
-    match points {
-        [] => Point { x: 0, y: 0 },
-        [p, ..] => *p,
-    }
-}
-
 fn first_in_loops(loops: &[List<Point>]) -> Point
     ensures { result ≡ slice_index_or (slice_index_or loops.now 0 []) 0 origin }
 {
     match loops {
         [] => Point { x: 0, y: 0 },
-        [points, ..] => first_in_loop(points.as_slice()),
+        [points, ..] => match points.as_slice() {
+            [] => Point { x: 0, y: 0 },
+            [p, ..] => *p,
+        },
     }
 }
 

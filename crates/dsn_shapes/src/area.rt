@@ -5,10 +5,9 @@ ghost use Rattle.std.specs.Prelude.{◌≡◌, ◌-◌, ◌∷◌, fold, map, ma
 ghost use Rattle.std.specs.List.{flat_map};
 ghost use Rattle.dsn_tree.specs.Heads.{is_headed, items_of};
 ghost use Rattle.dsn_shapes.specs.declared.shape.Rim.{Rim as TheRim};
-ghost use Rattle.dsn_shapes.specs.Lists.{capped, has_head, trees_of};
+ghost use Rattle.dsn_shapes.specs.Lists.{capped};
 ghost use Rattle.dsn_shapes.specs.Refusals.{noted};
-ghost use Rattle.dsn_shapes.specs.Shapes.{area_of, ban_notes, ban_of, ban_refusals, ban_shape, bound_forms};
-ghost use Rattle.dsn_shapes.specs.Shapes.{bound_of, bound_refusals, first_layers, is_beside, notes_beside};
+ghost use Rattle.dsn_shapes.specs.Shapes.{area_of, ban_notes, ban_refusals, ban_shape, first_layers, notes_beside};
 ghost use Rattle.dsn_shapes.specs.Shapes.{windows_of};
 
 use crate::known::form_heads;
@@ -16,7 +15,7 @@ use crate::lists::{at_of, is_word};
 use crate::part::{Part, read_each};
 use crate::parts::{BanShape, Layer, LayerShape};
 use crate::refusal::{Refusal, note, refused};
-use crate::shape::{Rim, note_held_loop, note_held_shape, note_loop};
+use crate::shape::{Rim, empty_rim, form_in, note_held_shape, note_loop};
 use crate::table::BAD_FORM;
 use crate::trees::Trees;
 use dsn_tree::{Tree, is_headed, items};
@@ -86,13 +85,20 @@ impl<'a> Part<Rim> for Holders<'a> {
 
     ghost value = { λ p t. held_loop p.scale.nm p.layers.now t };
 
+    #[tactic(auto, unfolding(crate::specs::Shapes::held_loop, crate::specs::Shapes::refusals_in))]
     fn read(
         &self,
         alloc: Global,
         first: &mut Option<Refusal>,
         tree: &Tree,
     ) -> Result<Rim, AllocError> {
-        note_held_loop(alloc, first, tree, self.scale, self.layers)
+        match form_in(tree) {
+            Some(form) => note_loop(alloc, first, form, self.scale, self.layers),
+            None => {
+                note(first, refused(BAD_FORM, at_of(tree)));
+                Ok(empty_rim(alloc))
+            }
+        }
     }
 }
 
@@ -193,34 +199,6 @@ impl<'a> Part<BanShape> for Keepouts<'a> {
     }
 }
 
-// The forms in a boundary.
-fn bound_forms<'a>(alloc: Global, tree: &'a Tree) -> Result<Trees<'a>, AllocError>
-    ensures { IfOk result (λ ts. ts ≡ bound_forms tree.now) }
-{
-    let mut forms = Trees::new(alloc);
-    forms.push_lists(tree, form_heads())?;
-    Ok(forms)
-}
-
-#[tactic(auto, unfolding(crate::specs::Shapes::bound_of, crate::specs::Shapes::bound_refusals))]
-fn note_bound(
-    alloc: Global,
-    first: &mut Option<Refusal>,
-    tree: &Tree,
-    scale: Scale,
-    layers: &List<Layer>,
-) -> Result<LayerShape, AllocError>
-    ensures noted { OnOk result (first.new ≡ noted first.old (bound_refusals scale.nm layers.now tree.now)) }
-    ensures value { IfOk result (λ v. v ≡ bound_of scale.nm layers.now tree.now) }
-{
-    let forms = bound_forms(alloc, tree)?;
-    if forms.len() == 0 {
-        note(first, refused(BAD_FORM, at_of(tree)));
-    }
-    let rims = read_each(alloc, &Loops { scale, layers }, first, &forms)?;
-    area_of(alloc, rims.as_slice())
-}
-
 /// Boundaries: each is the area of all its forms.
 #[derive(Drop)]
 pub struct Bounds<'a> {
@@ -235,13 +213,24 @@ impl<'a> Part<LayerShape> for Bounds<'a> {
 
     ghost value = { λ p t. bound_of p.scale.nm p.layers.now t };
 
+    #[tactic(auto, unfolding(crate::specs::Shapes::bound_of, crate::specs::Shapes::bound_refusals))]
     fn read(
         &self,
         alloc: Global,
         first: &mut Option<Refusal>,
         tree: &Tree,
     ) -> Result<LayerShape, AllocError> {
-        note_bound(alloc, first, tree, self.scale, self.layers)
+        let mut forms = Trees::new(alloc);
+        forms.push_lists(tree, form_heads())?;
+        if forms.len() == 0 {
+            note(first, refused(BAD_FORM, at_of(tree)));
+        }
+        let loops = Loops {
+            scale: self.scale,
+            layers: self.layers,
+        };
+        let rims = read_each(alloc, &loops, first, &forms)?;
+        area_of(alloc, rims.as_slice())
     }
 }
 
@@ -261,14 +250,9 @@ fn notes_beside(tree: &Tree) -> u64
 pub fn shape_notes(trees: &Trees) -> u64
     ensures { result ≡ capped (sum_by notes_beside trees.now) }
 {
-    notes_of_shapes(trees.as_slice())
-}
-
-fn notes_of_shapes(trees: &[&Tree]) -> u64
-    ensures { result ≡ capped (sum_by notes_beside (trees_of trees.now)) }
-{
+    let lists = trees.as_slice();
     let mut notes: u64 = 0;
-    for tree in trees {
+    for tree in lists {
         notes = notes.saturating_add(notes_beside(tree));
     }
     notes
@@ -286,19 +270,13 @@ fn notes_of_windows(all: &[Tree]) -> u64
     notes
 }
 
-fn is_beside(tree: &Tree) -> bool
-    ensures { result ≡ is_beside tree.now }
-{
-    !is_word(tree) && !is_headed(tree, b"window")
-}
-
 #[tactic(auto, unfolding(crate::specs::Shapes::ban_notes))]
 fn notes_of_ban(tree: &Tree) -> u64
     ensures { result ≡ capped (ban_notes tree.now) }
 {
     let mut beside: u64 = 0;
     for item in items(tree) {
-        if is_beside(item) {
+        if !is_word(item) && !is_headed(item, b"window") {
             beside += 1;
         }
     }
@@ -311,14 +289,9 @@ fn notes_of_ban(tree: &Tree) -> u64
 pub fn ban_notes(trees: &Trees) -> u64
     ensures { result ≡ capped (sum_by ban_notes trees.now) }
 {
-    notes_of_bans(trees.as_slice())
-}
-
-fn notes_of_bans(trees: &[&Tree]) -> u64
-    ensures { result ≡ capped (sum_by ban_notes (trees_of trees.now)) }
-{
+    let lists = trees.as_slice();
     let mut notes: u64 = 0;
-    for tree in trees {
+    for tree in lists {
         notes = notes.saturating_add(notes_of_ban(tree));
     }
     notes

@@ -3,7 +3,7 @@
 
 ghost use Rattle.std.specs.Prelude.{◌≡◌, ◌<◌, ◌≤◌, ◌^◌, length, take};
 ghost use Rattle.std.specs.List.{list_any};
-ghost use Rattle.dsn_shapes.specs.Layers.{group_of, layer_refusal, layers_of, mask, named_by, names_some, stands_for};
+ghost use Rattle.dsn_shapes.specs.Layers.{group_of, layer_refusal, layers_of, mask, named_by, stands_for};
 ghost use Rattle.dsn_shapes.specs.Lists.{name_of};
 ghost use Rattle.dsn_shapes.specs.Refusals.{noted};
 
@@ -97,28 +97,16 @@ fn first_layers(layers: &[Layer]) -> &[Layer]
     front
 }
 
-#[tactic(auto, unfolding(crate::specs::Layers::layers_of))]
-fn layers_of(layers: &[Layer], word: &[u8]) -> u32
-    ensures { result ≡ layers_of layers.now word.now }
-{
-    mask(named_by(layers, word), word, first_layers(layers))
-}
-
-#[tactic(auto, unfolding(crate::specs::Layers::names_some))]
-fn names_some(layers: &[Layer], word: &[u8]) -> bool
-    ensures { result ≡ names_some layers.now word.now }
-{
-    some_stands(named_by(layers, word), word, layers)
-}
-
 /// The layers of the layer word of a form: bit i of the answer is set for layer i.
+#[tactic(auto, unfolding(crate::specs::Layers::layers_of, crate::specs::Layers::names_some))]
 pub(crate) fn read_layers(first: &mut Option<Refusal>, tree: &Tree, layers: &[Layer]) -> u32
     ensures noted { first.new ≡ noted first.old (layer_refusal layers.now tree.now) }
     ensures value { result ≡ layers_of layers.now (name_of tree.now 1) }
 {
     let word = name_of(tree, 1);
-    if !names_some(layers, word) {
+    let group = named_by(layers, word);
+    if !some_stands(group, word, layers) {
         note(first, refused(NO_LAYER, place_of(tree, 1)));
     }
-    layers_of(layers, word)
+    mask(group, word, first_layers(layers))
 }

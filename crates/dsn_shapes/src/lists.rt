@@ -5,7 +5,7 @@ ghost use Rattle.std.specs.Prelude.{◌≡◌, ◌∷◌, ◌==◌, ◌||◌, co
 ghost use Rattle.std.specs.Option.{option_copied};
 ghost use Rattle.std.specs.List.{flat_map, list_any};
 ghost use Rattle.dsn_tree.specs.Heads.{is_headed, items_of};
-ghost use Rattle.dsn_shapes.specs.Lists.{at_of, has_quote, is_left_out, is_word, left_out, name_of, nth_word};
+ghost use Rattle.dsn_shapes.specs.Lists.{at_of, is_left_out, is_word, left_out, name_of, nth_word};
 ghost use Rattle.dsn_shapes.specs.Lists.{place_of, quoted_name, says, text_of};
 ghost use Rattle.dsn_shapes.specs.Refusals.{noted};
 
@@ -89,17 +89,11 @@ pub fn says(tree: &Tree, i: usize, keyword: &[u8]) -> bool
     }
 }
 
-fn has_quote(text: &[u8]) -> bool
-    ensures { result ≡ has_quote text.now }
-{
-    text.contains(&b'"')
-}
-
 /// Refuses a name that is given by word `i` and that a session can't print.
 pub fn refuse_quoted_name(first: &mut Option<Refusal>, tree: &Tree, i: usize)
     ensures { first.new ≡ noted first.old (quoted_name tree.now i) }
 {
-    if has_quote(name_of(tree, i)) {
+    if name_of(tree, i).contains(&b'"') {
         note(first, refused(LEFT_OUT, place_of(tree, i)));
     }
 }

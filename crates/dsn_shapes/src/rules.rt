@@ -2,14 +2,13 @@
 //! Source: SPECCTRA reference, rule, width and clearance descriptors.
 
 ghost use Rattle.std.specs.Prelude.{◌==◌, ◌<◌, length, position, IfSome, ◌≡◌, ◌++◌, ◌∷◌, [], map, codes, count_by};
-ghost use Rattle.std.specs.Prelude.{IfOk, OnOk, None, if◌then◌else◌};
+ghost use Rattle.std.specs.Prelude.{IfOk, OnOk, if◌then◌else◌};
 ghost use Rattle.std.specs.List.{flat_map};
-ghost use Rattle.std.specs.Option.{option_map_or};
 ghost use Rattle.std.specs.Str.{str_eq_ignore_ascii_case};
-ghost use Rattle.dsn_shapes.specs.Lists.{capped, left_out_in, nth_word, trees_of};
-ghost use Rattle.dsn_shapes.specs.Numbers.{extent_at, extent_refusal, word_extent};
+ghost use Rattle.dsn_shapes.specs.Lists.{capped, left_out_in, trees_of};
+ghost use Rattle.dsn_shapes.specs.Numbers.{extent_at, extent_refusal};
 ghost use Rattle.dsn_shapes.specs.Refusals.{noted};
-ghost use Rattle.dsn_shapes.specs.Rules.{both, clearances_in, is_plain, is_unknown, is_zero, kind_of, last_of};
+ghost use Rattle.dsn_shapes.specs.Rules.{clearances_in, is_plain, is_unknown, is_zero, kind_of, last_of};
 ghost use Rattle.dsn_shapes.specs.Rules.{pair_of, pairing_of, plain_at, notes_with, rule_notes, rule_refusals};
 ghost use Rattle.dsn_shapes.specs.Rules.{rule_set, rules_left_out, set_of, set_refusals, split_pair, typed_at};
 ghost use Rattle.dsn_shapes.specs.Rules.{typed_by, width_refusals, widths_in, zero_width};
@@ -52,15 +51,6 @@ fn kind_of(text: &[u8]) -> Option<Kind>
     }
 }
 
-fn both(a: Option<Kind>, b: Option<Kind>) -> Pairing
-    ensures { result ≡ both a b }
-{
-    match (a, b) {
-        (Some(a), Some(b)) => Pairing::Known(a, Some(b)),
-        _ => Pairing::Unknown,
-    }
-}
-
 fn underscore(text: &[u8]) -> Option<usize>
     ensures value { result ≡ position (λ b. b == 95) text.now }
     ensures within { IfSome result (λ i. i < length text.now) }
@@ -77,7 +67,10 @@ fn split_pair(text: &[u8], at: Option<usize>) -> Pairing
         Some(i) => {
             let (front, _) = text.split_at(i);
             let (_, back) = text.split_at(i + 1);
-            both(kind_of(front), kind_of(back))
+            match (kind_of(front), kind_of(back)) {
+                (Some(a), Some(b)) => Pairing::Known(a, Some(b)),
+                _ => Pairing::Unknown,
+            }
         }
     }
 }
@@ -131,17 +124,11 @@ fn last_of(values: &[u64]) -> Option<u64>
 fn refuse_zero_width(first: &mut Option<Refusal>, tree: &Tree, s: Scale)
     ensures { first.new ≡ noted first.old (zero_width s.nm tree.now) }
 {
-    if is_zero_width(tree, s) {
+    let Some(word) = nth_word(tree, 1) else {
+        return;
+    };
+    if is_zero(peek_extent(word, s)) {
         note(first, refused(NO_NUMBER, place_of(tree, 1)));
-    }
-}
-
-fn is_zero_width(tree: &Tree, s: Scale) -> bool
-    ensures { result ≡ is_zero (option_map_or (word_extent s.nm) (nth_word tree.now 1) None) }
-{
-    match nth_word(tree, 1) {
-        Some(word) => is_zero(peek_extent(word, s)),
-        None => false,
     }
 }
 

@@ -4,11 +4,9 @@
 ghost use Rattle.std.specs.Prelude.{◌≡◌, ◌∷◌, [], IfOk, OnOk, length};
 ghost use Rattle.std.specs.Option.{option_copied, option_map_or};
 ghost use Rattle.geo_kernel.specs.declared.spine.Spine.TheVariants.{Area};
-ghost use Rattle.dsn_shapes.specs.Known.{form_heads};
-ghost use Rattle.dsn_shapes.specs.Lists.{has_head};
 ghost use Rattle.dsn_shapes.specs.Forms.{points_of, ring_of, ring_refusals};
 ghost use Rattle.dsn_shapes.specs.Refusals.{Reads, noted};
-ghost use Rattle.dsn_shapes.specs.Shapes.{empty_rim, empty_shape, form_in, held_loop, is_circle, held_shape};
+ghost use Rattle.dsn_shapes.specs.Shapes.{empty_rim, empty_shape, form_in, is_circle, held_shape};
 ghost use Rattle.dsn_shapes.specs.Shapes.{loop_of, loop_refusals, no_form, refusals_in, rim_of, rim_refusals};
 ghost use Rattle.dsn_shapes.specs.Shapes.{shape_of, shape_refusals, spine_of, spine_refusals};
 
@@ -55,7 +53,7 @@ fn empty_shape(alloc: Global) -> LayerShape
     }
 }
 
-fn empty_rim(alloc: Global) -> Rim
+pub(crate) fn empty_rim(alloc: Global) -> Rim
     ensures { result ≡ empty_rim }
 {
     Rim {
@@ -197,22 +195,15 @@ pub(crate) fn note_loop(
 }
 
 // The first form in a list.
-fn form_in(tree: &Tree) -> Option<&Tree>
+pub(crate) fn form_in(tree: &Tree) -> Option<&Tree>
     ensures { option_copied result ≡ form_in tree.now }
 {
     for item in items(tree) {
-        if is_form_like(item) {
+        if has_head(item, form_heads()) {
             return Some(item);
         }
     }
     None
-}
-
-/// Whether the list has the head of a form, or of one that is left out.
-pub(crate) fn is_form_like(tree: &Tree) -> bool
-    ensures { result ≡ has_head form_heads tree.now }
-{
-    has_head(tree, form_heads())
 }
 
 /// The shape of a list such as `(shape (circle F.Cu 1000))`: its first form.
@@ -232,27 +223,6 @@ pub(crate) fn note_held_shape(
         None => {
             note(first, refused(BAD_FORM, at_of(tree)));
             Ok(empty_shape(alloc))
-        }
-    }
-}
-
-/// The first form of a list as a loop of an area.
-#[tactic(auto, unfolding(crate::specs::Shapes::held_loop, crate::specs::Shapes::refusals_in))]
-pub(crate) fn note_held_loop(
-    alloc: Global,
-    first: &mut Option<Refusal>,
-    tree: &Tree,
-    s: Scale,
-    layers: &List<Layer>,
-) -> Result<Rim, AllocError>
-    ensures noted { OnOk result (first.new ≡ noted first.old (refusals_in (loop_refusals s.nm layers.now) tree.now)) }
-    ensures value { IfOk result (λ v. v ≡ held_loop s.nm layers.now tree.now) }
-{
-    match form_in(tree) {
-        Some(form) => note_loop(alloc, first, form, s, layers),
-        None => {
-            note(first, refused(BAD_FORM, at_of(tree)));
-            Ok(empty_rim(alloc))
         }
     }
 }

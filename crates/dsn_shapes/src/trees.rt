@@ -6,7 +6,7 @@ ghost use Rattle.std.specs.Prelude.{count_by};
 ghost use Rattle.std.specs.Option.{option_copied};
 ghost use Rattle.std.specs.List.{list_any, flat_map};
 ghost use Rattle.dsn_tree.specs.Heads.{is_headed, items_of};
-ghost use Rattle.dsn_shapes.specs.Lists.{capped, has_head, heads_of, is_known, is_note, left_out, left_out_in};
+ghost use Rattle.dsn_shapes.specs.Lists.{capped, has_head, heads_of, is_note, left_out, left_out_in};
 ghost use Rattle.dsn_shapes.specs.Lists.{lists, notes_in, trees_of, words_of};
 ghost use Rattle.dsn_shapes.specs.Refusals.{noted};
 
@@ -164,16 +164,13 @@ fn refuse_left_out_in(first: &mut Option<Refusal>, tree: &Tree)
     }
 }
 
-fn is_known(tree: &Tree, kind: ListKind) -> bool
-    ensures { result ≡ is_known kind tree.now }
-{
-    has_head(tree, read_in(kind)) || has_head(tree, idle_in(kind))
-}
-
 fn is_note(tree: &Tree, kind: ListKind) -> bool
     ensures { result ≡ is_note kind tree.now }
 {
-    !is_word(tree) && !is_left_out(tree) && !is_known(tree, kind)
+    !is_word(tree)
+        && !is_left_out(tree)
+        && !has_head(tree, read_in(kind))
+        && !has_head(tree, idle_in(kind))
 }
 
 fn notes_of(tree: &Tree, kind: ListKind) -> u64

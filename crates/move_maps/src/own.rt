@@ -90,35 +90,6 @@ fn take_item(
     add_window(windows, w)
 }
 
-// The windows round all items of the net on the copper.
-fn windows_of<C: Copper>(
-    alloc: Global,
-    lat: &Lattice,
-    d: &Design,
-    c: &C,
-    g: u32,
-    net: u32,
-) -> Result<Vec<Window>, AllocError>
-    requires sound { IsSound d.now }
-    requires fits { FitsDesign d.now lat.now }
-    requires g { g < length d.now.nets }
-    requires serves { C.serves c.now d.now }
-    ensures { IfOk result (λ v. IsOwnCopper d.now lat.now (C.items c.now) g net v.items) }
-{
-    c.in_order();
-    let reach = reach_of(d);
-    let mut windows = Vec::new(alloc);
-    let mut from = 0;
-    while let Some(item) = c.next_item(from) {
-        take_item(&mut windows, lat, d, g, net, reach, item)?;
-        let Some(next) = item.id.checked_add(1) else {
-            return Ok(windows);
-        };
-        from = next;
-    }
-    Ok(windows)
-}
-
 impl OwnCopper {
     /// The windows round the copper of the net, for moves of the group of net `g`.
     pub(crate) fn of<C: Copper>(
@@ -135,7 +106,17 @@ impl OwnCopper {
         requires serves { C.serves c.now d.now }
         ensures { IfOk result (IsOwnCopper d.now lat.now (C.items c.now) g net) }
     {
-        let windows = windows_of(alloc, lat, d, c, g, net)?;
+        c.in_order();
+        let reach = reach_of(d);
+        let mut windows = Vec::new(alloc);
+        let mut from = 0;
+        while let Some(item) = c.next_item(from) {
+            take_item(&mut windows, lat, d, g, net, reach, item)?;
+            let Some(next) = item.id.checked_add(1) else {
+                return Ok(OwnCopper { windows });
+            };
+            from = next;
+        }
         Ok(OwnCopper { windows })
     }
 

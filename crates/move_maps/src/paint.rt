@@ -1,11 +1,11 @@
 //! An item painted into the counts of a group: each place in the windows of its copper is tested once.
 
-ghost use Rattle.std.specs.Prelude.{◌≡◌, ◌+◌, ◌*◌, ◌<◌, ◌≤◌, ◌^◌, ◌↔◌, [], ◌∷◌, true, length, slice_index, IsTrue};
+ghost use Rattle.std.specs.Prelude.{◌≡◌, ◌+◌, ◌*◌, ◌<◌, ◌≤◌, ◌^◌, ◌↔◌, true, length, slice_index, IsTrue};
 ghost use Rattle.std.specs.Bool.{OnTrue};
 ghost use Rattle.geo_kernel.specs.Plane.{IsWithin};
 ghost use Rattle.pcb_model.specs.declared.item.Probe.TheVariants as probe;
-ghost use Rattle.pcb_model.specs.Bounds.{HasRulesWithin, IsFit};
-ghost use Rattle.pcb_model.specs.Pieces.{padstack_pieces as padstack_pieces_of, wire_piece};
+ghost use Rattle.pcb_model.specs.Bounds.{HasRulesWithin};
+ghost use Rattle.pcb_model.specs.Pieces.{padstack_pieces as padstack_pieces_of};
 ghost use Rattle.pcb_model.specs.Sound.{IsSound, IsItemOf};
 ghost use Rattle.route_lattice.specs.Fits.{FitsDesign};
 ghost use Rattle.route_lattice.specs.Mesh.{node_count, column as column_of, row as row_of, level as level_of};
@@ -102,23 +102,7 @@ impl<'a, C: Copper> Brush<'a, C> {
         }
     }
 
-    // Whether a step between the spot and a point is clear. `shut` says that no step from the spot is.
-    fn is_clear_to(&self, spot: &Spot, to: Point, shut: bool) -> bool
-        requires ready { let s = self.now in let t = s.moves in
-            IsBrush t.d.now t.lat.now t.net t.via_cost s.item.now s.margins s.window s.windows.items }
-        requires fit { IsFit (wire_piece spot.now.layer self.now.margins.width (spot.now.at ∷ to ∷ [])) }
-        requires shut { let s = self.now in
-            OnTrue shut (ShutsSteps s.margins.wires spot.now.layer s.margins.width spot.now.at s.item.now) }
-        ensures { let s = self.now in IsTrue result ↔ IsClearOf s.moves.d.now s.moves.net
-            (probe.Step spot.now.layer s.margins.width spot.now.at to) s.item.now }
-    {
-        if shut {
-            return false;
-        }
-        self.margins.step_keeps(spot.layer, spot.at, to, self.item)
-    }
-
-    // Whether the step of a direction is clear, or there is none.
+    // Whether the step of a direction is clear, or there is none. `shut` says that no step from the spot is clear.
     fn is_step_clear(&self, spot: &Spot, dir: u32, shut: bool) -> bool
         requires ready { let s = self.now in let t = s.moves in
             IsBrush t.d.now t.lat.now t.net t.via_cost s.item.now s.margins s.window s.windows.items }
@@ -129,10 +113,13 @@ impl<'a, C: Copper> Brush<'a, C> {
         ensures { let s = self.now.moves in IsTrue result
             ↔ IsClearAt s.d.now s.net self.now.item.now (probe_at s.d.now s.lat.now s.net spot.now.node dir) }
     {
-        match next_point(self.moves.lat, spot, dir) {
-            Some(to) => self.is_clear_to(spot, to, shut),
-            None => true,
+        let Some(to) = next_point(self.moves.lat, spot, dir) else {
+            return true;
+        };
+        if shut {
+            return false;
         }
+        self.margins.step_keeps(spot.layer, spot.at, to, self.item)
     }
 
     // Whether the vias of a padstack at a point are clear, or there is none.
@@ -340,24 +327,6 @@ impl<'a, C: Copper> Brush<'a, C> {
         }
     }
 
-    // Paints the moves of a node, from the first that the item may shut.
-    fn paint_node(&self, counts: &mut Counts, spot: &Spot, first: u32)
-        requires ready { let s = self.now in let t = s.moves in
-            IsBrush t.d.now t.lat.now t.net t.via_cost s.item.now s.margins s.window s.windows.items }
-        requires size { let s = self.now.moves in
-            length counts.old ≡ node_count s.lat.now * way_count s.d.now s.lat.now s.net }
-        requires spot { IsSpotOf self.now.moves.lat.now spot.now }
-        requires clear { let s = self.now.moves in let m = s.lat.now in
-            AreFirstClear s.d.now m s.net self.now.item.now (level_of m spot.now.node) first }
-        ensures { let s = self.now.moves in let d = s.d.now in let m = s.lat.now in
-            let a = way_count d m s.net in
-            Paints self.now.stroke d m s.net self.now.item.now (spot.now.node * a) ((spot.now.node + 1) * a)
-            counts.old counts.new }
-    {
-        self.paint_steps(counts, spot, first);
-        self.paint_vias(counts, spot);
-    }
-
     // Paints the moves of a node, if it is in one of the windows.
     fn paint_crossing(
         &self,
@@ -387,7 +356,8 @@ impl<'a, C: Copper> Brush<'a, C> {
             return;
         }
         let spot = Spot::of(self.moves.lat, node, level, row, column);
-        self.paint_node(counts, &spot, first);
+        self.paint_steps(counts, &spot, first);
+        self.paint_vias(counts, &spot);
     }
 
     // Paints a line of nodes across: those in the columns that the windows hold there.

@@ -17,28 +17,7 @@ use pcb_model::Copper;
 use route_lattice::LegalMoves;
 use std::alloc::{AllocError, Global};
 
-// The count of via `i` at the plain nodes of a signal layer, by its first node.
-fn via_start<C: Copper>(moves: &LegalMoves<'_, C>, level: usize, i: u32) -> u8
-    requires can_move { CanMove moves.now.d.now moves.now.lat.now moves.now.net moves.now.via_cost }
-    requires some { 0 < node_count moves.now.lat.now }
-    requires level { level < length moves.now.lat.now.layers }
-    requires via { 4 ≤ i }
-    requires index { i < way_count moves.now.d.now moves.now.lat.now moves.now.net }
-    ensures { IsStart moves.now.d.now moves.now.lat.now moves.now.net level i result }
-{
-    let number = (i - 4) as usize / moves.lat.layers().len();
-    let padstack = moves.d.nets.as_slice()[moves.net as usize].vias.as_slice()[number];
-    if !is_centred(moves.lat, moves.d, padstack) {
-        return u8::MAX;
-    }
-    let node = level * moves.lat.ys().len() * moves.lat.xs().len();
-    match moves.probe(node as u32, i) {
-        Some(_) => 0,
-        None => u8::MAX,
-    }
-}
-
-// The count of move `i` at the plain nodes of a signal layer.
+// The count of move `i` at the plain nodes of a signal layer: that of a via by its first node.
 fn move_start<C: Copper>(moves: &LegalMoves<'_, C>, level: usize, i: u32) -> u8
     requires can_move { CanMove moves.now.d.now moves.now.lat.now moves.now.net moves.now.via_cost }
     requires some { 0 < node_count moves.now.lat.now }
@@ -49,7 +28,16 @@ fn move_start<C: Copper>(moves: &LegalMoves<'_, C>, level: usize, i: u32) -> u8
     if i < 4 {
         return 0;
     }
-    via_start(moves, level, i)
+    let number = (i - 4) as usize / moves.lat.layers().len();
+    let padstack = moves.d.nets.as_slice()[moves.net as usize].vias.as_slice()[number];
+    if !is_centred(moves.lat, moves.d, padstack) {
+        return u8::MAX;
+    }
+    let node = level * moves.lat.ys().len() * moves.lat.xs().len();
+    match moves.probe(node as u32, i) {
+        Some(_) => 0,
+        None => u8::MAX,
+    }
 }
 
 // The counts of the moves of a plain node on a signal layer.

@@ -1,12 +1,14 @@
 -- First vertices, of moved spines too.
-use Rattle.std.proofs.Common.{◌≡◌, ℕ, ℤ, ◌^◌, List, [], ◌∷◌, map, All, ◌↔◌, refl, ap, ◌∙◌, subst}
+use Rattle.std.proofs.Common.{◌≡◌, ℕ, ℤ, ◌^◌, Bool, List, [], ◌∷◌, map, All, ◌↔◌, IsTrue, refl, sym, ap, ◌∙◌}
+use Rattle.std.proofs.Common.{subst}
 use Rattle.std.proofs.lemmas.List.Elements.{All-head, All-tail, All-cons, All-nil}
 use Rattle.geo_kernel.specs.declared.point.Point.{Point}
 use Rattle.geo_kernel.specs.declared.spine.Spine.{Spine}
 use Rattle.geo_kernel.specs.declared.spine.Spine.TheVariants.{Chain, Area}
 use Rattle.geo_kernel.specs.Plane.{IsWithin}
-use Rattle.geo_kernel.specs.Spine.{outline, IsFirst, IsSpineWithin}
+use Rattle.geo_kernel.specs.Spine.{outline, IsFirst, IsSpineWithin, BeginInside}
 use Rattle.geo_kernel.specs.Moved.{moved, moved_spine}
+use Rattle.pcb_model.specs.declared.item.Piece.{Piece}
 use Rattle.pcb_model.specs.Pieces.{wire_piece}
 use Rattle.pcb_model.specs.Bounds.{IsFit}
 use Rattle.pcb_model.specs.Board.{BeginsInEach, AreInside, IsInsideEach}
@@ -49,3 +51,12 @@ wire_inside bounds layer width p qs =
 pub point_is : (x y x' y' : ℤ) → x ≡ x' → y ≡ y' → (let p : Point = record { x = x; y = y } in p)
     ≡ record { x = x'; y = y' }
 point_is x y x' y' e f = cc
+
+-- what a test of the first vertex of a piece says of the piece
+pub begins_inside : (bounds : List (List (List Point))) (p : Piece) (q : Point) (b : Bool) → IsFirst p.spine q
+    → (IsTrue b ↔ IsInsideEach bounds q) → IsTrue b ↔ BeginsInEach bounds p
+begins_inside bounds p q b f h =
+    let F : List Point → Type 0 = λ ps. All (BeginInside ps) bounds in (
+      λ t. record { each = subst F (sym f.is) (h.0 t).each },
+      λ k. h.1 (record { each = subst F f.is k.each }),
+    )

@@ -5,7 +5,7 @@ ghost use Rattle.std.specs.Prelude.{◌≡◌, ◌↔◌, ◌≤◌, ◌^◌, Is
 ghost use Rattle.geo_kernel.specs.Plane.{IsWithin};
 ghost use Rattle.pcb_model.specs.Rules.{width_for};
 ghost use Rattle.pcb_model.specs.Bounds.{IsFit, IsBoundFit, IsItemFit};
-ghost use Rattle.pcb_model.specs.Board.{BeginsInEach, AreInside, IsInsideEach, IsSignal, IsListed, IsLaid};
+ghost use Rattle.pcb_model.specs.Board.{AreInside, IsInsideEach, IsSignal, IsListed, IsLaid};
 
 use crate::rules::width_of;
 use crate::{Design, Item, Metal, Piece};
@@ -24,21 +24,13 @@ pub(crate) fn inside_each(p: Point, bounds: &[List<List<Point>>]) -> bool
     true
 }
 
-fn begins_in_each(p: &Piece, bounds: &[List<List<Point>>]) -> bool
-    requires p_fit { IsFit p.now }
-    requires bounds_fit { All IsBoundFit bounds.now }
-    ensures { IsTrue result ↔ BeginsInEach bounds.now p.now }
-{
-    inside_each(first_point(&p.spine), bounds)
-}
-
 fn are_inside(ps: &[Piece], bounds: &[List<List<Point>>]) -> bool
     requires ps_fit { All IsFit ps.now }
     requires bounds_fit { All IsBoundFit bounds.now }
     ensures { IsTrue result ↔ AreInside bounds.now ps.now }
 {
     for p in ps {
-        if !begins_in_each(p, bounds) {
+        if !inside_each(first_point(&p.spine), bounds) {
             return false;
         }
     }

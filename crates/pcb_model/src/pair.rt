@@ -133,12 +133,6 @@ fn must_keep(a: &Item, b: &Item) -> bool
     !same_net(a.net, b.net) && is_compared(&a.metal, &b.metal)
 }
 
-fn must_stay_off(d: &Design, a: &Item, b: &Item) -> bool
-    ensures { result ≡ must_stay_off_of d.now a.now b.now }
-{
-    !d.via_at_smd && same_net(a.net, b.net) && same_pair(a.kind, b.kind, Kind::Via, Kind::Smd)
-}
-
 // `own` is the value of the net of `a` for their kinds.
 fn keeps(d: &Design, own: u64, a: &Item, b: &Item) -> bool
     requires rules { HasRulesWithin (2 ^ 28) d.now }
@@ -162,7 +156,7 @@ fn stays_off(d: &Design, a: &Item, b: &Item) -> bool
     requires b_fits { All IsFit b.now.pieces }
     ensures { IsTrue result ↔ (must_stay_off_of d.now a.now b.now ≡ true → ¬ (PiecesTouch a.now.pieces b.now.pieces)) }
 {
-    if must_stay_off(d, a, b) {
+    if !d.via_at_smd && same_net(a.net, b.net) && same_pair(a.kind, b.kind, Kind::Via, Kind::Smd) {
         !pieces_touch(a.pieces.as_slice(), b.pieces.as_slice())
     } else {
         true

@@ -8,7 +8,7 @@ ghost use Rattle.pcb_model.specs.Sound.{Serves};
 ghost use Rattle.pcb_model.specs.Copper.{Ascends, Removes};
 
 use crate::near::Extent;
-use crate::search::{first_block, first_clash, first_from, first_touch, index_of};
+use crate::search::{first_block, first_clash, first_touch, index_of, place_of};
 use crate::{Copper, Design, Item, Probe, Steps};
 use geo_kernel::List;
 use std::alloc::{AllocError, AllocFailed, Global};
@@ -114,7 +114,12 @@ impl Copper for PlainCopper {
     }
 
     fn next_item(&self, from: u64) -> Option<&Item> {
-        first_from(self.items.as_slice(), from)
+        let items = self.items.as_slice();
+        let i = place_of(items, from);
+        if i == items.len() {
+            return None;
+        }
+        Some(&items[i])
     }
 
     fn next_clash<L: Ledger>(

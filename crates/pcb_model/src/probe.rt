@@ -4,7 +4,6 @@
 ghost use Rattle.std.specs.Prelude.{◌≡◌, ◌+◌, ◌≤◌, ◌<◌, ◌^◌, ◌↔◌, List, IsTrue, true, false, not, ◌&&◌, Some, All, map};
 ghost use Rattle.geo_kernel.specs.Plane.{IsWithin};
 ghost use Rattle.geo_kernel.specs.Spine.{IsFirst};
-ghost use Rattle.geo_kernel.specs.Moved.{moved};
 ghost use Rattle.pcb_model.specs.Bounds.{IsDesignFit, IsItemFit, IsFit, IsBoundFit, IsProbeFit};
 ghost use Rattle.pcb_model.specs.Inner.{meets_wires as meet_wires, meets_vias as meet_vias};
 ghost use Rattle.pcb_model.specs.Rules.{value_of, clearance_of, is_kind};
@@ -12,7 +11,7 @@ ghost use Rattle.pcb_model.specs.Pairs.{PieceKeeps, KeepsFrom, PiecesKeep, Piece
 ghost use Rattle.pcb_model.specs.Pairs.{is_same_net, Agrees, ProbeAgrees};
 ghost use Rattle.pcb_model.specs.Pieces.{padstack_pieces as padstack_pieces_of, wire_piece, moved_piece, pieces_of};
 ghost use Rattle.pcb_model.specs.Pieces.{metal_of, kind_of, item_of};
-ghost use Rattle.pcb_model.specs.Board.{BeginsInEach, AreInside};
+ghost use Rattle.pcb_model.specs.Board.{AreInside};
 
 use crate::legal::inside_each;
 use crate::pair::same_net;
@@ -47,34 +46,22 @@ fn chain_keeps_all(c: u64, layer: u8, width: u64, points: &[Point], rs: &[Piece]
     true
 }
 
-fn meets_wires(m: &Metal) -> bool
-    ensures { result ≡ meet_wires m.now }
-{
-    match m {
-        Metal::Ban { wires, .. } => *wires,
-        _ => true,
-    }
-}
-
-fn meets_vias(m: &Metal) -> bool
-    ensures { result ≡ meet_vias m.now }
-{
-    match m {
-        Metal::Ban { vias, .. } => *vias,
-        _ => true,
-    }
-}
-
 fn wire_must_keep(net: u32, b: &Item) -> bool
     ensures { result ≡ (not (is_same_net (Some net) b.now.net) && meet_wires b.now.metal) }
 {
-    !same_net(Some(net), b.net) && meets_wires(&b.metal)
+    match &b.metal {
+        Metal::Ban { wires, .. } => !same_net(Some(net), b.net) && *wires,
+        _ => !same_net(Some(net), b.net),
+    }
 }
 
 fn via_must_keep(net: u32, b: &Item) -> bool
     ensures { result ≡ (not (is_same_net (Some net) b.now.net) && meet_vias b.now.metal) }
 {
-    !same_net(Some(net), b.net) && meets_vias(&b.metal)
+    match &b.metal {
+        Metal::Ban { vias, .. } => !same_net(Some(net), b.net) && *vias,
+        _ => !same_net(Some(net), b.net),
+    }
 }
 
 fn wire_ok(
@@ -210,12 +197,6 @@ fn via_keeps(d: &Design, own: u64, net: u32, ps: &[Piece], at: Point, b: &Item) 
     }
 }
 
-fn via_must_stay_off(d: &Design, net: u32, b: &Item) -> bool
-    ensures { result ≡ (not d.now.via_at_smd && is_same_net (Some net) b.now.net && is_kind b.now.kind Kind.Smd) }
-{
-    !d.via_at_smd && same_net(Some(net), b.net) && same_kind(b.kind, Kind::Smd)
-}
-
 fn via_stays_off(d: &Design, net: u32, ps: &[Piece], at: Point, b: &Item) -> bool
     requires ps_fit { All IsFit ps.now }
     requires moved_fit { All (λ p. IsFit (moved_piece at p)) ps.now }
@@ -224,7 +205,7 @@ fn via_stays_off(d: &Design, net: u32, ps: &[Piece], at: Point, b: &Item) -> boo
         ↔ ((not d.now.via_at_smd && is_same_net (Some net) b.now.net && is_kind b.now.kind Kind.Smd) ≡ true
         → ¬ (PiecesTouch (map (moved_piece at) ps.now) b.now.pieces)) }
 {
-    if via_must_stay_off(d, net, b) {
+    if !d.via_at_smd && same_net(Some(net), b.net) && same_kind(b.kind, Kind::Smd) {
         !moved_touch(ps, at, b.pieces.as_slice())
     } else {
         true
@@ -286,18 +267,6 @@ pub fn probe_ok<L: Ledger>(d: &Design, net: u32, p: &Probe, b: &Item, steps: &mu
     probe_agrees(d, value(d, Some(net), probe_kind(p), b.kind), net, p, b)
 }
 
-fn shift(p: Point, by: Point) -> Point
-    requires p_within { IsWithin (2 ^ 29) p }
-    requires moved_within { IsWithin (2 ^ 29) (moved by p) }
-    ensures x { result.x ≡ (moved by p).x }
-    ensures y { result.y ≡ (moved by p).y }
-{
-    Point {
-        x: p.x + by.x,
-        y: p.y + by.y,
-    }
-}
-
 fn moved_first(p: &Piece, by: Point) -> Point
     requires p_fit { IsFit p.now }
     requires moved_fit { IsFit (moved_piece by p.now) }
@@ -305,16 +274,10 @@ fn moved_first(p: &Piece, by: Point) -> Point
     ensures within { IsWithin (2 ^ 29) result }
 {
     let first = first_point(&p.spine);
-    shift(first, by)
-}
-
-fn moved_begins_in_each(p: &Piece, by: Point, bounds: &[List<List<Point>>]) -> bool
-    requires p_fit { IsFit p.now }
-    requires moved_fit { IsFit (moved_piece by p.now) }
-    requires bounds_fit { All IsBoundFit bounds.now }
-    ensures { IsTrue result ↔ BeginsInEach bounds.now (moved_piece by p.now) }
-{
-    inside_each(moved_first(p, by), bounds)
+    Point {
+        x: first.x + by.x,
+        y: first.y + by.y,
+    }
 }
 
 fn moved_are_inside(ps: &[Piece], by: Point, bounds: &[List<List<Point>>]) -> bool
@@ -324,7 +287,7 @@ fn moved_are_inside(ps: &[Piece], by: Point, bounds: &[List<List<Point>>]) -> bo
     ensures { IsTrue result ↔ AreInside bounds.now (map (moved_piece by) ps.now) }
 {
     for p in ps {
-        if !moved_begins_in_each(p, by, bounds) {
+        if !inside_each(moved_first(p, by), bounds) {
             return false;
         }
     }

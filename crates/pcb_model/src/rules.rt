@@ -1,13 +1,13 @@
 //! Clearances and widths in nm, by the rules of nets, classes and the structure.
 //! Source: SPECCTRA reference, rule, class and net descriptors.
 
-ghost use Rattle.std.specs.Prelude.{◌≡◌, ℕ, ◌≤◌, ◌^◌, All, IfSome, map, flat_map};
+ghost use Rattle.std.specs.Prelude.{◌≡◌, ℕ, ◌≤◌, ◌^◌, All, map, flat_map};
 ghost use Rattle.pcb_model.specs.declared.design.RuleSet.{RuleSet as TheRules};
 ghost use Rattle.pcb_model.specs.declared.design.Net.{Net as TheNet};
 ghost use Rattle.pcb_model.specs.declared.design.Typed.{Typed as TheTyped};
 ghost use Rattle.pcb_model.specs.Bounds.{AreRulesWithin, HasRulesWithin};
 ghost use Rattle.pcb_model.specs.Near.{IsSideOf, side_value};
-ghost use Rattle.pcb_model.specs.Rules.{is_kind, is_pair, names_pair, names_one, last_value, typed_value, value_of};
+ghost use Rattle.pcb_model.specs.Rules.{is_kind, is_pair, names_pair, names_one, last_value, value_of};
 ghost use Rattle.pcb_model.specs.Rules.{clearance_of, width_for, first_present, levels, class_rules, net_rules};
 
 use crate::{Design, Kind, Net, RuleSet, Typed};
@@ -73,25 +73,16 @@ fn last_wide(ts: &[Typed], ka: Kind, kb: Kind) -> Option<u64>
     last
 }
 
-fn typed(rs: &RuleSet, ka: Kind, kb: Kind) -> Option<u64>
-    ensures { result ≡ typed_value ka kb rs.now.typed }
-{
-    let ts = rs.typed.as_slice();
-    match last_exact(ts, ka, kb) {
-        Some(v) => Some(v),
-        None => last_wide(ts, ka, kb),
-    }
-}
-
 // The value of a rule set, or `rest` where it has none.
 fn in_rules(rs: &RuleSet, ka: Kind, kb: Kind, rest: u64) -> u64
     ensures { result ≡ first_present rest (levels ka kb rs.now) }
 {
-    match typed(rs, ka, kb) {
+    let ts = rs.typed.as_slice();
+    match last_exact(ts, ka, kb) {
         Some(v) => v,
-        None => match rs.plain {
+        None => match last_wide(ts, ka, kb) {
             Some(v) => v,
-            None => rest,
+            None => rs.plain.unwrap_or(rest),
         },
     }
 }
@@ -200,20 +191,6 @@ impl Side {
     }
 }
 
-fn reach_of_plain(plain: Option<u64>, least: u64) -> u64
-    requires plain { IfSome plain (λ c. c ≤ 2 ^ 28) }
-    requires least_within { least ≤ 2 ^ 28 }
-    ensures reaches { IfSome plain (λ c. c ≤ result) }
-    ensures least { least ≤ result }
-    ensures within { result ≤ 2 ^ 28 }
-    ensures lowest { (m : ℕ) → least ≤ m → IfSome plain (λ c. c ≤ m) → result ≤ m }
-{
-    match plain {
-        Some(c) => least.max(c),
-        None => least,
-    }
-}
-
 fn reach_of_typed(ts: &[Typed], least: u64) -> u64
     requires typed { All (λ (t : TheTyped). t.value ≤ 2 ^ 28) ts.now }
     requires least_within { least ≤ 2 ^ 28 }
@@ -238,7 +215,11 @@ fn reach_of_rules(rs: &RuleSet, least: u64) -> u64
     ensures within { result ≤ 2 ^ 28 }
     ensures lowest { (m : ℕ) → least ≤ m → AreRulesWithin m rs.now → result ≤ m }
 {
-    reach_of_typed(rs.typed.as_slice(), reach_of_plain(rs.plain, least))
+    let ts = rs.typed.as_slice();
+    match rs.plain {
+        Some(plain) => reach_of_typed(ts, least.max(plain)),
+        None => reach_of_typed(ts, least),
+    }
 }
 
 fn reach_of_classes(classes: &[RuleSet], least: u64) -> u64

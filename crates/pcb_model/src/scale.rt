@@ -4,7 +4,7 @@
 ghost use Rattle.std.specs.Prelude.{◌≡◌, ◌<◌, ◌≤◌};
 ghost use Rattle.std.specs.List.{list_all};
 ghost use Rattle.pcb_model.specs.Scale.{is_whole_point, is_whole_spine, is_whole_piece, is_whole_padstack};
-ghost use Rattle.pcb_model.specs.Scale.{is_whole_metal, net_width, is_whole_net, is_on_scale, scale_of};
+ghost use Rattle.pcb_model.specs.Scale.{is_whole_metal, is_whole_net, is_on_scale, scale_of};
 
 use crate::rules::{DEFAULT_WIDTH, width_in_class};
 use crate::{Component, Design, FreeWire, Item, Metal, Net, Piece, SesScale};
@@ -89,15 +89,6 @@ fn has_whole_metal(d: &Design, nm: u64, metal: &Metal) -> bool
     }
 }
 
-fn width_of_net(d: &Design, n: &Net) -> u64
-    ensures { result ≡ net_width d.now n.now }
-{
-    let structure = d.rules.width.unwrap_or(DEFAULT_WIDTH);
-    n.rules
-        .width
-        .unwrap_or(width_in_class(d, n.class, structure))
-}
-
 fn has_whole_padstacks(d: &Design, nm: u64, padstacks: &[u32]) -> bool
     requires { 0 < nm }
     ensures { result ≡ list_all (is_whole_padstack d.now nm) padstacks.now }
@@ -114,7 +105,12 @@ fn has_whole_net(d: &Design, nm: u64, n: &Net) -> bool
     requires { 0 < nm }
     ensures { result ≡ is_whole_net d.now nm n.now }
 {
-    width_of_net(d, n) % nm == 0 && has_whole_padstacks(d, nm, n.vias.as_slice())
+    let structure = d.rules.width.unwrap_or(DEFAULT_WIDTH);
+    let width = n
+        .rules
+        .width
+        .unwrap_or(width_in_class(d, n.class, structure));
+    width % nm == 0 && has_whole_padstacks(d, nm, n.vias.as_slice())
 }
 
 fn has_whole_nets(d: &Design, nm: u64, nets: &[Net]) -> bool

@@ -3,13 +3,12 @@
 
 ghost use Rattle.std.specs.Prelude.{◌≡◌, ℕ, ◌+◌, ◌≤◌, ◌<◌, All, length, slice_index_or, Some, None, MatchOption};
 ghost use Rattle.std.specs.Bool.{OnTrue, OnFalse};
-ghost use Rattle.std.specs.Option.{option_copied};
 ghost use Rattle.pcb_model.specs.declared.item.Item.{Item as OneItem};
 ghost use Rattle.pcb_model.specs.Pieces.{pieces_of, metal_of, kind_of};
 ghost use Rattle.pcb_model.specs.Bounds.{IsDesignFit, IsItemFit, IsProbeFit};
 ghost use Rattle.pcb_model.specs.Pairs.{Agrees, ProbeAgrees, AreTouching};
 ghost use Rattle.pcb_model.specs.Near.{IsExtentOf, IsQueryOf};
-ghost use Rattle.pcb_model.specs.Copper.{IsOther, Finds, IsFirstFrom, Ascends, IsAt, AreExtentsOf};
+ghost use Rattle.pcb_model.specs.Copper.{IsOther, Finds, Ascends, IsAt, AreExtentsOf};
 
 use crate::near::{Extent, Query};
 use crate::pair::{pair_agrees, same_net, touch};
@@ -180,18 +179,6 @@ pub(crate) fn first_touch<L: Ledger>(
         }
     }
     None
-}
-
-/// The item of the least id at or above `from`, or None exactly where there is none.
-pub(crate) fn first_from(items: &[Item], from: u64) -> Option<&Item>
-    requires { Ascends items.now }
-    ensures { MatchOption (option_copied result) (All (λ b. b.id < from) items.now) (IsFirstFrom from items.now) }
-{
-    let i = place_of(items, from);
-    if i == items.len() {
-        return None;
-    }
-    Some(&items[i])
 }
 
 /// Where the item of this id stands.

@@ -8,8 +8,8 @@ ghost use Rattle.pcb_model.specs.Copper.{Ascends};
 ghost use Rattle.pcb_model.specs.Sound.{IsSound, IsItemOf};
 ghost use Rattle.route_lattice.specs.Fits.{FitsDesign};
 ghost use Rattle.route_lattice.specs.Anchors.{AreAnchorsOf, AreAnchorsAmong};
-ghost use Rattle.route_lattice.specs.Found.{Gains, IsAnchorNode, IsAnchorWithId, IsAnchorAt, IsInRow, IsOnLevel};
-ghost use Rattle.route_lattice.specs.Found.{IsInWindow, IsWindowOf, IsWindowIn, IsAnchorIn, IsAnchorAlong};
+ghost use Rattle.route_lattice.specs.Found.{Gains, IsAnchorNode, IsAnchorWithId, IsInRow, IsOnLevel};
+ghost use Rattle.route_lattice.specs.Found.{IsWindowOf, IsWindowIn, IsAnchorIn, IsAnchorAlong};
 ghost use Rattle.route_lattice.specs.Found.{AreSorted, box_between as the_box_between};
 
 use crate::anchor::pin_anchor;
@@ -73,33 +73,6 @@ fn window_of(lat: &Lattice, r: Rect4) -> Window
     }
 }
 
-fn push_node(
-    found: &mut Vec<u32>,
-    lat: &Lattice,
-    d: &Design,
-    item: &Item,
-    level: usize,
-    row: usize,
-    column: usize,
-) -> Result<(), AllocError>
-    requires sound { IsSound d.now }
-    requires fits { FitsDesign d.now lat.now }
-    requires item { IsItemOf d.now item.now }
-    requires level { level < length lat.now.layers }
-    requires row { row < length lat.now.ys }
-    requires column { column < length lat.now.xs }
-    ensures { OnOk result
-        (Gains (IsAnchorAt d.now lat.now item.now level row column) (IsAnchorNode d.now lat.now item.now)
-        found.old.items found.new.items) }
-{
-    let node = lat.node(level, row, column);
-    if !lat.anchor(d, node, item) {
-        return Ok(());
-    }
-    found.push(node)?;
-    Ok(())
-}
-
 fn push_row(
     found: &mut Vec<u32>,
     lat: &Lattice,
@@ -120,7 +93,10 @@ fn push_row(
         found.new.items) }
 {
     for column in w.left..w.right {
-        push_node(found, lat, d, item, level, row, column)?;
+        let node = lat.node(level, row, column);
+        if lat.anchor(d, node, item) {
+            found.push(node)?;
+        }
     }
     Ok(())
 }
@@ -148,27 +124,6 @@ fn push_level(
     Ok(())
 }
 
-fn push_window(
-    found: &mut Vec<u32>,
-    lat: &Lattice,
-    d: &Design,
-    item: &Item,
-    w: Window,
-) -> Result<(), AllocError>
-    requires sound { IsSound d.now }
-    requires fits { FitsDesign d.now lat.now }
-    requires item { IsItemOf d.now item.now }
-    requires window { IsWindowIn lat.now w }
-    ensures { OnOk result
-        (Gains (IsInWindow d.now lat.now item.now w) (IsAnchorNode d.now lat.now item.now) found.old.items
-        found.new.items) }
-{
-    for level in 0..lat.layers().len() {
-        push_level(found, lat, d, item, w, level)?;
-    }
-    Ok(())
-}
-
 /// Appends the nodes in the box of two points that anchor the item.
 fn push_between(
     found: &mut Vec<u32>,
@@ -186,7 +141,10 @@ fn push_between(
         found.new.items) }
 {
     let w = window_of(lat, box_between(a, b));
-    push_window(found, lat, d, item, w)
+    for level in 0..lat.layers().len() {
+        push_level(found, lat, d, item, w, level)?;
+    }
+    Ok(())
 }
 
 /// Appends the nodes that anchor the item and lie in the box of a segment of a chain.

@@ -15,7 +15,7 @@ ghost use Rattle.route_lattice.specs.Walks.{IsSound as IsGraphSound};
 ghost use Rattle.route_lattice.specs.Mesh.{Mesh, node_count, point_of};
 ghost use Rattle.route_lattice.specs.Fits.{FitsDesign};
 ghost use Rattle.route_lattice.specs.Ways.{way_count};
-ghost use Rattle.route_lattice.specs.Legal.{IsLegalProbe, IsLegalNode, probe_of, probe_at, move_price};
+ghost use Rattle.route_lattice.specs.Legal.{IsLegalProbe, IsLegalNode, probe_at, move_price};
 ghost use Rattle.route_lattice.specs.Legal.{way_between as way_between_points, legal_graph, CanMove, AreThoseOf};
 
 use crate::mesh::Lattice;
@@ -146,23 +146,6 @@ impl<'a, C: Copper> LegalMoves<'a, C> {
         }
     }
 
-    fn laid(&self, node: u32, m: Move, to: u32) -> Probe
-        requires node { node < node_count self.now.lat.now }
-        requires to { to < node_count self.now.lat.now }
-        ensures { result ≡ probe_of self.now.d.now self.now.lat.now self.now.net node m to }
-    {
-        let at = self.lat.point(node);
-        match m {
-            Move::Step { .. } => Probe::Step {
-                layer: self.lat.layer(node),
-                width: self.width,
-                a: at,
-                b: self.lat.point(to),
-            },
-            Move::Via { padstack, .. } => Probe::Via { padstack, at },
-        }
-    }
-
     fn cost(&self, node: u32, m: Move, to: u32) -> u64
         requires fits { FitsDesign self.now.d.now self.now.lat.now }
         requires node { node < node_count self.now.lat.now }
@@ -194,7 +177,16 @@ impl<'a, C: Copper> LegalMoves<'a, C> {
         ensures { result ≡ probe_at self.now.d.now self.now.lat.now self.now.net node i }
     {
         match self.lat.way(self.d, self.net, node, i) {
-            Some((m, to)) => Some(self.laid(node, m, to)),
+            Some((Move::Step { .. }, to)) => Some(Probe::Step {
+                layer: self.lat.layer(node),
+                width: self.width,
+                a: self.lat.point(node),
+                b: self.lat.point(to),
+            }),
+            Some((Move::Via { padstack, .. }, _)) => Some(Probe::Via {
+                padstack,
+                at: self.lat.point(node),
+            }),
             None => None,
         }
     }

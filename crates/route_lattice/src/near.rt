@@ -1,13 +1,12 @@
 //! Whether copper stays within 2^29 nm where it is moved to a node, and on which layers it lies.
 //! Nothing here takes memory.
 
-ghost use Rattle.std.specs.Prelude.{◌≡◌, ◌≤◌, ◌^◌, ◌==◌, ◌+ℤ◌, nat_le, unsigned_abs, All};
+ghost use Rattle.std.specs.Prelude.{◌≡◌, ◌≤◌, ◌^◌, ◌+ℤ◌, nat_le, unsigned_abs, All};
 ghost use Rattle.std.specs.List.{list_all, list_any};
 ghost use Rattle.geo_kernel.specs.Plane.{IsWithin};
-ghost use Rattle.geo_kernel.specs.Spine.{IsSpineWithin};
 ghost use Rattle.pcb_model.specs.Bounds.{IsFit};
 ghost use Rattle.pcb_model.specs.Pieces.{padstack_pieces as padstack_pieces_of};
-ghost use Rattle.route_lattice.specs.Near.{is_near_at, is_spine_near_at, are_near_at};
+ghost use Rattle.route_lattice.specs.Near.{is_near_at, are_near_at};
 ghost use Rattle.route_lattice.specs.Ways.{has_copper as has_copper_on, can_join as can_join_at};
 
 use geo_kernel::limits::FURTHEST;
@@ -56,17 +55,6 @@ fn loops_near(loops: &[List<Point>], by: Point) -> bool
     true
 }
 
-fn spine_near(spine: &Spine, by: Point) -> bool
-    requires within { IsSpineWithin (2 ^ 29) spine.now }
-    requires by_within { IsWithin (2 ^ 29) by }
-    ensures { result ≡ is_spine_near_at by spine.now }
-{
-    match spine {
-        Spine::Chain(points) => are_near(points.as_slice(), by),
-        Spine::Area(loops) => loops_near(loops.as_slice(), by),
-    }
-}
-
 /// Whether all vertices of the pieces stay within 2^29 nm where they are moved by a vector.
 pub fn pieces_near(pieces: &[Piece], by: Point) -> bool
     requires fit { All IsFit pieces.now }
@@ -74,7 +62,11 @@ pub fn pieces_near(pieces: &[Piece], by: Point) -> bool
     ensures { result ≡ are_near_at by pieces.now }
 {
     for q in pieces {
-        if !spine_near(&q.spine, by) {
+        let near = match &q.spine {
+            Spine::Chain(points) => are_near(points.as_slice(), by),
+            Spine::Area(loops) => loops_near(loops.as_slice(), by),
+        };
+        if !near {
             return false;
         }
     }

@@ -1,9 +1,9 @@
 //! Whether a point lies in copper, or on a wire's spine.
 //! Nothing here takes memory.
 
-ghost use Rattle.std.specs.Prelude.{◌≡◌, ◌↔◌, ◌≤◌, ◌<◌, ◌^◌, ◌⊎◌, IsTrue, All, Any, length};
+ghost use Rattle.std.specs.Prelude.{◌≡◌, ◌↔◌, ◌≤◌, ◌<◌, ◌^◌, IsTrue, All, Any, length};
 ghost use Rattle.geo_kernel.specs.Plane.{IsWithin};
-ghost use Rattle.geo_kernel.specs.Spine.{Touches, links, chain_segments, area_segments, IsInside};
+ghost use Rattle.geo_kernel.specs.Spine.{Touches, links, chain_segments, area_segments};
 ghost use Rattle.pcb_model.specs.Bounds.{IsFit};
 ghost use Rattle.pcb_model.specs.Sound.{Covers};
 
@@ -58,17 +58,6 @@ fn touches_loops(p: Point, loops: &[List<Point>], k: u64) -> bool
     false
 }
 
-fn touches_area(p: Point, loops: &List<List<Point>>, k: u64) -> bool
-    requires p_within { IsWithin (2 ^ 29) p }
-    requires some { All (λ points. 3 ≤ length points) loops.now }
-    requires loops_within { All (All (IsWithin (2 ^ 29))) loops.now }
-    requires k_within { k ≤ 2 ^ 30 }
-    ensures { IsTrue result
-        ↔ (Any (Touches k (record { from = p; to = p })) (area_segments loops.now) ⊎ IsInside p loops.now) }
-{
-    touches_loops(p, loops.as_slice(), k) || inside(p, loops)
-}
-
 /// Whether the point lies in the copper of the piece.
 pub(crate) fn covers(p: Point, q: &Piece) -> bool
     requires p_within { IsWithin (2 ^ 29) p }
@@ -77,6 +66,6 @@ pub(crate) fn covers(p: Point, q: &Piece) -> bool
 {
     match &q.spine {
         Spine::Chain(points) => touches_chain(p, points.as_slice(), q.width),
-        Spine::Area(loops) => touches_area(p, loops, q.width),
+        Spine::Area(loops) => touches_loops(p, loops.as_slice(), q.width) || inside(p, loops),
     }
 }

@@ -124,18 +124,6 @@ impl Lattice {
         ensures value { result ≡ way_at d.now self.now net node i }
         ensures leads { IfSome result (λ w. w.1 < node_count self.now) }
     {
-        self.numbered(d, net, node, i)
-    }
-
-    /// The move of that number.
-    fn numbered(&self, d: &Design, net: u32, node: u32, i: u32) -> Option<(Move, u32)>
-        requires sound { IsSound d.now }
-        requires fits { FitsDesign d.now self.now }
-        requires net { net < length d.now.nets }
-        requires node { node < node_count self.now }
-        requires index { i < way_count_of d.now self.now net }
-        ensures { result ≡ way_at d.now self.now net node i }
-    {
         if i < 4 {
             return self.step(node, i);
         }

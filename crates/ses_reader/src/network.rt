@@ -7,7 +7,7 @@ ghost use Rattle.dsn_shapes.specs.Lists.{place_of, trees_of};
 ghost use Rattle.dsn_shapes.specs.Refusals.{noted};
 ghost use Rattle.ses_reader.specs.Measures.{refused_unless};
 ghost use Rattle.ses_reader.specs.Copper.{metal_of, metal_refusals};
-ghost use Rattle.ses_reader.specs.Session.{copper_in, item_of, net_items, net_place, net_refusals, network_items};
+ghost use Rattle.ses_reader.specs.Session.{item_of, net_items, net_place, net_refusals, network_items};
 ghost use Rattle.ses_reader.specs.Session.{network_refusals};
 
 use crate::index::DesignIndex;
@@ -42,27 +42,6 @@ fn note_metal(
     }
 }
 
-// Reads a wire or via of this net.
-fn note_item(
-    alloc: Global,
-    first: &mut Option<Refusal>,
-    index: &DesignIndex,
-    tree: &Tree,
-    m: Measure,
-    net: u32,
-) -> Result<SesItem, AllocError>
-    requires { 1 ≤ m.per }
-    ensures noted { OnOk result (first.new ≡ noted first.old (metal_refusals index.now m tree.now)) }
-    ensures value { IfOk result (λ v. v ≡ item_of index.now m net tree.now) }
-{
-    let metal = note_metal(alloc, first, index, tree, m)?;
-    Ok(SesItem {
-        at: at_of(tree),
-        net,
-        metal,
-    })
-}
-
 // Appends these wires and vias of a net.
 fn push_items(
     alloc: Global,
@@ -79,8 +58,12 @@ fn push_items(
     ensures value { OnOk result (found.new ≡ found.old ++ map (item_of index.now m net) (trees_of copper.now)) }
 {
     for tree in copper {
-        let item = note_item(alloc, first, index, tree, m, net)?;
-        found.push(item)?;
+        let metal = note_metal(alloc, first, index, tree, m)?;
+        found.push(SesItem {
+            at: at_of(tree),
+            net,
+            metal,
+        })?;
     }
     Ok(())
 }
@@ -94,14 +77,6 @@ fn note_net(first: &mut Option<Refusal>, index: &DesignIndex, net: &Tree) -> Opt
     let place = index.net(name_of(net, 1));
     note_unless(first, place.is_some(), NO_NET, place_of(net, 1));
     place
-}
-
-// The wires and vias of a net.
-fn copper_in<'a>(alloc: Global, net: &'a Tree) -> Result<Trees<'a>, AllocError>
-    ensures { IfOk result (λ ts. ts ≡ copper_in net.now) }
-{
-    let heads: [&[u8]; 2] = [b"wire", b"via"];
-    Trees::one(alloc, net)?.lists(alloc, &heads)
 }
 
 // Appends the items of a net.
@@ -119,7 +94,8 @@ fn push_net(
     ensures value { OnOk result (found.new ≡ found.old ++ net_items index.now m net.now) }
 {
     let place = note_net(first, index, net);
-    let copper = copper_in(alloc, net)?;
+    let heads: [&[u8]; 2] = [b"wire", b"via"];
+    let copper = Trees::one(alloc, net)?.lists(alloc, &heads)?;
     let number = place_index(place.unwrap_or(0));
     push_items(alloc, first, index, copper.as_slice(), m, number, found)
 }

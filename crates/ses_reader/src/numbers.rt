@@ -4,7 +4,7 @@
 ghost use Rattle.std.specs.Prelude.{◌≡◌, ◌≤◌};
 ghost use Rattle.dsn_shapes.specs.Refusals.{noted};
 ghost use Rattle.ses_reader.specs.Measures.{coord_at, coord_refusal, extent_at, extent_refusal, refused_unless};
-ghost use Rattle.ses_reader.specs.Measures.{word_coord, word_extent, word_refusal};
+ghost use Rattle.ses_reader.specs.Measures.{word_coord, word_refusal};
 
 use crate::measure::{Measure, coord, extent};
 use crate::table::NO_MEASURE;
@@ -27,16 +27,6 @@ fn word_coord(word: &Tree, m: Measure) -> Option<i64>
 {
     match read_decimal(text_of(word)) {
         Some(decimal) => coord(&decimal, m),
-        None => None,
-    }
-}
-
-fn word_extent(word: &Tree, m: Measure) -> Option<u64>
-    requires { 1 ≤ m.per }
-    ensures { result ≡ word_extent m word.now }
-{
-    match read_decimal(text_of(word)) {
-        Some(decimal) => extent(&decimal, m),
         None => None,
     }
 }
@@ -67,7 +57,10 @@ fn extent_at(tree: &Tree, i: usize, m: Measure) -> Option<u64>
     ensures { result ≡ extent_at m tree.now i }
 {
     match nth_word(tree, i) {
-        Some(word) => word_extent(word, m),
+        Some(word) => match read_decimal(text_of(word)) {
+            Some(decimal) => extent(&decimal, m),
+            None => None,
+        },
         None => None,
     }
 }

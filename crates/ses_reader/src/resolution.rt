@@ -3,8 +3,8 @@
 
 ghost use Rattle.std.specs.Prelude.{◌≡◌, ◌≤◌, IfSome, unwrap_or};
 ghost use Rattle.dsn_shapes.specs.Refusals.{noted};
-ghost use Rattle.dsn_structure.specs.Header.{count_of, some_count, unit_in, unit_of};
-ghost use Rattle.ses_reader.specs.Measures.{measure_in, resolution_refusal, resolution_refusals};
+ghost use Rattle.dsn_structure.specs.Header.{count_of, unit_of};
+ghost use Rattle.ses_reader.specs.Measures.{measure_in, resolution_refusals};
 
 use crate::measure::Measure;
 use crate::numbers::note_unless;
@@ -33,32 +33,16 @@ fn unit_of(text: &[u8]) -> Option<Unit>
     }
 }
 
-fn unit_in(tree: &Tree) -> Unit
-    ensures { result ≡ unit_in tree.now }
-{
-    match unit_of(name_of(tree, 1)) {
-        Some(unit) => unit,
-        None => Unit::Um,
-    }
-}
-
-fn some_count(count: Option<u32>) -> Option<u32>
-    ensures value { result ≡ some_count count }
-    ensures some { IfSome result (λ n. 1 ≤ n) }
-{
-    match count {
-        Some(n) => { if n == 0 { None } else { Some(n) } }
-        None => None,
-    }
-}
-
 // How many units of a resolution are one of its unit, from 1 to 1,000,000.
 fn count_of(tree: &Tree) -> Option<u32>
     ensures value { result ≡ count_of tree.now }
     ensures some { IfSome result (λ n. 1 ≤ n) }
 {
     match read_decimal(name_of(tree, 2)) {
-        Some(decimal) => some_count(whole_number(&decimal, MOST_PER)),
+        Some(decimal) => match whole_number(&decimal, MOST_PER) {
+            Some(n) => { if n == 0 { None } else { Some(n) } }
+            None => None,
+        },
         None => None,
     }
 }
@@ -81,7 +65,7 @@ pub(crate) fn measure_in(routes: &Tree) -> Measure
 {
     match child(routes, b"resolution") {
         Some(tree) => Measure {
-            unit: unit_in(tree),
+            unit: unit_of(name_of(tree, 1)).unwrap_or(Unit::Um),
             per: per_in(tree),
         },
         None => Measure {
@@ -91,30 +75,18 @@ pub(crate) fn measure_in(routes: &Tree) -> Measure
     }
 }
 
-fn refuse_resolution(first: &mut Option<Refusal>, tree: &Tree)
-    ensures { first.new ≡ noted first.old (resolution_refusal tree.now) }
-{
-    note_unless(
-        first,
-        unit_of(name_of(tree, 1)).is_some(),
-        2,
-        place_of(tree, 1),
-    );
-    note_unless(
-        first,
-        count_of(tree).is_some(),
-        NO_MEASURE,
-        place_of(tree, 2),
-    );
-}
-
 /// Refuses the resolution of these routes, or their lack of one.
 #[tactic(auto, unfolding(crate::specs::Measures::resolution_refusals))]
 pub(crate) fn refuse_resolutions(first: &mut Option<Refusal>, routes: &Tree)
     ensures { first.new ≡ noted first.old (resolution_refusals routes.now) }
 {
     match child(routes, b"resolution") {
-        Some(tree) => refuse_resolution(first, tree),
+        Some(tree) => {
+            let unit = unit_of(name_of(tree, 1));
+            note_unless(first, unit.is_some(), NO_MEASURE, place_of(tree, 1));
+            let count = count_of(tree);
+            note_unless(first, count.is_some(), NO_MEASURE, place_of(tree, 2));
+        }
         None => note(first, refused(NO_SESSION, at_of(routes))),
     }
 }

@@ -1,13 +1,10 @@
 //! Vias: a padstack of the design and its place, which its copper may not carry past the board.
 //! Source: SPECCTRA reference, via descriptor of the routes; coordinates in nm.
 
-ghost use Rattle.std.specs.Prelude.{◌≡◌, ◌≤◌, not};
-ghost use Rattle.pcb_model.specs.Sound.{origin};
+ghost use Rattle.std.specs.Prelude.{◌≡◌, ◌≤◌, ◌++◌};
 ghost use Rattle.dsn_shapes.specs.Refusals.{noted};
-ghost use Rattle.ses_reader.specs.Measures.{coord_refusal, refused_unless};
-ghost use Rattle.ses_reader.specs.Copper.{is_via_past, padstack_at, padstack_place, via_metal, via_point, via_refusals};
-ghost use Rattle.std.specs.Prelude.{◌++◌, is_some};
-ghost use Rattle.dsn_shapes.specs.Lists.{at_of, place_of};
+ghost use Rattle.ses_reader.specs.Measures.{coord_refusal};
+ghost use Rattle.ses_reader.specs.Copper.{is_via_past, padstack_at, via_metal, via_point, via_refusals};
 
 use crate::index::DesignIndex;
 use crate::measure::Measure;
@@ -20,12 +17,6 @@ use dsn_wiring::point_by;
 use geo_kernel::Point;
 use pcb_model::{Design, Metal};
 
-fn origin() -> Point
-    ensures { result ≡ origin }
-{
-    Point { x: 0, y: 0 }
-}
-
 // The place of a via, where neither of its numbers is refused.
 #[tactic(auto, unfolding(crate::specs::Copper::via_point))]
 fn note_point(first: &mut Option<Refusal>, via: &Tree, m: Measure) -> Option<Point>
@@ -36,17 +27,6 @@ fn note_point(first: &mut Option<Refusal>, via: &Tree, m: Measure) -> Option<Poi
     let x = note_coord(first, via, 2, m);
     let y = note_coord(first, via, 3, m);
     point_by(x, y)
-}
-
-// Where the padstack of a via stands in the design.
-fn note_padstack(first: &mut Option<Refusal>, index: &DesignIndex, via: &Tree) -> Option<usize>
-    ensures noted { first.new ≡ noted first.old
-        (refused_unless (is_some (padstack_place index.now via.now)) NO_PADSTACK (place_of via.now 1)) }
-    ensures value { result ≡ padstack_place index.now via.now }
-{
-    let place = index.padstack(name_of(via, 1));
-    note_unless(first, place.is_some(), NO_PADSTACK, place_of(via, 1));
-    place
 }
 
 #[tactic(auto, unfolding(crate::specs::Copper::is_via_past))]
@@ -74,12 +54,13 @@ pub(crate) fn note_via(
     ensures noted { first.new ≡ noted first.old (via_refusals index.now m via.now) }
     ensures value { result ≡ via_metal index.now m via.now }
 {
-    let place = note_padstack(first, index, via);
+    let place = index.padstack(name_of(via, 1));
+    note_unless(first, place.is_some(), NO_PADSTACK, place_of(via, 1));
     let at = note_point(first, via, m);
     let is_past = is_via_past(index.design(), place, at);
     note_unless(first, !is_past, NO_MEASURE, at_of(via));
     Metal::Via {
         padstack: place_index(place.unwrap_or(0)),
-        at: at.unwrap_or(origin()),
+        at: at.unwrap_or(Point { x: 0, y: 0 }),
     }
 }

@@ -1,16 +1,16 @@
 //! Wires: the copper of a wire is its one path.
 //! Source: SPECCTRA reference, wire and path descriptors of the routes.
 
-ghost use Rattle.std.specs.Prelude.{◌≡◌, ◌≤◌, ◌++◌, drop, is_some, map, unwrap_or, IfOk, OnOk};
+ghost use Rattle.std.specs.Prelude.{◌≡◌, ◌≤◌, ◌++◌, drop, map, unwrap_or, IfOk, OnOk};
 ghost use Rattle.std.specs.Option.{option_copied};
 ghost use Rattle.std.specs.List.{flat_map};
 ghost use Rattle.dsn_shapes.specs.Forms.{points_of};
-ghost use Rattle.dsn_shapes.specs.Lists.{place_of, trees_of};
+ghost use Rattle.dsn_shapes.specs.Lists.{trees_of};
 ghost use Rattle.dsn_shapes.specs.Refusals.{noted};
 ghost use Rattle.dsn_wiring.specs.Wires.{no_wire};
 ghost use Rattle.pcb_model.specs.declared.item.Metal.TheVariants.{Wire};
-ghost use Rattle.ses_reader.specs.Measures.{extent_at, refused_unless, word_coord, word_refusal};
-ghost use Rattle.ses_reader.specs.Copper.{chain_in, has_points, layer_index, layer_place, number_refusals, numbers_in};
+ghost use Rattle.ses_reader.specs.Measures.{extent_at, word_coord, word_refusal};
+ghost use Rattle.ses_reader.specs.Copper.{chain_in, number_refusals, numbers_in};
 ghost use Rattle.ses_reader.specs.Copper.{only, path_metal, path_refusals, wire_metal, wire_refusals};
 
 use crate::index::DesignIndex;
@@ -31,29 +31,6 @@ fn no_wire(alloc: Global) -> Metal
         width: 0,
         chain: List::new(alloc),
     }
-}
-
-// Where the layer of a path stands in the design; groups of layers are no names.
-fn note_layer(first: &mut Option<Refusal>, index: &DesignIndex, path: &Tree) -> Option<usize>
-    ensures noted { first.new ≡ noted first.old
-        (refused_unless (is_some (layer_place index.now path.now)) NO_LAYER (place_of path.now 1)) }
-    ensures value { result ≡ layer_place index.now path.now }
-{
-    let place = index.layer(name_of(path, 1));
-    note_unless(first, place.is_some(), NO_LAYER, place_of(path, 1));
-    place
-}
-
-fn layer_index(place: usize) -> u8
-    ensures { result ≡ layer_index place }
-{
-    place.min(255) as u8
-}
-
-fn has_points(count: usize) -> bool
-    ensures { result ≡ has_points count }
-{
-    count >= 7 && count % 2 == 1
 }
 
 fn read_coords(
@@ -151,13 +128,17 @@ fn note_path(
     ensures noted { OnOk result (first.new ≡ noted first.old (path_refusals index.now m path.now)) }
     ensures value { IfOk result (λ v. v ≡ path_metal index.now m path.now) }
 {
-    let layer = note_layer(first, index, path);
-    let words = Trees::words(alloc, path)?;
-    if !has_points(words.len()) {
+    // A group of layers is no name.
+    let layer = index.layer(name_of(path, 1));
+    note_unless(first, layer.is_some(), NO_LAYER, place_of(path, 1));
+    let count = Trees::words(alloc, path)?.len();
+    if count >= 7 && count % 2 == 1 {
+        let layer = layer.unwrap_or(0).min(255) as u8;
+        note_numbers(alloc, first, path, m, layer)
+    } else {
         note(first, refused(NO_PATH, at_of(path)));
-        return Ok(no_wire(alloc));
+        Ok(no_wire(alloc))
     }
-    note_numbers(alloc, first, path, m, layer_index(layer.unwrap_or(0)))
 }
 
 // The one tree of a list of one.

@@ -14,13 +14,14 @@ pub loop-line-init : goal.loop-line-init
 loop-line-init c = record { is = refl }
 
 pub loop-line-preserved : goal.loop-line-preserved
+unfolding open_shape
 loop-line-preserved c =
     let none : OpenLine = record { net = 0; from = origin; to = origin } in
     let now = get_or c.args.lines.now c.loop-line.line-index none in
     let same = get_or_default c.args.lines.now c.loop-line.line-index none now c.loop-line-test.true in
     let left = with_next (flat_map open_shape) c.args.lines.now c.loop-line.line-index now c.loop-line-test.true same
     c.loop-line.invariant in
-    leads_on left c.in_ok-put_line.ensures
+    leads_on left c.in_ok-put_parts.ensures
 
 pub returns : goal.returns
 returns c =

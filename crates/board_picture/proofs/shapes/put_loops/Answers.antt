@@ -7,10 +7,11 @@ pub loop-points-init : goal.loop-points-init
 loop-points-init c = record { is = refl }
 
 pub loop-points-preserved : goal.loop-points-preserved
+unfolding loop_words
 loop-points-preserved c =
     let left = with_next (flat_map loop_words) c.args.loops.now c.loop-points.points-index c.points-item.result
     c.loop-points-test.true c.points-item.is c.loop-points.invariant in
-    leads_on left (rw c.as_slice.ensures at c.in_ok-put_loop.ensures)
+    leads_on left (rw c.as_slice.ensures at c.in_ok-put_parts.ensures)
 
 pub returns : goal.returns
 returns c =

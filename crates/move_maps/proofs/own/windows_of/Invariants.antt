@@ -1,9 +1,0 @@
-use Rattle.std.proofs.Common.{◌-◌, ◌^◌}
-use Rattle.move_maps.specs.OwnCopper.{IsOwnBelow}
-use Rattle.move_maps.proofs.own.windows_of.Given as goal
-
-abbrev pub invariant-loop-item : goal.invariant-loop-item
-invariant-loop-item g l = IsOwnBelow l.d l.lat (g.C.Copper.items l.c) l.g l.net l.from l.windows.items
-
-abbrev pub decreases-loop-item : goal.decreases-loop-item
-decreases-loop-item g l = 2 ^ 64 - l.from

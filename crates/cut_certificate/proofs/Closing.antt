@@ -3,7 +3,7 @@ use Rattle.std.proofs.Common.{ℕ, ◌<◌, List, [], ◌∷◌, ◌++◌, get_o
 use Rattle.std.specs.Prelude.{Contains}
 use Rattle.std.proofs.lemmas.List.Elements.{All-contains, All-contains_itself}
 use Rattle.route_lattice.specs.Walks.{MoveGraph, IsSound, Hop, Leads, Reaches, IsReach}
-use Rattle.move_flood.proofs.Flooding.{leads_on}
+use Rattle.cut_certificate.proofs.Flooding.{leads_on}
 use Rattle.cut_certificate.specs.declared.cut.Blocker.{Blocker}
 use Rattle.cut_certificate.specs.declared.cut.Block.{Block}
 use Rattle.cut_certificate.specs.Border.{IsListed, IsBlock, AreBlocks, IsClosed}

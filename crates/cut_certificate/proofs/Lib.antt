@@ -1,3 +1,7 @@
+pub mod Marking
+pub mod Gaining
+pub mod Leading
+pub mod Flooding
 pub mod Each
 pub mod Same
 pub mod Search

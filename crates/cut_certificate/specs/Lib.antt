@@ -1,3 +1,5 @@
+pub mod Goals
+pub mod Marks
 pub mod Border
 pub mod Cuts
 pub mod Same

@@ -8,12 +8,12 @@ ghost use Rattle.cut_certificate.specs.declared.cut.Blocker.{Blocker as OneBlock
 ghost use Rattle.cut_certificate.specs.Border.{LeadsOut, IsBefore, AreInOrder, IsListed, IsBlock, AreBlocks};
 ghost use Rattle.cut_certificate.specs.Border.{AllListed, Extends, IsClosed, Closes};
 ghost use Rattle.cut_certificate.specs.Same.{SameMoves};
-ghost use Rattle.move_flood.specs.Goals.{Meets};
+ghost use Rattle.cut_certificate.specs.Goals.{Meets};
 ghost use Rattle.route_lattice.specs.Walks.{IsSound};
 
 use crate::cut::{Block, Blocker};
 use geo_kernel::List;
-use move_flood::{flood, reach_tells_goals};
+use crate::{flood, reach_tells_goals};
 use route_lattice::{Moves, Reach};
 use std::alloc::{AllocError, Global};
 

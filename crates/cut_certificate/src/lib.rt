@@ -1,13 +1,19 @@
 //! Cuts: why no legal walk leads from an island of a net to another one.
-//! A cut is made by a search that closed, and can be checked without a search.
+//! A cut is made by a flood that closed: a stack and a table of marks, which find all nodes that open moves reach, without
+//! prices and in no order. It can be checked without one.
 #![tactic(auto)]
 
 mod border;
 mod check;
 mod cut;
+mod front;
+mod laws;
 mod make;
 mod shut;
+mod spread;
 
 pub use check::{check_cut, cut_closes};
 pub use cut::{Block, Blocker, Cut};
+pub use laws::reach_tells_goals;
 pub use make::{goals_of, make_cut, make_cut_among, make_cut_with, starts_of};
+pub use spread::flood;

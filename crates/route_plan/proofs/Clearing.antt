@@ -25,8 +25,8 @@ use Rattle.pcb_board.specs.Keeping.{IsBoard}
 use Rattle.least_offer.specs.Least.{IsLaidLeast, IsLeastOffer, TakesNothing, MayBeMade, JoinsLeast, Chooses, MakesWay}
 use Rattle.least_offer.specs.Least.{AreShovesOf, shoving}
 use Rattle.least_offer.specs.Together.{StandTogether}
-use Rattle.clear_way.specs.declared.way.Way.{Way}
-use Rattle.clear_way.specs.Ways.{MakesWayOn}
+use Rattle.route_plan.specs.declared.way.Way.{Way}
+use Rattle.route_plan.specs.Ways.{MakesWayOn}
 use Rattle.route_plan.specs.declared.route.Route.{Route}
 use Rattle.route_plan.specs.Plans.{IsSnapOf, CanPlan, IsRoute, IsShutFrom, IsShutIn, IsPassingOffer, IsPassing}
 use Rattle.route_plan.specs.Plans.{IsOfferOf, StandsAt}

@@ -1,3 +1,7 @@
+pub mod Fitting
+pub mod Standing
+pub mod Moving
+pub mod Adding
 pub mod Resting
 pub mod Offering
 pub mod Anchoring

@@ -29,8 +29,8 @@ use Rattle.route_plan.specs.declared.plans.Led.TheVariants as led
 use Rattle.route_plan.specs.declared.plans.Planned.{Planned}
 use Rattle.route_plan.specs.declared.plans.Planned.TheVariants as planned
 use Rattle.board_offers.specs.Items.{added_from}
-use Rattle.clear_way.specs.declared.way.Way.{Way}
-use Rattle.clear_way.specs.Ways.{MakesWayOn}
+use Rattle.route_plan.specs.declared.way.Way.{Way}
+use Rattle.route_plan.specs.Ways.{MakesWayOn}
 use Rattle.least_offer.specs.Least.{IsLeastOffer, MayBeMade, TakesNothing}
 
 -- the snapshot is one of a board of a sound design of plain copper

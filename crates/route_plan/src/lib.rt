@@ -1,12 +1,18 @@
 //! Plans: what a worker offers to lay for a net on a snapshot of a board.
-//! An offer lays the copper of a least walk from the net's first island to another.
+//! An offer lays the copper of a least walk from the net's first island to another. What is in its way is shoved where
+//! each item has a shove that fits and all of them stand together, and else ripped.
 #![tactic(auto)]
 
+mod added;
+mod fit;
 mod laws;
+mod moved;
+mod pairs;
 mod passing;
 mod plans;
 mod route;
 mod searches;
+mod way;
 
 pub use laws::rip_bound_sound;
 pub use plans::{Led, Planned};

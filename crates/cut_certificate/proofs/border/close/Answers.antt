@@ -1,7 +1,7 @@
 use Rattle.std.proofs.Common.{ℕ, ◌<◌, List, true≢false, sym, subst, ◌∙◌, All}
 use Rattle.std.specs.List.Sorted.{IsStrictlyIncreasing}
 use Rattle.route_lattice.specs.Walks.{IsReach}
-use Rattle.move_flood.specs.Goals.{Meets}
+use Rattle.cut_certificate.specs.Goals.{Meets}
 use Rattle.cut_certificate.specs.declared.cut.Block.{Block}
 use Rattle.cut_certificate.specs.Border.{AreBlocks, IsClosed}
 use Rattle.cut_certificate.proofs.Closing.{reach_in_range, reach_is_closed}

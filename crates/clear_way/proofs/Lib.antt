@@ -1,4 +1,0 @@
-pub mod Fitting
-pub mod Standing
-pub mod Moving
-pub mod Adding

@@ -1,6 +1,0 @@
-use Rattle.std.proofs.Common.{◌≡◌, take}
-use Rattle.board_offers.specs.Items.{added_from}
-use Rattle.clear_way.proofs.added.added_items.Given as goal
-
-abbrev pub invariant-loop-i : goal.invariant-loop-i
-invariant-loop-i l = l.items ≡ added_from l.d l.net 0 (take l.i l.metals)

@@ -1,5 +1,0 @@
-use Rattle.clear_way.proofs.Fitting.{NoneBefore}
-use Rattle.clear_way.proofs.fit.first_fit.Given as goal
-
-abbrev pub invariant-loop-run : goal.invariant-loop-run
-invariant-loop-run g l = NoneBefore l.d l.lat (g.C.Copper.items l.c) l.new l.item l.run

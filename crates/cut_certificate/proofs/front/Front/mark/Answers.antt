@@ -1,0 +1,13 @@
+use Rattle.std.proofs.Common.{◌≡◌, ℕ, List, true, true≢false, sym, subst, ◌∙◌}
+use Rattle.std.proofs.Math.ListN.{set}
+use Rattle.cut_certificate.specs.Marks.{Gains, fill_of}
+use Rattle.cut_certificate.proofs.Gaining.{gains_one}
+use Rattle.cut_certificate.proofs.front.Front.mark.Goals as goal
+
+pub returns : goal.returns
+returns c =
+    let f = fill_of c.args.self.now in
+    let node = c.args.node in
+    subst (λ (xs : List ℕ). Gains (λ v. node ≡ v) f (record { marks = set f.marks node true; waiting = xs }))
+    (sym c.in_ok-push.ensures.items)
+    (gains_one f node c.requires (λ m. true≢false (sym (c.has.ensures.1 m) ∙ c.if-has.false)))

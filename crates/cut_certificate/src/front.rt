@@ -1,0 +1,61 @@
+//! Marks on nodes, a byte a node, and the marked nodes that wait for their moves to be followed.
+//! A node is marked when it begins to wait, so it waits once.
+
+ghost use Rattle.std.specs.Prelude.{◌≡◌, ◌↔◌, ◌<◌, ℕ, length, IfOk, OnOk, IsTrue};
+ghost use Rattle.cut_certificate.specs.Marks.{IsMarked, IsBlank, Gains, AreListed, fill_of};
+
+use geo_kernel::List;
+use std::alloc::{AllocError, Global};
+
+/// Marks on nodes, and the marked nodes that wait, of which the last is taken first.
+#[derive(Drop)]
+pub(crate) struct Front {
+    pub marks: Vec<bool>,
+    pub waiting: Vec<u32>,
+}
+
+impl Front {
+    /// Marks for nodes below `count`, none of which is set; none waits.
+    pub(crate) fn new(alloc: Global, count: u32) -> Result<Front, AllocError>
+        ensures { IfOk result (λ f. IsBlank count (fill_of f)) }
+    {
+        let marks = vec![in alloc; false; count as usize]?;
+        let waiting = Vec::new(alloc);
+        Ok(Front { marks, waiting })
+    }
+
+    /// Whether the node is marked.
+    pub(crate) fn has(&self, node: u32) -> bool
+        requires { node < length self.now.marks.items }
+        ensures { IsTrue result ↔ IsMarked self.now.marks.items node }
+    {
+        self.marks[node as usize]
+    }
+
+    /// Marks a node, and lets it wait if it wasn't marked.
+    pub(crate) fn mark(&mut self, node: u32) -> Result<(), AllocError>
+        requires { node < length self.old.marks.items }
+        ensures { OnOk result (Gains (λ v. node ≡ v) (fill_of self.old) (fill_of self.new)) }
+    {
+        if self.has(node) {
+            return Ok(());
+        }
+        self.waiting.push(node)?;
+        self.marks[node as usize] = true;
+        Ok(())
+    }
+
+    /// The marked nodes below `count`, ascending.
+    pub(crate) fn marked(&self, alloc: Global, count: u32) -> Result<List<u32>, AllocError>
+        requires { length self.now.marks.items ≡ count }
+        ensures { IfOk result (AreListed self.now.marks.items count) }
+    {
+        let mut nodes = List::new(alloc);
+        for node in 0..count {
+            if self.has(node) {
+                nodes.push(node)?;
+            }
+        }
+        Ok(nodes)
+    }
+}

@@ -1,0 +1,88 @@
+//! From the starts, the open moves of each node that is found are followed once.
+//! Whether a move is open is asked last, since nothing else is dear.
+
+ghost use Rattle.std.specs.Prelude.{◌≡◌, ◌<◌, ◌+◌, ℕ, length, All, Contains, IfOk, OnOk};
+ghost use Rattle.route_lattice.specs.Walks.{IsSound, IsReach};
+ghost use Rattle.cut_certificate.specs.Marks.{Gains, IsLedTo, IsNext, IsBlank, IsFlood, fill_of};
+
+use crate::front::Front;
+use geo_kernel::List;
+use route_lattice::{Moves, Reach};
+use std::alloc::{AllocError, Global};
+
+/// Marks the starts.
+fn seed(front: &mut Front, starts: &[u32]) -> Result<(), AllocError>
+    requires { All (λ s. s < length front.old.marks.items) starts.now }
+    ensures { OnOk result (Gains (Contains starts.now) (fill_of front.old) (fill_of front.new)) }
+{
+    for s in starts {
+        front.mark(*s)?;
+    }
+    Ok(())
+}
+
+/// Follows move `i` of the node. Its price is asked for since each move of a walk has one.
+fn follow_one<M: Moves>(m: &M, front: &mut Front, node: u32, i: u32) -> Result<(), AllocError>
+    requires ready { M.ready m.now }
+    requires sound { IsSound (M.graph m.now) }
+    requires node { node < (M.graph m.now).count }
+    requires index { i < (M.graph m.now).arity }
+    requires size { length front.old.marks.items ≡ (M.graph m.now).count }
+    ensures { OnOk result (Gains (IsLedTo (M.graph m.now) node i (i + 1)) (fill_of front.old) (fill_of front.new)) }
+{
+    let Some((_, to)) = m.at(node, i) else {
+        return Ok(());
+    };
+    if front.has(to) {
+        return Ok(());
+    }
+    if !m.is_open(node, i) {
+        return Ok(());
+    }
+    let _price = m.price(node, i);
+    front.mark(to)
+}
+
+/// Follows all moves of the node.
+fn follow<M: Moves>(m: &M, front: &mut Front, node: u32) -> Result<(), AllocError>
+    requires ready { M.ready m.now }
+    requires sound { IsSound (M.graph m.now) }
+    requires node { node < (M.graph m.now).count }
+    requires size { length front.old.marks.items ≡ (M.graph m.now).count }
+    ensures { OnOk result (Gains (IsNext (M.graph m.now) node) (fill_of front.old) (fill_of front.new)) }
+{
+    for i in 0..m.arity() {
+        follow_one(m, front, node, i)?;
+    }
+    Ok(())
+}
+
+/// Marks all nodes that open moves reach from the starts.
+fn mark_reached<M: Moves>(m: &M, front: &mut Front, starts: &List<u32>) -> Result<(), AllocError>
+    requires ready { M.ready m.now }
+    requires sound { IsSound (M.graph m.now) }
+    requires starts { All (λ s. s < (M.graph m.now).count) starts.now }
+    requires blank { IsBlank (M.graph m.now).count (fill_of front.old) }
+    ensures flood { OnOk result (IsFlood (M.graph m.now) starts.now (fill_of front.new)) }
+    ensures done { OnOk result (length front.new.waiting.items ≡ 0) }
+{
+    seed(front, starts.as_slice())?;
+    'flood: while let Some(node) = front.waiting.pop() {
+        follow(m, front, node)?;
+    }
+    Ok(())
+}
+
+/// All nodes that open moves reach from the starts.
+pub fn flood<M: Moves>(alloc: Global, m: &M, starts: &List<u32>) -> Result<Reach, AllocError>
+    requires ready { M.ready m.now }
+    requires sound { IsSound (M.graph m.now) }
+    requires starts { All (λ s. s < (M.graph m.now).count) starts.now }
+    ensures { IfOk result (λ r. IsReach (M.graph m.now) starts.now r.nodes) }
+{
+    let count = m.count();
+    let mut front = Front::new(alloc, count)?;
+    mark_reached(m, &mut front, starts)?;
+    let nodes = front.marked(alloc, count)?;
+    Ok(Reach { nodes })
+}

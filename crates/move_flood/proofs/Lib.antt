@@ -1,4 +1,0 @@
-pub mod Marking
-pub mod Gaining
-pub mod Leading
-pub mod Flooding

@@ -1,8 +1,0 @@
-use Rattle.move_flood.specs.Marks.{fill_of}
-use Rattle.move_flood.proofs.Gaining.{seeds_more}
-use Rattle.move_flood.proofs.spread.seed.Goals as goal
-
-pub loop-s-preserved : goal.loop-s-preserved
-loop-s-preserved c =
-    seeds_more c.args.starts.now c.loop-s.s-index (fill_of c.args.front.now) (fill_of c.loop-s.front)
-    (fill_of c.mark.new.self) c.loop-s-test.true c.loop-s.invariant c.in_ok-mark.ensures

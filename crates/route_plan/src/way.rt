@@ -1,0 +1,73 @@
+//! What makes way for the metals of a net on some copper.
+//! Where all that is in the way can be shoved, nothing is ripped.
+
+ghost use Rattle.std.specs.Prelude.{All, IfOk};
+ghost use Rattle.pcb_model.specs.Sound.{IsSound};
+ghost use Rattle.route_lattice.specs.Fits.{FitsDesign};
+ghost use Rattle.board_offers.specs.Items.{added_from};
+ghost use Rattle.path_wire.specs.Lays.{IsWellLaid};
+ghost use Rattle.route_plan.specs.Ways.{MakesWayOn};
+
+use crate::added::added_items;
+use crate::moved::{moved_items, shoves_of};
+use board_offers::Shoved;
+use geo_kernel::List;
+use pcb_model::{Copper, Design, Metal};
+use ripup::to_rip;
+use route_lattice::Lattice;
+use std::alloc::{AllocError, Global};
+
+/// What makes way: the ids of items that are ripped, ascending, or wires that are shoved.
+#[derive(Drop)]
+pub(crate) struct Way {
+    pub rip: List<u64>,
+    pub shoves: List<Shoved>,
+}
+
+/// What makes way for the metals of a net: each routed item that disagrees with them is shoved to its first fit,
+/// where all of these can be, and together, or else all are ripped. `AllocError` comes only for want of memory.
+pub(crate) fn make_way<C: Copper>(
+    alloc: Global,
+    lat: &Lattice,
+    d: &Design,
+    c: &C,
+    net: u32,
+    metals: &List<Metal>,
+) -> Result<Way, AllocError>
+    requires sound { IsSound d.now }
+    requires fits { FitsDesign d.now lat.now }
+    requires serves { C.serves c.now d.now }
+    requires well { All (IsWellLaid d.now net 0) metals.now }
+    ensures { IfOk result (MakesWayOn d.now lat.now (C.items c.now) (added_from d.now net 0 metals.now)) }
+{
+    let new = added_items(alloc, d, net, metals.as_slice())?;
+    let ids = match to_rip(alloc, d, c, &new) {
+        Ok(ids) => ids,
+        Err(error) => {
+            drop(new);
+            return Err(error);
+        }
+    };
+    let found = moved_items(alloc, lat, d, c, new.as_slice(), ids.as_slice());
+    drop(new);
+    match found {
+        Ok(Some(moved)) => {
+            drop(ids);
+            let shoves = shoves_of(alloc, moved.as_slice());
+            drop(moved);
+            let shoves = shoves?;
+            Ok(Way {
+                rip: List::new(alloc),
+                shoves,
+            })
+        }
+        Ok(None) => Ok(Way {
+            rip: ids,
+            shoves: List::new(alloc),
+        }),
+        Err(error) => {
+            drop(ids);
+            Err(error)
+        }
+    }
+}

@@ -12,8 +12,8 @@ ghost use Rattle.cut_certificate.specs.Goals.{Meets};
 ghost use Rattle.route_lattice.specs.Walks.{IsSound};
 
 use crate::cut::{Block, Blocker};
-use geo_kernel::List;
 use crate::{flood, reach_tells_goals};
+use geo_kernel::List;
 use route_lattice::{Moves, Reach};
 use std::alloc::{AllocError, Global};
 

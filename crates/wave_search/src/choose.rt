@@ -141,9 +141,8 @@ impl<'a, M: Moves, B: Bound, T: Ties> Task<'a, M, B, T> {
             return Ok(());
         };
         if !is_before(label, to.label)
-            || label.price > to.label.price
             || to.label.origin == Some(node)
-            || label.price.wrapping_add(self.m.price(to.node, i)) != to.label.price
+            || label.price.saturating_add(self.m.price(to.node, i)) != to.label.price
         {
             return Ok(());
         }

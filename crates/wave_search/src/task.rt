@@ -335,39 +335,9 @@ impl<'a, M: Moves, B: Bound, T: Ties> Task<'a, M, B, T> {
         self.follow(alloc, table, &choices, start, price)
     }
 
-    /// A walk to a goal that is done, at its price; the nodes that are done stand in their order. Nearly all moves that
-    /// the labels allow are open, so a walk is sought as if all were, and again by asking of each where that one isn't
-    /// open.
-    fn walk_to(
-        &self,
-        alloc: Global,
-        table: &Labels,
-        order: &[u32],
-        node: u32,
-        label: Label,
-    ) -> Result<Walk, AllocError>
-        requires ready { M.ready self.now.m.now }
-        requires sound { IsSound (M.graph self.now.m.now) }
-        requires marked { (v : ℕ) → (Contains self.now.marks.now v ↔ Contains self.now.goals.now v) }
-        requires roots { Roots (M.graph self.now.m.now) self.now.starts.now table.now }
-        requires small { (v : ℕ) (l : TheLabel) → label_at table.now v ≡ Some l → l.price < 2 ^ 60 }
-        requires there { label_at table.now node ≡ Some label }
-        requires is_done { 0 < label.rank }
-        requires goal { Contains self.now.goals.now node }
-        ensures walk { IfOk result (IsWalk (M.graph self.now.m.now) self.now.starts.now self.now.goals.now) }
-        ensures price { IfOk result (λ w. w.price ≡ label.price) }
-    {
-        if let Some(walk) = self.chosen_walk(alloc, table, order, label.price, Openness::Taken)? {
-            return Ok(walk);
-        }
-        if let Some(walk) = self.chosen_walk(alloc, table, order, label.price, Openness::Asked)? {
-            return Ok(walk);
-        }
-        self.trace(alloc, table, node, label)
-    }
-
     /// The walk to a goal that is done last. Where a rule of ties chooses among walks, the search goes on until all
-    /// nodes on them are done.
+    /// nodes on them are done. Nearly all moves that the labels allow are open, so a walk is sought as if all were, and
+    /// again by asking of each where that one isn't open.
     fn end(
         &self,
         alloc: Global,
@@ -395,7 +365,14 @@ impl<'a, M: Moves, B: Bound, T: Ties> Task<'a, M, B, T> {
             return self.trace(alloc, table, node, label);
         }
         self.settle_rest(alloc, table, front, order, node, label)?;
-        self.walk_to(alloc, table, order.as_slice(), node, label)
+        let done = order.as_slice();
+        if let Some(walk) = self.chosen_walk(alloc, table, done, label.price, Openness::Taken)? {
+            return Ok(walk);
+        }
+        if let Some(walk) = self.chosen_walk(alloc, table, done, label.price, Openness::Asked)? {
+            return Ok(walk);
+        }
+        self.trace(alloc, table, node, label)
     }
 
     /// Whether the node of an entry, which waited at a price, is a goal. Where the key isn't the price its bound isn't

@@ -48,13 +48,13 @@ module _ (items : List Item) (up : Ascends items) where
 
 -- ---- starts and goals
 module _ (d : Design) (m : Mesh) (items : List Item) (nodes : List ℕ) where
-  pub starts_from : (island : Island) → All (HoldsStartsOf d m items island.net nodes) island.items → (node : ℕ)
+  starts_from : (island : Island) → All (HoldsStartsOf d m items island.net nodes) island.items → (node : ℕ)
       → IsStart d m items island node → Contains nodes node
   starts_from island each node s =
       All-contains (HoldsStartsOf d m items island.net nodes) island.items s.anchors.item.id each s.anchors.asked
       s.anchors.item s.anchors.there refl node s.there s.anchors.anchors s.legal
 
-  pub starts_to : (island : Island) → ((node : ℕ) → IsStart d m items island node → Contains nodes node)
+  starts_to : (island : Island) → ((node : ℕ) → IsStart d m items island node → Contains nodes node)
       → All (HoldsStartsOf d m items island.net nodes) island.items
   starts_to island starts k id h a p e node there anchors legal = starts node (record {
     there = there;
@@ -67,7 +67,7 @@ module _ (d : Design) (m : Mesh) (items : List Item) (nodes : List ℕ) where
     legal = legal;
   })
 
-  pub goals_from : (others : List Island) → All (HoldsNoneOfIsland d m items nodes) others → (node : ℕ)
+  goals_from : (others : List Island) → All (HoldsNoneOfIsland d m items nodes) others → (node : ℕ)
       → IsGoal d m items others node → Contains nodes node → ⊥
   goals_from others each node g c =
       let o = g.anchors in
@@ -77,7 +77,7 @@ module _ (d : Design) (m : Mesh) (items : List Item) (nodes : List ℕ) where
       (All-contains (HoldsNoneOf d m items nodes) o.1.items o.4.item.id none o.4.asked o.4.item o.4.there refl) c
       o.4.anchors
 
-  pub goals_to : (others : List Island) → All (λ v. v < node_count m) nodes
+  goals_to : (others : List Island) → All (λ v. v < node_count m) nodes
       → ((node : ℕ) → IsGoal d m items others node → Contains nodes node → ⊥)
       → All (HoldsNoneOfIsland d m items nodes) others
   goals_to others in_lattice out k o h j id lt a p e i v il anchors =
@@ -97,3 +97,14 @@ module _ (d : Design) (m : Mesh) (items : List Item) (nodes : List ℕ) where
           },
         );
       }) (Contains-get_or nodes i v il)
+
+  -- what is tested of the ids of an island, and of the islands
+  pub starts_say : (island : Island) (t : Bool)
+      → (IsTrue t ↔ All (HoldsStartsOf d m items island.net nodes) island.items)
+      → IsTrue t ↔ ((node : ℕ) → IsStart d m items island node → Contains nodes node)
+  starts_say island t says = (λ h. starts_from island (says.0 h), λ h. says.1 (starts_to island h))
+
+  pub goals_say : (others : List Island) → All (λ v. v < node_count m) nodes → (t : Bool)
+      → (IsTrue t ↔ All (HoldsNoneOfIsland d m items nodes) others)
+      → IsTrue t ↔ ((node : ℕ) → IsGoal d m items others node → Contains nodes node → ⊥)
+  goals_say others there t says = (λ h. goals_from others (says.0 h), λ h. says.1 (goals_to others there h))

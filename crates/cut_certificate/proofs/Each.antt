@@ -1,8 +1,8 @@
 -- Loops that test each element, and what a test says.
 use Rattle.std.proofs.Common.{◌≡◌, ℕ, ◌+◌, ◌<◌, ◌≤◌, List, length, take, get_or, Bool, true, false, not, sym, refl, ◌∙◌}
-use Rattle.std.proofs.Common.{subst, arith, All}
-use Rattle.std.specs.Prelude.{IsTrue, ◌↔◌}
-use Rattle.std.proofs.lemmas.Bool.{false≢true}
+use Rattle.std.proofs.Common.{subst, arith, All, inl, inr}
+use Rattle.std.specs.Prelude.{IsTrue, ◌↔◌, slice_index}
+use Rattle.std.proofs.lemmas.Bool.{false≢true, cases_lt}
 use Rattle.std.proofs.lemmas.List.{length-take, get_or-take}
 use Rattle.std.proofs.lemmas.List.Elements.{All-more}
 
@@ -33,3 +33,14 @@ refused Q f = (λ t. absurd (false≢true t), λ q. absurd (f q))
 pub not_needed : (t : Bool) (A L K : Type 0) → (IsTrue t ↔ L) → A → (K → ⊥) → IsTrue (not t) ↔ (A → L → K)
 not_needed true A L K iff a out = (λ h. absurd (false≢true h), λ f. absurd (out (f a (iff.0 refl))))
 not_needed false A L K iff a out = (λ _ x l. absurd (false≢true (iff.1 l)), λ _. refl)
+
+-- ---- neighbours
+-- numbers that rise to a place rise to the next
+pub rises_more : (xs : List ℕ) (k : ℕ) → ((j : ℕ) → j + 1 < k → slice_index xs j < slice_index xs (j + 1))
+    → ((i : ℕ) → i + 1 ≡ k → slice_index xs i < slice_index xs k)
+    → (j : ℕ) → j + 1 < k + 1 → slice_index xs j < slice_index xs (j + 1)
+rises_more xs k up here j h = elim (cases_lt (j + 1) k) [
+  | inl lt ↦ up j lt
+  | inr ge ↦ let e : j + 1 ≡ k = omega (arith, h, ge) in
+      subst (λ (i : ℕ). slice_index xs j < slice_index xs i) (sym e) (here j e)
+]

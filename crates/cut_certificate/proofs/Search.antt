@@ -11,6 +11,7 @@ use Rattle.std.specs.Ordering.{nat_cmp, ordering_index, ordering_then}
 use Rattle.std.proofs.lemmas.Bool.{false≢true, cases_lt}
 use Rattle.std.proofs.lemmas.Bool.Decides.{nat_tests}
 use Rattle.std.proofs.lemmas.List.{get_or_default}
+use Rattle.std.proofs.lemmas.List.Sorted.{all_adjacent_more}
 use Rattle.cut_certificate.specs.declared.cut.Blocker.TheVariants.{Outside}
 use Rattle.cut_certificate.specs.declared.cut.Block.{Block}
 use Rattle.cut_certificate.specs.Border.{IsBefore, AreInOrder, IsListed}
@@ -89,3 +90,15 @@ order_from_next bs next i j d before lt = far bs next i d (j - (i + 1)) j (omega
 
 pub next_from_order : (bs : List Block) → AreInOrder bs → AllAdjacentBelow IsBefore bs (length bs)
 next_from_order bs up k d lt = up k (k + 1) d (omega arith) lt
+
+-- a step over a block and the one before it
+module _ (bs : List Block) (k : ℕ) (p : 0 < k) (lt : k < length bs) (a b : Block) where
+  pub before_more : IsBefore (get_or bs (k - 1) a) (get_or bs k b) → AllAdjacentBelow IsBefore bs k
+      → AllAdjacentBelow IsBefore bs (k + 1)
+  before_more is next = all_adjacent_more bs IsBefore k p next (λ d.
+      subst (λ (x : Block). IsBefore x (get_or bs k d)) (get_or_default bs (k - 1) a d (omega (arith, p, lt)))
+      (subst (λ (y : Block). IsBefore (get_or bs (k - 1) a) y) (get_or_default bs k b d lt) is))
+
+  pub not_before : (IsBefore (get_or bs (k - 1) a) (get_or bs k b) → ⊥) → AreInOrder bs → ⊥
+  not_before f up = f (subst (λ (y : Block). IsBefore (get_or bs (k - 1) a) y) (get_or_default bs k a b lt)
+      (up (k - 1) k a (omega (arith, p)) lt))

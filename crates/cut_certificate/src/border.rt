@@ -1,8 +1,7 @@
 //! The moves that lead out of a set of nodes, listed and checked.
 //! All look-ups are binary searches in ascending lists.
 
-ghost use Rattle.std.specs.Prelude.{◌≡◌, ℕ, ◌<◌, ◌↔◌, length, All, Contains, IsTrue, IfOk, OnOk, IsSome, IfNone, Some};
-ghost use Rattle.std.specs.List.{AllAdjacentBelow};
+ghost use Rattle.std.specs.Prelude.{◌≡◌, ℕ, ◌<◌, ◌↔◌, All, Contains, IsTrue, IfOk, OnOk, IsSome, IfNone, Some};
 ghost use Rattle.std.specs.List.Sorted.{IsStrictlyIncreasing};
 ghost use Rattle.cut_certificate.specs.declared.cut.Blocker.{Blocker as OneBlocker};
 ghost use Rattle.cut_certificate.specs.Border.{LeadsOut, IsBefore, AreInOrder, IsListed, IsBlock, AreBlocks};
@@ -48,7 +47,12 @@ pub(crate) trait Shuts: Moves {
 pub(crate) fn ascends(nodes: &[u32]) -> bool
     ensures { IsTrue result ↔ IsStrictlyIncreasing nodes.now }
 {
-    nodes.windows(2).all(|w| w[0] < w[1])
+    for k in 1..nodes.len() {
+        if nodes[k] <= nodes[k - 1] {
+            return false;
+        }
+    }
+    true
 }
 
 /// Whether the node is among the nodes.
@@ -78,18 +82,16 @@ fn is_before(a: &Block, b: &Block) -> bool
     a.node < b.node || a.node == b.node && a.index < b.index
 }
 
-/// Whether each block is before the next.
-fn each_before(blocked: &[Block]) -> bool
-    ensures { IsTrue result ↔ AllAdjacentBelow IsBefore blocked.now (length blocked.now) }
-{
-    blocked.windows(2).all(|w| is_before(&w[0], &w[1]))
-}
-
-/// Whether each block is before all later ones.
+/// Whether each block is before all later ones: before the next.
 fn in_order(blocked: &[Block]) -> bool
     ensures { IsTrue result ↔ AreInOrder blocked.now }
 {
-    each_before(blocked)
+    for k in 1..blocked.len() {
+        if !is_before(&blocked[k - 1], &blocked[k]) {
+            return false;
+        }
+    }
+    true
 }
 
 fn is_listed(blocked: &[Block], node: u32, index: u32) -> bool

@@ -11,7 +11,7 @@ ghost use Rattle.route_lattice.specs.Anchors.{Anchors};
 ghost use Rattle.route_lattice.specs.Ways.{way, way_count};
 ghost use Rattle.route_lattice.specs.Legal.{IsLegalNode};
 ghost use Rattle.cut_certificate.specs.Border.{AreBlocks};
-ghost use Rattle.cut_certificate.specs.Cuts.{IsCut, IsStart, IsGoal, IsShutBy, LeadsOn, HoldsStarts, HoldsStartsOf};
+ghost use Rattle.cut_certificate.specs.Cuts.{IsCut, IsShutBy, LeadsOn, HoldsStarts, HoldsStartsOf};
 ghost use Rattle.cut_certificate.specs.Cuts.{HoldsNone, HoldsNoneOf, HoldsNoneOfIsland};
 
 use crate::border::{are_blocks, ascends, has};
@@ -171,17 +171,6 @@ fn none_anchors_among<C: Copper>(
     true
 }
 
-fn island_out<C: Copper>(lat: &Lattice, d: &Design, c: &C, nodes: &[u32], other: &Island) -> bool
-    requires sound { IsSound d.now }
-    requires fits { FitsDesign d.now lat.now }
-    requires serves { C.serves c.now d.now }
-    requires in_order { Ascends (C.items c.now) }
-    requires nodes { All (λ v. v < node_count lat.now) nodes.now }
-    ensures { IsTrue result ↔ HoldsNoneOfIsland d.now lat.now (C.items c.now) nodes.now other.now }
-{
-    none_anchors_among(lat, d, c, nodes, other.items.as_slice())
-}
-
 fn islands_out<C: Copper>(
     lat: &Lattice,
     d: &Design,
@@ -197,7 +186,7 @@ fn islands_out<C: Copper>(
     ensures { IsTrue result ↔ All (HoldsNoneOfIsland d.now lat.now (C.items c.now) nodes.now) others.now }
 {
     for other in others {
-        if !island_out(lat, d, c, nodes, other) {
+        if !none_anchors_among(lat, d, c, nodes, other.items.as_slice()) {
             return false;
         }
     }
@@ -216,68 +205,10 @@ fn is_named(island: &Island, cut: &Cut) -> bool
     }
 }
 
-fn all_ascend(nodes: &List<u32>) -> bool
-    ensures { IsTrue result ↔ IsStrictlyIncreasing nodes.now }
-{
-    ascends(nodes.as_slice())
-}
-
 fn all_below(nodes: &[u32], count: u32) -> bool
     ensures { IsTrue result ↔ All (λ v. v < count) nodes.now }
 {
     nodes.iter().all(|v| *v < count)
-}
-
-fn all_nodes(lat: &Lattice, nodes: &List<u32>) -> bool
-    ensures { IsTrue result ↔ All (λ v. v < node_count lat.now) nodes.now }
-{
-    all_below(nodes.as_slice(), lat.count())
-}
-
-/// Whether the nodes hold each start of the island.
-fn holds_starts<C: Copper>(
-    lat: &Lattice,
-    d: &Design,
-    c: &C,
-    island: &Island,
-    nodes: &List<u32>,
-) -> bool
-    requires sound { IsSound d.now }
-    requires fits { FitsDesign d.now lat.now }
-    requires net { island.now.net < length d.now.nets }
-    requires serves { C.serves c.now d.now }
-    requires in_order { Ascends (C.items c.now) }
-    requires ascends { IsStrictlyIncreasing nodes.now }
-    ensures { IsTrue result
-        ↔ ((node : ℕ) → IsStart d.now lat.now (C.items c.now) island.now node → Contains nodes.now node) }
-{
-    all_starts_in(
-        lat,
-        d,
-        c,
-        island.net,
-        nodes.as_slice(),
-        island.items.as_slice(),
-    )
-}
-
-/// Whether the nodes hold no goal.
-fn holds_no_goal<C: Copper>(
-    lat: &Lattice,
-    d: &Design,
-    c: &C,
-    others: &List<Island>,
-    nodes: &List<u32>,
-) -> bool
-    requires sound { IsSound d.now }
-    requires fits { FitsDesign d.now lat.now }
-    requires serves { C.serves c.now d.now }
-    requires in_order { Ascends (C.items c.now) }
-    requires nodes { All (λ v. v < node_count lat.now) nodes.now }
-    ensures { IsTrue result
-        ↔ ((node : ℕ) → IsGoal d.now lat.now (C.items c.now) others.now node → Contains nodes.now node → ⊥) }
-{
-    islands_out(lat, d, c, nodes.as_slice(), others.as_slice())
 }
 
 /// Whether the blocks are, in order, exactly the moves of the net that lead out of the nodes, each with what shuts it.
@@ -286,8 +217,8 @@ fn has_border<C: Copper>(
     d: &Design,
     c: &C,
     net: u32,
-    nodes: &List<u32>,
-    blocked: &List<Block>,
+    nodes: &[u32],
+    blocked: &[Block],
 ) -> bool
     requires sound { IsSound d.now }
     requires fits { FitsDesign d.now lat.now }
@@ -300,7 +231,7 @@ fn has_border<C: Copper>(
         (IsShutBy d.now lat.now (C.items c.now) net) nodes.now blocked.now }
 {
     let moves = LegalMoves::of(lat, d, c, net, 0);
-    are_blocks(&moves, nodes.as_slice(), blocked.as_slice())
+    are_blocks(&moves, nodes, blocked)
 }
 
 /// Whether the cut is one between the island and the others. It takes no memory.
@@ -319,23 +250,23 @@ pub fn check_cut<C: Copper>(
     ensures { IsTrue result ↔ IsCut d.now lat.now (C.items c.now) island.now others.now cut.now }
 {
     c.in_order();
-    let nodes = &cut.reach.nodes;
+    let nodes = cut.reach.nodes.as_slice();
     if !is_named(island, cut) {
         return false;
     }
-    if !all_ascend(nodes) {
+    if !ascends(nodes) {
         return false;
     }
-    if !all_nodes(lat, nodes) {
+    if !all_below(nodes, lat.count()) {
         return false;
     }
-    if !holds_starts(lat, d, c, island, nodes) {
+    if !all_starts_in(lat, d, c, island.net, nodes, island.items.as_slice()) {
         return false;
     }
-    if !holds_no_goal(lat, d, c, others, nodes) {
+    if !islands_out(lat, d, c, nodes, others.as_slice()) {
         return false;
     }
-    has_border(lat, d, c, island.net, nodes, &cut.blocked)
+    has_border(lat, d, c, island.net, nodes, cut.blocked.as_slice())
 }
 
 /// Where a cut is, no legal walk leads from the island to one of the others. A law, on a call that does nothing.

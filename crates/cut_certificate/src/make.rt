@@ -1,16 +1,14 @@
 //! Cuts, made by a search that closed.
 //! No cut is made where legal moves lead on.
 
-ghost use Rattle.std.specs.Prelude.{◌≡◌, ◌<◌, ◌==◌, length, List as Seq, All, IfOk, slice_index};
+ghost use Rattle.std.specs.Prelude.{◌≡◌, ◌<◌, ◌==◌, length, List as Seq, IfOk, slice_index};
 ghost use Rattle.std.specs.List.{list_any};
 ghost use Rattle.pcb_islands.specs.declared.net.Island.{Island as OneIsland};
 ghost use Rattle.pcb_model.specs.Sound.{IsSound};
-ghost use Rattle.route_lattice.specs.Mesh.{node_count};
 ghost use Rattle.route_lattice.specs.Fits.{FitsDesign};
 ghost use Rattle.route_lattice.specs.Legal.{CanMove, legal_graph};
-ghost use Rattle.cut_certificate.specs.Border.{Closes};
 ghost use Rattle.cut_certificate.specs.Same.{SameMoves};
-ghost use Rattle.cut_certificate.specs.Cuts.{Cuts, CutsOff, IsShutBy, AreIdsOf, AreStarts, AreGoals, others_of};
+ghost use Rattle.cut_certificate.specs.Cuts.{Cuts, CutsOff, AreIdsOf, AreStarts, AreGoals, others_of};
 
 use crate::border::{Border, close};
 use crate::cut::Cut;
@@ -46,8 +44,7 @@ pub fn starts_of<C: Copper>(
     ensures { IfOk result (AreStarts d.now lat.now (C.items c.now) island.now) }
 {
     let anchors = anchors_among(alloc, lat, d, c, island.items.as_slice())?;
-    let starts = legal_among(alloc, lat, d, c, island.net, anchors.as_slice())?;
-    Ok(starts)
+    legal_among(alloc, lat, d, c, island.net, anchors.as_slice())
 }
 
 /// The nodes at which a walk to one of the islands may end: their anchors.
@@ -64,36 +61,7 @@ pub fn goals_of<C: Copper>(
     ensures { IfOk result (AreGoals d.now lat.now (C.items c.now) others.now) }
 {
     let ids = ids_of(alloc, others.as_slice())?;
-    let goals = anchors_among(alloc, lat, d, c, ids.as_slice())?;
-    Ok(goals)
-}
-
-/// The border of all that legal moves reach from the starts, or None where they reach a goal. `legal` has the legal
-/// moves.
-fn close_legal<C: Copper, M: Moves>(
-    alloc: Global,
-    lat: &Lattice,
-    d: &Design,
-    c: &C,
-    legal: &M,
-    net: u32,
-    via_cost: u64,
-    starts: &List<u32>,
-    goals: &List<u32>,
-) -> Result<Option<Border>, AllocError>
-    requires can_move { CanMove d.now lat.now net via_cost }
-    requires serves { C.serves c.now d.now }
-    requires ready { M.ready legal.now }
-    requires legal { SameMoves (M.graph legal.now) (legal_graph d.now lat.now (C.items c.now) net via_cost) }
-    requires starts { All (λ v. v < node_count lat.now) starts.now }
-    ensures { IfOk result
-        (Closes (legal_graph d.now lat.now (C.items c.now) net via_cost)
-        (IsShutBy d.now lat.now (C.items c.now) net) starts.now goals.now) }
-{
-    legal_graph_sound();
-    let moves = LegalMoves::of(lat, d, c, net, via_cost);
-    let border = close(alloc, &moves, legal, starts, goals)?;
-    Ok(border)
+    anchors_among(alloc, lat, d, c, ids.as_slice())
 }
 
 fn first_pin(island: &Island) -> u32
@@ -127,9 +95,10 @@ fn cut_between<C: Copper, M: Moves>(
     ensures { IfOk result (λ cut. (others : Seq OneIsland) → AreGoals d.now lat.now (C.items c.now) others goals.now
         → Cuts d.now lat.now (C.items c.now) via_cost island.now others cut) }
 {
-    let net = island.net;
     legal_graph_sound();
-    match close_legal(alloc, lat, d, c, legal, net, via_cost, starts, goals)? {
+    let net = island.net;
+    let moves = LegalMoves::of(lat, d, c, net, via_cost);
+    match close(alloc, &moves, legal, starts, goals)? {
         None => Ok(None),
         Some(Border { reach, blocked }) => Ok(Some(Cut {
             net,
@@ -187,7 +156,12 @@ pub fn make_cut_among<C: Copper>(
 fn has_pin(s: &Island, pin: u32) -> bool
     ensures { result ≡ list_any (λ p. p == pin) s.now.pins }
 {
-    s.pins.as_slice().iter().any(|p| *p == pin)
+    for p in s.pins.as_slice() {
+        if *p == pin {
+            return true;
+        }
+    }
+    false
 }
 
 /// The islands that don't have the first pin of the island.

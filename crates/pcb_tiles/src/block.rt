@@ -53,40 +53,28 @@ fn count_of(lo: i64, hi: i64) -> usize
     (tile_of(hi) - tile_of(lo)) as usize + 1
 }
 
-fn first_column(area: Rect4, bounds: Rect4, by: u64) -> usize
-    requires area { IsArea area }
-    requires bounds_within { IsBoxWithin (2 ^ 29) bounds }
+// The place of a coordinate less a distance.
+fn place_before(lo: i64, hi: i64, z: i64, by: u64) -> usize
+    requires rises { lo ≤ℤ hi }
+    requires lo_within { unsigned_abs lo ≤ 2 ^ 29 }
+    requires hi_within { unsigned_abs hi ≤ 2 ^ 29 }
+    requires z_within { unsigned_abs z ≤ 2 ^ 29 }
     requires by_within { by ≤ 2 ^ 29 }
-    ensures { result ≡ place_number area.x0 area.x1 (bounds.x0 -ℤ pos by) }
+    ensures { result ≡ place_number lo hi (z -ℤ pos by) }
 {
-    place_of(area.x0, area.x1, bounds.x0 - by as i64)
+    place_of(lo, hi, z - by as i64)
 }
 
-fn last_column(area: Rect4, bounds: Rect4, by: u64) -> usize
-    requires area { IsArea area }
-    requires bounds_within { IsBoxWithin (2 ^ 29) bounds }
+// The place of a coordinate and a distance more.
+fn place_after(lo: i64, hi: i64, z: i64, by: u64) -> usize
+    requires rises { lo ≤ℤ hi }
+    requires lo_within { unsigned_abs lo ≤ 2 ^ 29 }
+    requires hi_within { unsigned_abs hi ≤ 2 ^ 29 }
+    requires z_within { unsigned_abs z ≤ 2 ^ 29 }
     requires by_within { by ≤ 2 ^ 29 }
-    ensures { result ≡ place_number area.x0 area.x1 (bounds.x1 +ℤ pos by) }
+    ensures { result ≡ place_number lo hi (z +ℤ pos by) }
 {
-    place_of(area.x0, area.x1, bounds.x1 + by as i64)
-}
-
-fn first_row(area: Rect4, bounds: Rect4, by: u64) -> usize
-    requires area { IsArea area }
-    requires bounds_within { IsBoxWithin (2 ^ 29) bounds }
-    requires by_within { by ≤ 2 ^ 29 }
-    ensures { result ≡ place_number area.y0 area.y1 (bounds.y0 -ℤ pos by) }
-{
-    place_of(area.y0, area.y1, bounds.y0 - by as i64)
-}
-
-fn last_row(area: Rect4, bounds: Rect4, by: u64) -> usize
-    requires area { IsArea area }
-    requires bounds_within { IsBoxWithin (2 ^ 29) bounds }
-    requires by_within { by ≤ 2 ^ 29 }
-    ensures { result ≡ place_number area.y0 area.y1 (bounds.y1 +ℤ pos by) }
-{
-    place_of(area.y0, area.y1, bounds.y1 + by as i64)
+    place_of(lo, hi, z + by as i64)
 }
 
 /// The tiles that a box grown on each side meets.
@@ -97,13 +85,13 @@ pub(crate) fn block_around(area: Rect4, bounds: Rect4, by: u64) -> Block
     ensures of { IsBlockOf area bounds by result }
     ensures within { IsBlockIn area result }
 {
-    let column = first_column(area, bounds, by);
-    let row = first_row(area, bounds, by);
+    let column = place_before(area.x0, area.x1, bounds.x0, by);
+    let row = place_before(area.y0, area.y1, bounds.y0, by);
     Block {
         first_column: column,
-        last_column: last_column(area, bounds, by).max(column),
+        last_column: place_after(area.x0, area.x1, bounds.x1, by).max(column),
         first_row: row,
-        last_row: last_row(area, bounds, by).max(row),
+        last_row: place_after(area.y0, area.y1, bounds.y1, by).max(row),
     }
 }
 

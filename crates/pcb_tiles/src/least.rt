@@ -211,38 +211,7 @@ pub(crate) fn grid_with(
     let _ = reach;
     let b = own_block_of(area, a.get());
     let e = Entry::of_item(a)?;
-    let changed = change_grid(alloc, &Change::Put(e), &b, grid)?;
-    Ok(changed)
-}
-
-/// The tiles without an item that is held.
-pub(crate) fn grid_without(
-    alloc: Global,
-    area: Rect4,
-    reach: u64,
-    shelf: &Shelf,
-    grid: &Grid,
-    a: &Item,
-) -> Result<Grid, AllocError>
-    requires spread { IsSpread area reach shelf.now grid.now }
-    requires only { All (λ b. b.id ≡ a.now.id → b ≡ a.now) (flat shelf.now) }
-    requires fits { IsItemFit a.now }
-    ensures { IfOk result (λ g. g ≡ grid_of area (without_item a.now.id (flat shelf.now))) }
-{
-    let _ = shelf;
-    let _ = reach;
-    let b = own_block_of(area, a);
-    let changed = change_grid(alloc, &Change::Drop(a.id), &b, grid)?;
-    Ok(changed)
-}
-
-// A shared copy of an item.
-fn held_copy(alloc: Global, a: &Item) -> Result<Shared<Item>, AllocError>
-    ensures { IfOk result (λ h. h ≡ a.now) }
-{
-    let copy = copy_item(alloc, a)?;
-    let held = Shared::new(alloc, copy)?;
-    Ok(held)
+    change_grid(alloc, &Change::Put(e), &b, grid)
 }
 
 // The items and the tiles with one more item.
@@ -282,7 +251,7 @@ pub(crate) fn with_more(
     ensures items { IfOk result (λ p. flat p.0 ≡ with_item a.now (flat shelf.now)) }
     ensures spread { IfOk result (λ p. IsSpread area reach p.0 p.1) }
 {
-    let held = held_copy(alloc, a)?;
+    let held = Shared::new(alloc, copy_item(alloc, a)?)?;
     with_held(alloc, area, reach, shelf, grid, &held)
 }
 
@@ -301,7 +270,9 @@ pub(crate) fn with_less(
     ensures items { IfOk result (λ p. flat p.0 ≡ without_item a.now.id (flat shelf.now)) }
     ensures spread { IfOk result (λ p. IsSpread area reach p.0 p.1) }
 {
-    let after = grid_without(alloc, area, reach, shelf, grid, a)?;
+    let _ = reach;
+    let b = own_block_of(area, a);
+    let after = change_grid(alloc, &Change::Drop(a.id), &b, grid)?;
     let list = take(alloc, a.id, shelf.get().as_slice())?;
     let kept = Shared::new(alloc, list)?;
     Ok((kept, after))

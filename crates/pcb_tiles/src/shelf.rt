@@ -1,7 +1,7 @@
 //! A shelf: all items in order of id, each shared, in chunks of at most 128 of which none is empty.
 //! A change copies one chunk and the list of chunks, and shares all that stays.
 
-ghost use Rattle.std.specs.Prelude.{◌≡◌, ℕ, ◌≤◌, ◌<◌, ◌+◌, [], ◌∷◌, ◌++◌, All, Contains, IfOk, MatchOption, drop};
+ghost use Rattle.std.specs.Prelude.{◌≡◌, ℕ, ◌≤◌, ◌<◌, ◌+◌, [], ◌++◌, All, Contains, IfOk, MatchOption, drop};
 ghost use Rattle.std.specs.Prelude.{filter, length, ltb, slice_index_or, suc, take as first_of};
 ghost use Rattle.std.specs.Option.{option_copied};
 ghost use Rattle.pcb_model.specs.declared.item.Item.{Item as OneItem};
@@ -77,18 +77,6 @@ fn chunk_at(chunks: &[Chunk], k: usize) -> &[Shared<Item>]
     }
 }
 
-// The first item of a chunk from an id on.
-fn first_in(items: &[Shared<Item>], from: u64) -> Option<&Item>
-    requires { Ascends items.now }
-    ensures { MatchOption (option_copied result) (All (λ b. b.id < from) items.now) (IsFirstFrom from items.now) }
-{
-    let i = place_of(items, from);
-    if i == items.len() {
-        return None;
-    }
-    Some(items[i].get())
-}
-
 /// The item of the least id at or above `from`, or None exactly where there is none.
 pub(crate) fn first_from(chunks: &[Chunk], from: u64) -> Option<&Item>
     requires ascends { Ascends (flat chunks.now) }
@@ -96,8 +84,12 @@ pub(crate) fn first_from(chunks: &[Chunk], from: u64) -> Option<&Item>
     ensures { MatchOption (option_copied result) (All (λ b. b.id < from) (flat chunks.now))
         (IsFirstFrom from (flat chunks.now)) }
 {
-    let k = home_of(chunks, from);
-    first_in(chunk_at(chunks, k), from)
+    let items = chunk_at(chunks, home_of(chunks, from));
+    let i = place_of(items, from);
+    if i == items.len() {
+        return None;
+    }
+    Some(items[i].get())
 }
 
 fn share_all(chunks: &[Chunk], all: &mut List<Chunk>) -> Result<(), AllocError>
@@ -107,13 +99,6 @@ fn share_all(chunks: &[Chunk], all: &mut List<Chunk>) -> Result<(), AllocError>
         all.push(c.share()?)?;
     }
     Ok(())
-}
-
-fn before(chunks: &[Chunk], k: usize) -> &[Chunk]
-    requires { k ≤ length chunks.now }
-    ensures { result.now ≡ first_of k chunks.now }
-{
-    &chunks[..k]
 }
 
 fn after(chunks: &[Chunk], k: usize) -> &[Chunk]
@@ -137,7 +122,7 @@ fn replaced(
     ensures { IfOk result (λ s. s ≡ first_of k chunks.now ++ (by.now ++ drop (suc k) chunks.now)) }
 {
     let mut all = List::new(alloc);
-    share_all(before(chunks, k), &mut all)?;
+    share_all(&chunks[..k], &mut all)?;
     share_all(by, &mut all)?;
     share_all(after(chunks, k), &mut all)?;
     Ok(all)
@@ -160,17 +145,6 @@ fn add_chunk(
     Ok(())
 }
 
-// Puts one item behind those of chunks, as a chunk of its own.
-fn add_last(alloc: Global, last: Shared<Item>, chunks: &mut List<Chunk>) -> Result<(), AllocError>
-    requires chunks { All IsChunk chunks.old }
-    ensures items { IfOk result (λ _. flat chunks.new ≡ flat chunks.old ++ last ∷ []) }
-    ensures chunks { IfOk result (λ _. All IsChunk chunks.new) }
-{
-    let mut end = List::new(alloc);
-    end.push(last)?;
-    add_chunk(alloc, end, chunks)
-}
-
 // Puts some items behind those of chunks: as one chunk, or two where they are one too many for one.
 fn add_cut(
     alloc: Global,
@@ -190,7 +164,9 @@ fn add_cut(
         return Ok(());
     };
     add_chunk(alloc, items, chunks)?;
-    add_last(alloc, last, chunks)
+    let mut end = List::new(alloc);
+    end.push(last)?;
+    add_chunk(alloc, end, chunks)
 }
 
 // The chunks of some items: two where they are one too many for one.
@@ -279,8 +255,7 @@ pub(crate) fn put(
     let k = room_of(chunks, a.get().id);
     let items = put_in(alloc, a, chunk_at(chunks, k))?;
     let changed = cut(alloc, items)?;
-    let all = replaced(alloc, chunks, k, changed.as_slice())?;
-    Ok(all)
+    replaced(alloc, chunks, k, changed.as_slice())
 }
 
 /// The items without the one of this id.
@@ -293,8 +268,7 @@ pub(crate) fn take(alloc: Global, id: u64, chunks: &[Chunk]) -> Result<List<Chun
     let k = room_of(chunks, id);
     let items = take_from(alloc, id, chunk_at(chunks, k))?;
     let changed = cut(alloc, items)?;
-    let all = replaced(alloc, chunks, k, changed.as_slice())?;
-    Ok(all)
+    replaced(alloc, chunks, k, changed.as_slice())
 }
 
 /// The item of this id, or None exactly where there is none.

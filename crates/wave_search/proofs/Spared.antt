@@ -1,8 +1,7 @@
 -- What spares searches: how loops begin and end, and sizes after writes.
-use Rattle.std.proofs.Common.{◌≡◌, ℕ, ◌+◌, ◌<◌, ◌≤◌, List, [], ◌∷◌, length, take, Option, reverse, refl, sym, ap, subst}
-use Rattle.std.proofs.Common.{arith, ℤ, pos, ◌-ℤ◌, ◌<ℤ◌, ◌≤ℤ◌, ◌^◌, ◌∙◌, ◌++◌, ap₂, unsigned_abs, cond, true}
+use Rattle.std.proofs.Common.{◌≡◌, ℕ, ◌≤◌, List, [], ◌∷◌, length, take, Option, reverse, refl, sym, ap, subst}
+use Rattle.std.proofs.Common.{arith, ℤ, pos, ◌-ℤ◌, ◌^◌, ◌∙◌, ◌++◌, ap₂, unsigned_abs, true}
 use Rattle.std.specs.Prelude.{int_lt}
-use Rattle.std.specs.Int.{int_max}
 use Rattle.std.proofs.lemmas.Bool.{cond-true}
 use Rattle.std.proofs.Math.ListN.{set, length-set}
 use Rattle.std.proofs.lemmas.Int.{ints}

@@ -1,6 +1,6 @@
 -- A walk is built from its end, or from its start.
 use Rattle.std.proofs.Common.{◌≡◌, ℕ, ◌+◌, ◌<◌, List, [], ◌∷◌, ◌++◌, map, reverse, Option, Some, None, refl, sym, ap}
-use Rattle.std.proofs.Common.{◌∙◌, subst, arith}
+use Rattle.std.proofs.Common.{◌∙◌, subst, arith, is_some, false}
 use Rattle.std.specs.Prelude.{Contains}
 use Rattle.std.proofs.lemmas.List.{reverse-append, map-append}
 use Rattle.wave_search.specs.declared.rows.Label.{Label}
@@ -107,6 +107,10 @@ pub record Passed (graph : MoveGraph) (starts : List ℕ) (nodes : List ℕ) (mo
 cost_more : (hs : List Hop) (h : Hop) → cost (hs ++ h ∷ []) ≡ cost hs + h.price
 cost_more [] h = omega arith
 cost_more (k ∷ hs) h = omega (arith, cost_more hs h)
+
+pub none_of : (o : Option ℕ) → is_some o ≡ false → o ≡ None
+none_of None e = refl
+none_of (Some x) e = cc
 
 -- a start is a walk of no moves
 pub begun : (graph : MoveGraph) (starts : List ℕ) (t : List (Option Label)) → Roots graph starts t → (v : ℕ) (l : Label)

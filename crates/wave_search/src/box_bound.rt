@@ -12,7 +12,7 @@ ghost use Rattle.pcb_model.specs.declared.item.Item.{Item as OneItem};
 ghost use Rattle.route_lattice.specs.Legal.{legal_graph, CanMove};
 ghost use Rattle.route_lattice.specs.Mesh.{Mesh};
 ghost use Rattle.route_lattice.specs.Parts.{IsBoxWithin};
-ghost use Rattle.wave_search.specs.Around.{AreLinesWithin, box_at, widened, IsHeldBy, AreAround, above_by};
+ghost use Rattle.wave_search.specs.Around.{AreLinesWithin, box_at, IsHeldBy, AreAround, above_by};
 ghost use Rattle.wave_search.specs.Around.{outside_of, way_to as way_to_box, way_to_nearest, low_at};
 ghost use Rattle.wave_search.specs.Bounds.{IsBound};
 
@@ -161,16 +161,6 @@ fn take_in_nodes(boxes: &mut Vec<Rect4>, lat: &Lattice, nodes: &[u32]) -> Result
     Ok(())
 }
 
-/// Boxes around those of the numbers that are nodes.
-fn boxes_of_nodes(alloc: Global, lat: &Lattice, nodes: &[u32]) -> Result<Vec<Rect4>, AllocError>
-    requires { AreLinesWithin lat.now }
-    ensures { IfOk result (λ boxes. AreAround lat.now nodes.now boxes.items) }
-{
-    let mut boxes = Vec::new(alloc);
-    take_in_nodes(&mut boxes, lat, nodes)?;
-    Ok(boxes)
-}
-
 /// The distance of a node's point from the nearest of the boxes of the goals, as a sum over x and y, in nm.
 #[derive(Drop)]
 pub struct BoxBound<'a> {
@@ -191,7 +181,8 @@ impl<'a> BoxBound<'a> {
         ensures lat { IfOk result (λ b. b.lat.now ≡ lat.now) }
         ensures around { IfOk result (λ b. AreAround lat.now goals.now b.boxes) }
     {
-        let boxes = boxes_of_nodes(alloc, lat, goals.as_slice())?;
+        let mut boxes = Vec::new(alloc);
+        take_in_nodes(&mut boxes, lat, goals.as_slice())?;
         Ok(BoxBound {
             lat,
             boxes: List::from_vec(boxes),

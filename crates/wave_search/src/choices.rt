@@ -8,13 +8,13 @@ use std::alloc::{AllocError, Global};
 const NO_SLOT: u32 = u32::MAX;
 
 /// Where the way of a goal leads.
-const NO_NODE: u32 = u32::MAX;
+pub(crate) const NO_NODE: u32 = u32::MAX;
 
 /// The cost of no way.
 const NO_WAY: u32 = u32::MAX;
 
 /// The greatest cost that is kept.
-const MOST: u32 = u32::MAX - 1;
+pub(crate) const MOST: u32 = u32::MAX - 1;
 
 /// A way on from a node to a goal: the node that its first move leads to, the heading there, and its cost by the rule.
 #[derive(Clone, Copy)]
@@ -37,7 +37,8 @@ pub(crate) struct Start {
 pub(crate) struct Choices {
     slots: Vec<u32>,
     ways: Vec<Way>,
-    start: Option<Start>,
+    /// Where a walk begins, if any way on leads from a start.
+    pub start: Option<Start>,
     start_cost: u32,
 }
 
@@ -48,20 +49,6 @@ fn place_of(slot: u32, heading: Heading) -> usize {
         Heading::Up => first + 1,
         Heading::Elsewhere => first + 2,
     }
-}
-
-fn no_way() -> Way {
-    Way {
-        to: NO_NODE,
-        then: Heading::Elsewhere,
-        cost: NO_WAY,
-    }
-}
-
-/// The sum of two costs, as far as it is kept.
-pub(crate) fn cost_with(way: Way, cost: u64) -> u32 {
-    let sum = cost.saturating_add(way.cost as u64);
-    if sum < MOST as u64 { sum as u32 } else { MOST }
 }
 
 impl Choices {
@@ -105,27 +92,6 @@ impl Choices {
         Some(way)
     }
 
-    /// Where a start's walk begins, if any way on leads from a start.
-    pub(crate) fn start(&self) -> Option<Start> {
-        self.start
-    }
-
-    /// The slot of a rank, which gets one if it has none.
-    fn room(&mut self, rank: u32) -> Result<u32, AllocError> {
-        let old = self.slot(rank as usize);
-        if old != NO_SLOT {
-            return Ok(old);
-        }
-        let new = u32::try_from(self.ways.len()).unwrap_or(NO_SLOT);
-        self.ways.push(no_way())?;
-        self.ways.push(no_way())?;
-        self.ways.push(no_way())?;
-        if let Some(slot) = self.slots.get_mut(rank as usize) {
-            *slot = new;
-        }
-        Ok(new)
-    }
-
     /// A way on of that heading from the node of that rank, which is kept if it is the best.
     pub(crate) fn offer(
         &mut self,
@@ -133,7 +99,19 @@ impl Choices {
         heading: Heading,
         way: Way,
     ) -> Result<(), AllocError> {
-        let slot = self.room(rank)?;
+        let mut slot = self.slot(rank as usize);
+        if slot == NO_SLOT {
+            slot = u32::try_from(self.ways.len()).unwrap_or(NO_SLOT);
+            let none = Way {
+                to: NO_NODE,
+                then: Heading::Elsewhere,
+                cost: NO_WAY,
+            };
+            self.ways.extend_from_slice(&[none, none, none])?;
+            if let Some(place) = self.slots.get_mut(rank as usize) {
+                *place = slot;
+            }
+        }
         if let Some(kept) = self.ways.get_mut(place_of(slot, heading))
             && way.cost < kept.cost
         {
@@ -142,30 +120,13 @@ impl Choices {
         Ok(())
     }
 
-    /// A goal of that rank: its walk ends there.
-    pub(crate) fn offer_goal(&mut self, rank: u32) -> Result<(), AllocError> {
-        let then = Heading::Elsewhere;
-        let end = Way {
-            to: NO_NODE,
-            then,
-            cost: 0,
-        };
-        self.offer(rank, then, end)
-    }
-
-    fn start_by(&mut self, node: u32, rank: u32, heading: Heading) {
+    /// A start, whose way on of that heading is known by now.
+    pub(crate) fn start_by(&mut self, node: u32, rank: u32, heading: Heading) {
         if let Some(way) = self.way(rank, heading)
             && way.cost < self.start_cost
         {
             self.start = Some(Start { node, heading });
             self.start_cost = way.cost;
         }
-    }
-
-    /// A start, whose ways on are known by now.
-    pub(crate) fn offer_start(&mut self, node: u32, rank: u32) {
-        self.start_by(node, rank, Heading::Across);
-        self.start_by(node, rank, Heading::Up);
-        self.start_by(node, rank, Heading::Elsewhere);
     }
 }

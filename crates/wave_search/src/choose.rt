@@ -8,13 +8,13 @@ ghost use Rattle.wave_search.specs.declared.rows.Label.{Label as TheLabel};
 ghost use Rattle.wave_search.specs.State.{label_at};
 
 use crate::bound::Bound;
-use crate::choices::{Choices, Way, cost_with};
+use crate::choices::{Choices, MOST, NO_NODE, Way};
 use crate::labels::Labels;
 use crate::rows::Label;
 use crate::task::Task;
 use crate::ties::{Heading, Ties, heading_of};
 use route_lattice::{Move, Moves};
-use std::alloc::{AllocError, Global};
+use std::alloc::AllocError;
 
 /// A node and its label.
 #[derive(Clone, Copy)]
@@ -38,7 +38,7 @@ fn better_of(first: Option<Way>, second: Option<Way>) -> Option<Way> {
 }
 
 /// Whether a pass asks of each move if it is open, or takes it to be: a walk that it leads to is asked of in any case.
-#[derive(Clone, Copy, PartialEq, Eq)]
+#[derive(Clone, Copy)]
 pub(crate) enum Openness {
     Taken,
     Asked,
@@ -56,19 +56,13 @@ impl<'a, M: Moves, B: Bound, T: Ties> Task<'a, M, B, T> {
     ) -> Option<Way> {
         let way = choices.way(to.label.rank, heading)?;
         let price = to.label.price.saturating_sub(from.label.price);
+        let cost = self.ties.cost(from.node, m, price, heading);
+        let sum = cost.saturating_add(way.cost as u64);
         Some(Way {
             to: to.node,
             then: heading,
-            cost: cost_with(way, self.ties.cost(from.node, m, price, heading)),
+            cost: if sum < MOST as u64 { sum as u32 } else { MOST },
         })
-    }
-
-    /// The best way on over a tight move.
-    fn best_over(&self, choices: &Choices, from: Place, m: Move, to: Place) -> Option<Way> {
-        let across = self.way_over(choices, from, m, to, Heading::Across);
-        let up = self.way_over(choices, from, m, to, Heading::Up);
-        let elsewhere = self.way_over(choices, from, m, to, Heading::Elsewhere);
-        better_of(better_of(across, up), elsewhere)
     }
 
     /// The first move from one node to another; move `guess` is tried before all.
@@ -114,7 +108,10 @@ impl<'a, M: Moves, B: Bound, T: Ties> Task<'a, M, B, T> {
         let Some(m) = found else {
             return Ok(());
         };
-        let Some(way) = self.best_over(choices, from, m, to) else {
+        let across = self.way_over(choices, from, m, to, Heading::Across);
+        let up = self.way_over(choices, from, m, to, Heading::Up);
+        let elsewhere = self.way_over(choices, from, m, to, Heading::Elsewhere);
+        let Some(way) = better_of(better_of(across, up), elsewhere) else {
             return Ok(());
         };
         choices.offer(from.label.rank, heading_of(m), way)
@@ -144,39 +141,12 @@ impl<'a, M: Moves, B: Bound, T: Ties> Task<'a, M, B, T> {
             return Ok(());
         };
         if !is_before(label, to.label)
-            || label.price > to.label.price
             || to.label.origin == Some(node)
-            || label.price.wrapping_add(self.m.price(to.node, i)) != to.label.price
+            || label.price.saturating_add(self.m.price(to.node, i)) != to.label.price
         {
             return Ok(());
         }
         self.choose_from(choices, Place { node, label }, to, i ^ 1, openness)
-    }
-
-    /// The ways on from the nodes before a node. The one that its label came from is known to lead to it.
-    fn choose_before(
-        &self,
-        table: &Labels,
-        choices: &mut Choices,
-        to: Place,
-        openness: Openness,
-    ) -> Result<(), AllocError>
-        requires ready { M.ready self.now.m.now }
-        requires sound { IsSound (M.graph self.now.m.now) }
-        requires size { length table.now ≡ (M.graph self.now.m.now).count }
-        requires small { (v : ℕ) (l : TheLabel) → label_at table.now v ≡ Some l → l.price < 2 ^ 60 }
-        requires node { to.node < (M.graph self.now.m.now).count }
-    {
-        if let Some(node) = to.label.origin
-            && let Some(label) = self.label_after(table, 0, node)
-            && is_before(label, to.label)
-        {
-            self.choose_from(choices, Place { node, label }, to, 0, Openness::Taken)?;
-        }
-        for i in 0..self.m.arity() {
-            self.choose_over(table, choices, to, i, openness)?;
-        }
-        Ok(())
     }
 
     /// The goals that are done at the price: walks end there.
@@ -192,13 +162,19 @@ impl<'a, M: Moves, B: Bound, T: Ties> Task<'a, M, B, T> {
             if let Some(label) = self.label_after(table, 0, *goal)
                 && label.price == price
             {
-                choices.offer_goal(label.rank)?;
+                let end = Way {
+                    to: NO_NODE,
+                    then: Heading::Elsewhere,
+                    cost: 0,
+                };
+                choices.offer(label.rank, Heading::Elsewhere, end)?;
             }
         }
         Ok(())
     }
 
-    /// The ways on from the nodes before a node that has ways on itself.
+    /// The ways on from the nodes before a node that has ways on itself. The node that its label came from is known to
+    /// lead to it.
     fn choose_at(
         &self,
         table: &Labels,
@@ -214,35 +190,49 @@ impl<'a, M: Moves, B: Bound, T: Ties> Task<'a, M, B, T> {
         let Some(label) = self.label_after(table, 0, node) else {
             return Ok(());
         };
-        if label.origin.is_none() {
-            choices.offer_start(node, label.rank);
+        let Some(before) = label.origin else {
+            choices.start_by(node, label.rank, Heading::Across);
+            choices.start_by(node, label.rank, Heading::Up);
+            choices.start_by(node, label.rank, Heading::Elsewhere);
             return Ok(());
+        };
+        let to = Place { node, label };
+        if let Some(label) = self.label_after(table, 0, before)
+            && is_before(label, to.label)
+        {
+            let from = Place {
+                node: before,
+                label,
+            };
+            self.choose_from(choices, from, to, 0, Openness::Taken)?;
         }
-        self.choose_before(table, choices, Place { node, label }, openness)
+        for i in 0..self.m.arity() {
+            self.choose_over(table, choices, to, i, openness)?;
+        }
+        Ok(())
     }
 
-    /// The ways on from the nodes that are done, which are given in the order in which they were, to goals at the
+    /// Adds the ways on from the nodes that are done, which are given in the order in which they were, to goals at the
     /// price.
     pub(crate) fn choose(
         &self,
-        alloc: Global,
         table: &Labels,
+        choices: &mut Choices,
         order: &[u32],
         price: u64,
         openness: Openness,
-    ) -> Result<Choices, AllocError>
+    ) -> Result<(), AllocError>
         requires ready { M.ready self.now.m.now }
         requires sound { IsSound (M.graph self.now.m.now) }
         requires size { length table.now ≡ (M.graph self.now.m.now).count }
         requires small { (v : ℕ) (l : TheLabel) → label_at table.now v ≡ Some l → l.price < 2 ^ 60 }
     {
-        let mut choices = Choices::new(alloc, order.len())?;
-        self.choose_ends(table, &mut choices, price)?;
+        self.choose_ends(table, choices, price)?;
         for k in (0..order.len()).rev() {
             if choices.has(k + 1) {
-                self.choose_at(table, &mut choices, order[k], openness)?;
+                self.choose_at(table, choices, order[k], openness)?;
             }
         }
-        Ok(choices)
+        Ok(())
     }
 }

@@ -1,12 +1,11 @@
 //! The front of a search: entries that wait, of which one with the least key comes out first.
 //! Contracts see it as a list of entries of which only membership is told.
 
-ghost use Rattle.std.specs.Prelude.{◌≡◌, ◌≤◌, ◌++◌, [], OnOk, OnErr, IfOk, MatchOption};
+ghost use Rattle.std.specs.Prelude.{◌≡◌, ◌++◌, [], OnOk, OnErr, IfOk, MatchOption};
 ghost use Rattle.std.specs.Bool.{OnTrue};
-ghost use Rattle.wave_search.specs.declared.front.Entry.{Entry as OneEntry};
-ghost use Rattle.wave_search.specs.Waiting.{Waits, IsAdded, IsDrawn, IsTaken, IsSame};
+ghost use Rattle.wave_search.specs.Waiting.{IsAdded, IsTaken, IsSame};
 ghost use Rattle.wave_search.specs.Order.{entry_of, entries_of, IsOrdered};
-ghost use Rattle.wave_search.specs.Ready.{IsReady, far_of, all_of};
+ghost use Rattle.wave_search.specs.Ready.{IsReady, all_of};
 
 use crate::bins::{Bin, Item};
 use std::alloc::{AllocError, Global};
@@ -82,20 +81,13 @@ fn empty_into(near: &mut BinaryHeap<Reverse<Item>>, bin: &mut Bin) -> Result<(),
 }
 
 impl Parts {
-    /// A bound from below on the keys of all that isn't in the heap.
-    fn far_least(&self) -> u64
-        ensures { (e : OneEntry) → Waits (far_of self.now) e → result ≤ e.key }
-    {
-        let first = self.next.least().min(self.later.least());
-        let second = self.last.least().min(self.spare.least());
-        first.min(second)
-    }
-
     /// Whether the heap has an entry whose key is below all that isn't in it.
     fn is_ready(&self) -> bool
         ensures { OnTrue result (IsReady self.now) }
     {
-        let least = self.far_least();
+        let first = self.next.least().min(self.later.least());
+        let second = self.last.least().min(self.spare.least());
+        let least = first.min(second);
         let Some(top) = self.near.peek() else {
             return false;
         };
@@ -117,14 +109,11 @@ impl Parts {
             self.near.push(Reverse(item))?;
             Ok(())
         } else if item.key >> NEXT == self.at >> NEXT {
-            self.next.push(item)?;
-            Ok(())
+            self.next.push(item)
         } else if item.key >> LATER == self.at >> LATER {
-            self.later.push(item)?;
-            Ok(())
+            self.later.push(item)
         } else {
-            self.last.push(item)?;
-            Ok(())
+            self.last.push(item)
         }
     }
 

@@ -60,7 +60,7 @@ impl Labels {
         ensures ok { OnOk result (IsPut self.old v label self.new) }
         ensures size { length self.new ≡ length self.old }
     {
-        if self.unlisted || self.rows.has(v) {
+        if self.unlisted || self.rows.get(v).is_some() {
             self.rows.put(v, label);
             return Ok(());
         }

@@ -1,7 +1,6 @@
 //! The labels of nodes as they are kept, in 16 bytes a node.
 
 ghost use Rattle.std.specs.Prelude.{◌≡◌, ℕ, ◌<◌, ◌^◌, length, IfOk, None, IfSome};
-ghost use Rattle.std.specs.Option.{is_some};
 ghost use Rattle.wave_search.specs.Rows.{row_label};
 ghost use Rattle.wave_search.specs.State.{label_at, IsPut, IsListed};
 
@@ -116,14 +115,6 @@ impl Rows {
         label_of(self.rows[v as usize])
     }
 
-    /// Whether a node has a label.
-    pub(crate) fn has(&self, v: u32) -> bool
-        requires { v < length self.now }
-        ensures { result ≡ is_some (label_at self.now v) }
-    {
-        self.get(v).is_some()
-    }
-
     /// Gives a node a label.
     pub(crate) fn put(&mut self, v: u32, label: Label)
         requires node { v < length self.old }
@@ -158,7 +149,7 @@ impl Rows {
     {
         let mut nodes = Vec::new(alloc);
         for v in 0..self.rows.len() as u32 {
-            if self.has(v) {
+            if self.get(v).is_some() {
                 nodes.push(v)?;
             }
         }

@@ -12,6 +12,7 @@ ghost use Rattle.wave_search.specs.State.{IsPut, entry};
 ghost use Rattle.wave_search.specs.Waiting.{IsAdded};
 
 use crate::bound::Bound;
+use crate::choices::Choices;
 use crate::choose::Openness;
 use crate::front::{Entry, Front};
 use crate::labels::Labels;
@@ -88,13 +89,9 @@ pub(crate) struct Task<'a, M: Moves, B: Bound, T: Ties> {
 }
 
 impl<'a, M: Moves, B: Bound, T: Ties> Task<'a, M, B, T> {
-    /// What tells apart nodes that wait under one key: the one nearest to the goals comes first. Where a rule of ties
-    /// chooses, the one of least price does, so that a node is done after all that come before it on a least walk.
-    fn among_equals(&self, price: u64, low: u64) -> u64 {
-        if self.ties.tells() { price } else { low }
-    }
-
-    /// Gives a node a label, with which it waits.
+    /// Gives a node a label, with which it waits. Of nodes that wait under one key the one nearest to the goals comes
+    /// first. Where a rule of ties chooses, the one of least price does, so that a node is done after all that come
+    /// before it on a least walk.
     fn let_wait(
         &self,
         table: &mut Labels,
@@ -114,7 +111,7 @@ impl<'a, M: Moves, B: Bound, T: Ties> Task<'a, M, B, T> {
         table.put(node, label)?;
         let low = self.b.low(node);
         let key = label.price + low;
-        let order = self.among_equals(label.price, low);
+        let order = if self.ties.tells() { label.price } else { low };
         front.push(Entry { key, node }, order)
     }
 
@@ -232,30 +229,34 @@ impl<'a, M: Moves, B: Bound, T: Ties> Task<'a, M, B, T> {
         Ok(())
     }
 
-    /// Goes on until each node whose key is at most the limit is done. No node is a goal.
+    /// Goes on from a node that was done last until each node whose key is at most its price is done. No node is a
+    /// goal.
     fn settle(
         &self,
         table: &mut Labels,
         front: &mut Front,
         order: &mut Vec<u32>,
-        done: u32,
-        limit: u64,
+        node: u32,
+        last: Label,
     ) -> Result<(), AllocError>
         requires ready { M.ready self.now.m.now }
         requires sound { IsSound (M.graph self.now.m.now) }
         requires bound { IsBound (M.graph self.now.m.now) self.now.goals.now (B.low_of self.now.b.now) }
         requires no_goals { self.now.goals.now ≡ [] }
-        requires state { (level : ℕ)
-            × IsState (M.graph self.now.m.now) self.now.starts.now self.now.goals.now
-            (B.low_of self.now.b.now) table.old front.old level done 0 (M.graph self.now.m.now).arity }
+        requires there { label_at table.old node ≡ Some last }
+        requires is_done { 0 < last.rank }
+        requires state { IsState (M.graph self.now.m.now) self.now.starts.now self.now.goals.now
+            (B.low_of self.now.b.now) table.old front.old
+            (last.price + B.low_of self.now.b.now node) last.rank node 0 }
         ensures kept { OnOk result (KeepsDone table.old table.new) }
         ensures roots { OnOk result (Roots (M.graph self.now.m.now) self.now.starts.now table.new) }
         ensures small { OnOk result ((v : ℕ) (l : TheLabel) → label_at table.new v ≡ Some l → l.price < 2 ^ 60) }
         ensures size { length table.new ≡ length table.old }
     {
-        let mut finished = done;
+        self.relax(table, front, node, last)?;
+        let mut finished = last.rank;
         'settle: while let Some(entry) = front.pop()? {
-            if entry.key > limit {
+            if entry.key > last.price {
                 return Ok(());
             }
             let Some(found) = waiting(table, entry.node) else {
@@ -270,35 +271,6 @@ impl<'a, M: Moves, B: Bound, T: Ties> Task<'a, M, B, T> {
             finished += 1;
             self.relax(table, front, entry.node, label)?;
         }
-        Ok(())
-    }
-
-    /// Goes on from a node that was done last until each node whose key is at most its price is done. No node is a
-    /// goal.
-    fn settle_from(
-        &self,
-        table: &mut Labels,
-        front: &mut Front,
-        order: &mut Vec<u32>,
-        node: u32,
-        label: Label,
-    ) -> Result<(), AllocError>
-        requires ready { M.ready self.now.m.now }
-        requires sound { IsSound (M.graph self.now.m.now) }
-        requires bound { IsBound (M.graph self.now.m.now) self.now.goals.now (B.low_of self.now.b.now) }
-        requires no_goals { self.now.goals.now ≡ [] }
-        requires there { label_at table.old node ≡ Some label }
-        requires is_done { 0 < label.rank }
-        requires state { IsState (M.graph self.now.m.now) self.now.starts.now self.now.goals.now
-            (B.low_of self.now.b.now) table.old front.old
-            (label.price + B.low_of self.now.b.now node) label.rank node 0 }
-        ensures kept { OnOk result (KeepsDone table.old table.new) }
-        ensures roots { OnOk result (Roots (M.graph self.now.m.now) self.now.starts.now table.new) }
-        ensures small { OnOk result ((v : ℕ) (l : TheLabel) → label_at table.new v ≡ Some l → l.price < 2 ^ 60) }
-        ensures size { length table.new ≡ length table.old }
-    {
-        self.relax(table, front, node, label)?;
-        self.settle(table, front, order, label.rank, label.price)?;
         Ok(())
     }
 
@@ -334,7 +306,7 @@ impl<'a, M: Moves, B: Bound, T: Ties> Task<'a, M, B, T> {
             goals: &none,
             marks: self.marks,
         };
-        rest.settle_from(table, front, order, node, label)
+        rest.settle(table, front, order, node, label)
     }
 
     /// A walk to a goal at the price that costs little by the rule of ties, if the pass of the rule leads to one.
@@ -355,46 +327,17 @@ impl<'a, M: Moves, B: Bound, T: Ties> Task<'a, M, B, T> {
             (λ o. IfSome o (λ w. IsWalk (M.graph self.now.m.now) self.now.starts.now self.now.goals.now w
             × (w.price ≡ price))) }
     {
-        let choices = self.choose(alloc, table, order, price, openness)?;
-        let Some(start) = choices.start() else {
+        let mut choices = Choices::new(alloc, order.len())?;
+        self.choose(table, &mut choices, order, price, openness)?;
+        let Some(start) = choices.start else {
             return Ok(None);
         };
         self.follow(alloc, table, &choices, start, price)
     }
 
-    /// A walk to a goal that is done, at its price; the nodes that are done stand in their order. Nearly all moves that
-    /// the labels allow are open, so a walk is sought as if all were, and again by asking of each where that one isn't
-    /// open.
-    fn walk_to(
-        &self,
-        alloc: Global,
-        table: &Labels,
-        order: &[u32],
-        node: u32,
-        label: Label,
-    ) -> Result<Walk, AllocError>
-        requires ready { M.ready self.now.m.now }
-        requires sound { IsSound (M.graph self.now.m.now) }
-        requires marked { (v : ℕ) → (Contains self.now.marks.now v ↔ Contains self.now.goals.now v) }
-        requires roots { Roots (M.graph self.now.m.now) self.now.starts.now table.now }
-        requires small { (v : ℕ) (l : TheLabel) → label_at table.now v ≡ Some l → l.price < 2 ^ 60 }
-        requires there { label_at table.now node ≡ Some label }
-        requires is_done { 0 < label.rank }
-        requires goal { Contains self.now.goals.now node }
-        ensures walk { IfOk result (IsWalk (M.graph self.now.m.now) self.now.starts.now self.now.goals.now) }
-        ensures price { IfOk result (λ w. w.price ≡ label.price) }
-    {
-        if let Some(walk) = self.chosen_walk(alloc, table, order, label.price, Openness::Taken)? {
-            return Ok(walk);
-        }
-        if let Some(walk) = self.chosen_walk(alloc, table, order, label.price, Openness::Asked)? {
-            return Ok(walk);
-        }
-        self.trace(alloc, table, node, label)
-    }
-
     /// The walk to a goal that is done last. Where a rule of ties chooses among walks, the search goes on until all
-    /// nodes on them are done.
+    /// nodes on them are done. Nearly all moves that the labels allow are open, so a walk is sought as if all were, and
+    /// again by asking of each where that one isn't open.
     fn end(
         &self,
         alloc: Global,
@@ -422,7 +365,14 @@ impl<'a, M: Moves, B: Bound, T: Ties> Task<'a, M, B, T> {
             return self.trace(alloc, table, node, label);
         }
         self.settle_rest(alloc, table, front, order, node, label)?;
-        self.walk_to(alloc, table, order.as_slice(), node, label)
+        let done = order.as_slice();
+        if let Some(walk) = self.chosen_walk(alloc, table, done, label.price, Openness::Taken)? {
+            return Ok(walk);
+        }
+        if let Some(walk) = self.chosen_walk(alloc, table, done, label.price, Openness::Asked)? {
+            return Ok(walk);
+        }
+        self.trace(alloc, table, node, label)
     }
 
     /// Whether the node of an entry, which waited at a price, is a goal. Where the key isn't the price its bound isn't

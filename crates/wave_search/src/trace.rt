@@ -3,6 +3,7 @@
 
 ghost use Rattle.std.specs.Prelude.{◌≡◌, ℕ, ◌^◌, ◌<◌, length, [], None, IfOk, OnOk};
 ghost use Rattle.std.specs.Prelude.{IfSome, Contains, Some, MatchOption};
+ghost use Rattle.std.specs.Bool.{OnTrue};
 ghost use Rattle.route_lattice.specs.Walks.{IsSound, IsWalk};
 ghost use Rattle.wave_search.specs.declared.rows.Label.{Label as TheLabel};
 ghost use Rattle.wave_search.specs.State.{label_at, IsTight, IsTightBy, Roots};
@@ -145,17 +146,53 @@ impl<'a, M: Moves, B: Bound, T: Ties> Task<'a, M, B, T> {
         Some(after)
     }
 
-    /// The label of a start that is done.
-    fn label_of_start(&self, table: &Labels, node: u32) -> Option<Label>
-        requires { length table.now ≡ (M.graph self.now.m.now).count }
-        ensures { IfSome result (λ l. (label_at table.now node ≡ Some l) × (0 < l.rank) × (l.origin ≡ None)
-            × (node < (M.graph self.now.m.now).count) × (l.rank < 2 ^ 32)) }
+    /// Adds the nodes and the moves of a walk from the start, as the choices have it go on. False where they lead
+    /// astray, or to no goal at the price.
+    fn follow_into(
+        &self,
+        table: &Labels,
+        choices: &Choices,
+        start: Start,
+        price: u64,
+        nodes: &mut Vec<u32>,
+        moves: &mut Vec<Move>,
+    ) -> Result<bool, AllocError>
+        requires ready { M.ready self.now.m.now }
+        requires sound { IsSound (M.graph self.now.m.now) }
+        requires roots { Roots (M.graph self.now.m.now) self.now.starts.now table.now }
+        requires small { (v : ℕ) (l : TheLabel) → label_at table.now v ≡ Some l → l.price < 2 ^ 60 }
+        requires marked { (v : ℕ) → Contains self.now.marks.now v → Contains self.now.goals.now v }
+        requires no_nodes { nodes.old.items ≡ [] }
+        requires no_moves { moves.old.items ≡ [] }
+        ensures { IfOk result (λ led. OnTrue led (IsWalk (M.graph self.now.m.now) self.now.starts.now
+            self.now.goals.now (record { nodes = nodes.new.items; moves = moves.new.items; price = price }))) }
     {
-        let label = self.label_after(table, 0, node)?;
-        if label.origin.is_some() {
-            return None;
+        let Some(mut here) = self.label_after(table, 0, start.node) else {
+            return Ok(false);
+        };
+        if here.origin.is_some() {
+            return Ok(false);
         }
-        Some(label)
+        let mut at = start.node;
+        let mut heading = start.heading;
+        nodes.push(at)?;
+        while let Some(way) = choices.on(here.rank, heading) {
+            let Some(after) = self.label_after(table, here.rank, way.to) else {
+                return Ok(false);
+            };
+            let Some(mv) = self.tight_to(at, here.price, way.to, after.price) else {
+                return Ok(false);
+            };
+            moves.push(mv)?;
+            at = way.to;
+            here = after;
+            heading = way.then;
+            nodes.push(at)?;
+        }
+        if here.price != price || !self.marks.has(at) {
+            return Ok(false);
+        }
+        Ok(true)
     }
 
     /// A walk from the start to a goal at the price, as the choices have it go on; None where they lead astray.
@@ -176,28 +213,10 @@ impl<'a, M: Moves, B: Bound, T: Ties> Task<'a, M, B, T> {
             (λ o. IfSome o (λ w. IsWalk (M.graph self.now.m.now) self.now.starts.now self.now.goals.now w
             × (w.price ≡ price))) }
     {
-        let Some(mut here) = self.label_of_start(table, start.node) else {
-            return Ok(None);
-        };
         let mut nodes = Vec::new(alloc);
         let mut moves = Vec::new(alloc);
-        let mut at = start.node;
-        let mut heading = start.heading;
-        nodes.push(at)?;
-        while let Some(way) = choices.on(here.rank, heading) {
-            let Some(after) = self.label_after(table, here.rank, way.to) else {
-                return Ok(None);
-            };
-            let Some(mv) = self.tight_to(at, here.price, way.to, after.price) else {
-                return Ok(None);
-            };
-            moves.push(mv)?;
-            at = way.to;
-            here = after;
-            heading = way.then;
-            nodes.push(at)?;
-        }
-        if here.price != price || !self.marks.has(at) {
+        let led = self.follow_into(table, choices, start, price, &mut nodes, &mut moves)?;
+        if !led {
             return Ok(None);
         }
         Ok(Some(Walk {

@@ -1,20 +1,57 @@
-use Rattle.cut_certificate.specs.Cuts.{IsCut}
+use Rattle.std.proofs.Common.{ℕ, List, ◌<◌, All, subst}
+use Rattle.std.specs.Prelude.{IsTrue, ◌↔◌}
+use Rattle.std.specs.List.Sorted.{IsStrictlyIncreasing}
+use Rattle.pcb_islands.specs.declared.net.Island.{Island}
+use Rattle.route_lattice.specs.Mesh.{node_count}
+use Rattle.route_lattice.specs.Ways.{way, way_count}
+use Rattle.cut_certificate.specs.declared.cut.Block.{Block}
+use Rattle.cut_certificate.specs.Border.{AreBlocks}
+use Rattle.cut_certificate.specs.Cuts.{IsCut, IsShutBy, HoldsStartsOf, HoldsNoneOfIsland}
 use Rattle.cut_certificate.proofs.Each.{unless, refused}
+use Rattle.cut_certificate.proofs.Checking.{starts_say, goals_say}
 use Rattle.cut_certificate.proofs.check.check_cut.Goals as goal
 
 pub returns : goal.returns
-returns g c = (
-  λ h. record {
-    net_is = (c.is_named.ensures.0 c.if-not-is_named.false).0;
-    pin_is = (c.is_named.ensures.0 c.if-not-is_named.false).1;
-    ascends = c.all_ascend.ensures.0 c.if-not-all_ascend.false;
-    there = c.all_nodes.ensures.0 c.if-not-all_nodes.false;
-    starts_in = c.holds_starts.ensures.0 c.if-not-holds_starts.false;
-    goals_out = c.holds_no_goal.ensures.0 c.if-not-holds_no_goal.false;
-    blocks = c.has_border.ensures.0 h;
-  },
-  λ i. c.has_border.ensures.1 i.blocks,
-)
+returns g c =
+    let ascends : IsTrue c.ascends.result ↔ IsStrictlyIncreasing c.args.cut.now.reach.nodes =
+    subst (λ (xs : List ℕ). IsTrue c.ascends.result ↔ IsStrictlyIncreasing xs) c.as_slice-nodes.ensures
+    c.ascends.ensures in
+    let there : IsTrue c.all_below.result ↔ All (λ v. v < node_count c.args.lat.now) c.args.cut.now.reach.nodes =
+    subst (λ (y : List ℕ × ℕ). IsTrue c.all_below.result ↔ All (λ v. v < y.1) y.0)
+    (λ i. (c.as_slice-nodes.ensures i, c.count.ensures.nodes i)) c.all_below.ensures in
+    let starts =
+    starts_say c.args.d.now c.args.lat.now (g.C.Copper.items c.args.c.now) c.args.cut.now.reach.nodes
+    c.args.island.now c.all_starts_in.result
+    (subst (λ (y : List ℕ × List ℕ). IsTrue c.all_starts_in.result
+    ↔ All (HoldsStartsOf c.args.d.now c.args.lat.now (g.C.Copper.items c.args.c.now) c.args.island.now.net y.0) y.1)
+    (λ i. (c.as_slice-nodes.ensures i, c.as_slice.ensures i)) c.all_starts_in.ensures) in
+    let goals =
+    goals_say c.args.d.now c.args.lat.now (g.C.Copper.items c.args.c.now) c.args.cut.now.reach.nodes
+    c.args.others.now (there.0 c.if-not-all_below.false) c.islands_out.result
+    (subst (λ (y : List ℕ × List Island). IsTrue c.islands_out.result
+    ↔ All (HoldsNoneOfIsland c.args.d.now c.args.lat.now (g.C.Copper.items c.args.c.now) y.0) y.1)
+    (λ i. (c.as_slice-nodes.ensures i, c.as_slice-2.ensures i)) c.islands_out.ensures) in
+    let border : IsTrue c.has_border.result
+    ↔ AreBlocks (way c.args.d.now c.args.lat.now c.args.island.now.net)
+    (way_count c.args.d.now c.args.lat.now c.args.island.now.net)
+    (IsShutBy c.args.d.now c.args.lat.now (g.C.Copper.items c.args.c.now) c.args.island.now.net)
+    c.args.cut.now.reach.nodes c.args.cut.now.blocked =
+    subst (λ (y : List ℕ × List Block). IsTrue c.has_border.result
+    ↔ AreBlocks (way c.args.d.now c.args.lat.now c.args.island.now.net)
+    (way_count c.args.d.now c.args.lat.now c.args.island.now.net)
+    (IsShutBy c.args.d.now c.args.lat.now (g.C.Copper.items c.args.c.now) c.args.island.now.net) y.0 y.1)
+    (λ i. (c.as_slice-nodes.ensures i, c.as_slice-3.ensures i)) c.has_border.ensures in (
+      λ h. record {
+        net_is = (c.is_named.ensures.0 c.if-not-is_named.false).0;
+        pin_is = (c.is_named.ensures.0 c.if-not-is_named.false).1;
+        ascends = ascends.0 c.if-not-ascends.false;
+        there = there.0 c.if-not-all_below.false;
+        starts_in = starts.0 c.if-not-all_starts_in.false;
+        goals_out = goals.0 c.if-not-islands_out.false;
+        blocks = border.0 h;
+      },
+      λ i. border.1 i.blocks,
+    )
 
 pub returns-then-not-is_named : goal.returns-then-not-is_named
 returns-then-not-is_named g c =
@@ -22,62 +59,84 @@ returns-then-not-is_named g c =
     c.args.cut.now)
     (λ i. unless c.is_named.result _ c.is_named.ensures c.if-not-is_named.true (i.net_is, i.pin_is))
 
-pub returns-then-not-all_ascend : goal.returns-then-not-all_ascend
-returns-then-not-all_ascend g c =
+pub returns-then-not-ascends : goal.returns-then-not-ascends
+returns-then-not-ascends g c =
+    let ascends : IsTrue c.ascends.result ↔ IsStrictlyIncreasing c.args.cut.now.reach.nodes =
+    subst (λ (xs : List ℕ). IsTrue c.ascends.result ↔ IsStrictlyIncreasing xs) c.as_slice-nodes.ensures
+    c.ascends.ensures in
     refused (IsCut c.args.d.now c.args.lat.now (g.C.Copper.items c.args.c.now) c.args.island.now c.args.others.now
     c.args.cut.now)
-    (λ i. unless c.all_ascend.result _ c.all_ascend.ensures c.if-not-all_ascend.true i.ascends)
+    (λ i. unless c.ascends.result _ ascends c.if-not-ascends.true i.ascends)
 
-pub returns-then-not-all_nodes : goal.returns-then-not-all_nodes
-returns-then-not-all_nodes g c =
+pub returns-then-not-all_below : goal.returns-then-not-all_below
+returns-then-not-all_below g c =
+    let there : IsTrue c.all_below.result ↔ All (λ v. v < node_count c.args.lat.now) c.args.cut.now.reach.nodes =
+    subst (λ (y : List ℕ × ℕ). IsTrue c.all_below.result ↔ All (λ v. v < y.1) y.0)
+    (λ i. (c.as_slice-nodes.ensures i, c.count.ensures.nodes i)) c.all_below.ensures in
     refused (IsCut c.args.d.now c.args.lat.now (g.C.Copper.items c.args.c.now) c.args.island.now c.args.others.now
     c.args.cut.now)
-    (λ i. unless c.all_nodes.result _ c.all_nodes.ensures c.if-not-all_nodes.true i.there)
+    (λ i. unless c.all_below.result _ there c.if-not-all_below.true i.there)
 
-pub holds_starts-requires-clause-sound : goal.holds_starts-requires-clause-sound
-holds_starts-requires-clause-sound g c = c.requires.sound
-
-pub holds_starts-requires-clause-fits : goal.holds_starts-requires-clause-fits
-holds_starts-requires-clause-fits g c = c.requires.fits
-
-pub holds_starts-requires-clause-net : goal.holds_starts-requires-clause-net
-holds_starts-requires-clause-net g c = c.requires.net
-
-pub holds_starts-requires-clause-serves : goal.holds_starts-requires-clause-serves
-holds_starts-requires-clause-serves g c = c.requires.serves
-
-pub holds_starts-requires-clause-in_order : goal.holds_starts-requires-clause-in_order
-holds_starts-requires-clause-in_order g c = c.in_order.ensures.ascends
-
-pub holds_starts-requires-clause-ascends : goal.holds_starts-requires-clause-ascends
-holds_starts-requires-clause-ascends g c = c.all_ascend.ensures.0 c.if-not-all_ascend.false
-
-pub returns-then-not-holds_starts : goal.returns-then-not-holds_starts
-returns-then-not-holds_starts g c =
+pub returns-then-not-all_starts_in : goal.returns-then-not-all_starts_in
+returns-then-not-all_starts_in g c =
+    let starts =
+    starts_say c.args.d.now c.args.lat.now (g.C.Copper.items c.args.c.now) c.args.cut.now.reach.nodes
+    c.args.island.now c.all_starts_in.result
+    (subst (λ (y : List ℕ × List ℕ). IsTrue c.all_starts_in.result
+    ↔ All (HoldsStartsOf c.args.d.now c.args.lat.now (g.C.Copper.items c.args.c.now) c.args.island.now.net y.0) y.1)
+    (λ i. (c.as_slice-nodes.ensures i, c.as_slice.ensures i)) c.all_starts_in.ensures) in
     refused (IsCut c.args.d.now c.args.lat.now (g.C.Copper.items c.args.c.now) c.args.island.now c.args.others.now
     c.args.cut.now)
-    (λ i. unless c.holds_starts.result _ c.holds_starts.ensures c.if-not-holds_starts.true i.starts_in)
+    (λ i. unless c.all_starts_in.result _ starts c.if-not-all_starts_in.true i.starts_in)
 
-pub holds_no_goal-requires-clause-sound : goal.holds_no_goal-requires-clause-sound
-holds_no_goal-requires-clause-sound g c = c.requires.sound
-
-pub holds_no_goal-requires-clause-fits : goal.holds_no_goal-requires-clause-fits
-holds_no_goal-requires-clause-fits g c = c.requires.fits
-
-pub holds_no_goal-requires-clause-serves : goal.holds_no_goal-requires-clause-serves
-holds_no_goal-requires-clause-serves g c = c.requires.serves
-
-pub holds_no_goal-requires-clause-in_order : goal.holds_no_goal-requires-clause-in_order
-holds_no_goal-requires-clause-in_order g c = c.in_order.ensures.ascends
-
-pub holds_no_goal-requires-clause-nodes : goal.holds_no_goal-requires-clause-nodes
-holds_no_goal-requires-clause-nodes g c = c.all_nodes.ensures.0 c.if-not-all_nodes.false
-
-pub returns-then-not-holds_no_goal : goal.returns-then-not-holds_no_goal
-returns-then-not-holds_no_goal g c =
+pub returns-then-not-islands_out : goal.returns-then-not-islands_out
+returns-then-not-islands_out g c =
+    let there : IsTrue c.all_below.result ↔ All (λ v. v < node_count c.args.lat.now) c.args.cut.now.reach.nodes =
+    subst (λ (y : List ℕ × ℕ). IsTrue c.all_below.result ↔ All (λ v. v < y.1) y.0)
+    (λ i. (c.as_slice-nodes.ensures i, c.count.ensures.nodes i)) c.all_below.ensures in
+    let goals =
+    goals_say c.args.d.now c.args.lat.now (g.C.Copper.items c.args.c.now) c.args.cut.now.reach.nodes
+    c.args.others.now (there.0 c.if-not-all_below.false) c.islands_out.result
+    (subst (λ (y : List ℕ × List Island). IsTrue c.islands_out.result
+    ↔ All (HoldsNoneOfIsland c.args.d.now c.args.lat.now (g.C.Copper.items c.args.c.now) y.0) y.1)
+    (λ i. (c.as_slice-nodes.ensures i, c.as_slice-2.ensures i)) c.islands_out.ensures) in
     refused (IsCut c.args.d.now c.args.lat.now (g.C.Copper.items c.args.c.now) c.args.island.now c.args.others.now
     c.args.cut.now)
-    (λ i. unless c.holds_no_goal.result _ c.holds_no_goal.ensures c.if-not-holds_no_goal.true i.goals_out)
+    (λ i. unless c.islands_out.result _ goals c.if-not-islands_out.true i.goals_out)
+
+pub all_starts_in-requires-clause-sound : goal.all_starts_in-requires-clause-sound
+all_starts_in-requires-clause-sound g c = c.requires.sound
+
+pub all_starts_in-requires-clause-fits : goal.all_starts_in-requires-clause-fits
+all_starts_in-requires-clause-fits g c = c.requires.fits
+
+pub all_starts_in-requires-clause-net : goal.all_starts_in-requires-clause-net
+all_starts_in-requires-clause-net g c = c.requires.net
+
+pub all_starts_in-requires-clause-serves : goal.all_starts_in-requires-clause-serves
+all_starts_in-requires-clause-serves g c = c.requires.serves
+
+pub all_starts_in-requires-clause-in_order : goal.all_starts_in-requires-clause-in_order
+all_starts_in-requires-clause-in_order g c = c.in_order.ensures.ascends
+
+pub all_starts_in-requires-clause-ascends : goal.all_starts_in-requires-clause-ascends
+all_starts_in-requires-clause-ascends g c = c.ascends.ensures.0 c.if-not-ascends.false
+
+pub islands_out-requires-clause-sound : goal.islands_out-requires-clause-sound
+islands_out-requires-clause-sound g c = c.requires.sound
+
+pub islands_out-requires-clause-fits : goal.islands_out-requires-clause-fits
+islands_out-requires-clause-fits g c = c.requires.fits
+
+pub islands_out-requires-clause-serves : goal.islands_out-requires-clause-serves
+islands_out-requires-clause-serves g c = c.requires.serves
+
+pub islands_out-requires-clause-in_order : goal.islands_out-requires-clause-in_order
+islands_out-requires-clause-in_order g c = c.in_order.ensures.ascends
+
+pub islands_out-requires-clause-nodes : goal.islands_out-requires-clause-nodes
+islands_out-requires-clause-nodes g c = subst (λ (n : ℕ). All (λ v. v < n) c.as_slice-nodes.result.now) c.count.ensures.nodes
+    (c.all_below.ensures.0 c.if-not-all_below.false)
 
 pub has_border-requires-clause-sound : goal.has_border-requires-clause-sound
 has_border-requires-clause-sound g c = c.requires.sound
@@ -92,7 +151,8 @@ pub has_border-requires-clause-serves : goal.has_border-requires-clause-serves
 has_border-requires-clause-serves g c = c.requires.serves
 
 pub has_border-requires-clause-ascends : goal.has_border-requires-clause-ascends
-has_border-requires-clause-ascends g c = c.all_ascend.ensures.0 c.if-not-all_ascend.false
+has_border-requires-clause-ascends g c = c.ascends.ensures.0 c.if-not-ascends.false
 
 pub has_border-requires-clause-nodes : goal.has_border-requires-clause-nodes
-has_border-requires-clause-nodes g c = c.all_nodes.ensures.0 c.if-not-all_nodes.false
+has_border-requires-clause-nodes g c = subst (λ (n : ℕ). All (λ v. v < n) c.as_slice-nodes.result.now) c.count.ensures.nodes
+    (c.all_below.ensures.0 c.if-not-all_below.false)

@@ -1,5 +1,4 @@
 use Rattle.std.proofs.Common.{ℕ, ◌<◌, All, arith, sym, subst}
-use Rattle.std.specs.List.Sorted.{IsStrictlyIncreasing}
 use Rattle.pcb_model.specs.declared.design.Design.{Design}
 use Rattle.route_lattice.specs.Mesh.{Mesh, node_count}
 use Rattle.route_lattice.specs.Legal.{CanMove}
@@ -31,14 +30,13 @@ are_blocks-requires-clause-ready g c =
     )
 
 pub are_blocks-requires-clause-ascends : goal.are_blocks-requires-clause-ascends
-are_blocks-requires-clause-ascends g c = subst IsStrictlyIncreasing (sym c.as_slice.ensures) c.requires.ascends
+are_blocks-requires-clause-ascends g c = c.requires.ascends
 
 pub are_blocks-requires-clause-nodes : goal.are_blocks-requires-clause-nodes
 are_blocks-requires-clause-nodes g c =
-    subst (λ (m : Mesh). All (λ v. v < node_count m) c.as_slice.result.now) (sym c.of-moves.ensures.lat)
-    (subst (All (λ v. v < node_count c.args.lat.now)) (sym c.as_slice.ensures) c.requires.nodes)
+    subst (λ (m : Mesh). All (λ v. v < node_count m) c.args.nodes.now) (sym c.of-moves.ensures.lat) c.requires.nodes
 
 pub returns : goal.returns
 returns g c =
     let e = c.of-moves.ensures in
-    rw (e.d, e.lat, e.c, e.net, c.as_slice.ensures, c.as_slice-2.ensures) at c.are_blocks.ensures
+    rw (e.d, e.lat, e.c, e.net) at c.are_blocks.ensures

@@ -1,4 +1,5 @@
 use Rattle.std.proofs.Common.{ℕ, ◌<◌, List, sym, subst, All}
+use Rattle.std.proofs.lemmas.Result.{IfOk-weaker}
 use Rattle.route_lattice.specs.Mesh.{node_count}
 use Rattle.route_lattice.specs.Anchors.{AreAnchorsAmong}
 use Rattle.route_lattice.specs.Legal.{IsLegalNode, AreThoseOf}
@@ -12,11 +13,11 @@ legal_among-requires-clause-nodes g c =
     c.in_ok-anchors.anchors c.in_ok-anchors.ensures)
 
 pub returns : goal.returns
-returns g c =
+returns g c = IfOk-weaker _ _ _ (λ starts are.
     starts_exact c.args.d.now c.args.lat.now (g.C.Copper.items c.args.c.now) c.args.island.now c.in_ok-anchors.anchors
-    c.in_ok-starts.starts
+    starts
     (subst (λ (ids : List ℕ). AreAnchorsAmong c.args.d.now c.args.lat.now (g.C.Copper.items c.args.c.now) ids
     c.in_ok-anchors.anchors) c.as_slice.ensures c.in_ok-anchors.ensures)
     (subst (λ (nodes : List ℕ).
     AreThoseOf (IsLegalNode c.args.d.now c.args.lat.now (g.C.Copper.items c.args.c.now) c.args.island.now.net)
-    nodes c.in_ok-starts.starts) c.as_slice-2.ensures c.in_ok-starts.ensures)
+    nodes starts) c.as_slice-2.ensures are)) c.legal_among.ensures

@@ -1,4 +1,4 @@
-use Rattle.std.proofs.Common.{None, Some, false, refl, true≢false, sym, ◌∙◌}
+use Rattle.std.proofs.Common.{None, refl, true≢false, sym, ◌∙◌}
 use Rattle.cut_certificate.specs.declared.cut.Blocker.TheVariants as blocker
 use Rattle.cut_certificate.proofs.Shutting.{all_agree, shut_exactly, legal_exactly}
 use Rattle.cut_certificate.proofs.shut.shuts_probe.Goals as goal

@@ -1,3 +1,4 @@
+use Rattle.std.proofs.lemmas.Result.{on_ok_weaker}
 use Rattle.std.specs.BinaryHeap.{heap_items}
 use Rattle.wave_search.specs.Order.{entry_of, entries_of}
 use Rattle.wave_search.specs.Ready.{far_of}
@@ -11,17 +12,17 @@ returns-in_ok-push-clause-ok c = added_left (entries_of c.args.self.now.near) (e
     (pushed (heap_items c.args.self.now.near) (heap_items c.push.new.self)
     (record { 0 = c.args.item }) c.in_ok-push.ensures.permutation)
 
-pub returns-in_ok-push-2-clause-ok : goal.returns-in_ok-push-2-clause-ok
-returns-in_ok-push-2-clause-ok c = added_first
+pub returns-then-item-self-2-clause-ok : goal.returns-then-item-self-2-clause-ok
+returns-then-item-self-2-clause-ok c = on_ok_weaker _ (added_first
     (entries_of c.args.self.now.near) c.args.self.now.next c.push-then-item-self-2.new.self c.args.self.now.later
-    c.args.self.now.last c.args.self.now.spare (entry_of c.args.item) c.in_ok-push-2.ensures.ok
+    c.args.self.now.last c.args.self.now.spare (entry_of c.args.item)) c.push-then-item-self-2.ensures.ok
 
-pub returns-in_ok-push-3-clause-ok : goal.returns-in_ok-push-3-clause-ok
-returns-in_ok-push-3-clause-ok c = added_second
+pub returns-then-item-self-3-clause-ok : goal.returns-then-item-self-3-clause-ok
+returns-then-item-self-3-clause-ok c = on_ok_weaker _ (added_second
     (entries_of c.args.self.now.near) c.args.self.now.next c.args.self.now.later c.push-then-item-self-3.new.self
-    c.args.self.now.last c.args.self.now.spare (entry_of c.args.item) c.in_ok-push-3.ensures.ok
+    c.args.self.now.last c.args.self.now.spare (entry_of c.args.item)) c.push-then-item-self-3.ensures.ok
 
-pub returns-in_ok-push-4-clause-ok : goal.returns-in_ok-push-4-clause-ok
-returns-in_ok-push-4-clause-ok c = added_third
+pub returns-else-item-self-3-clause-ok : goal.returns-else-item-self-3-clause-ok
+returns-else-item-self-3-clause-ok c = on_ok_weaker _ (added_third
     (entries_of c.args.self.now.near) c.args.self.now.next c.args.self.now.later c.args.self.now.last
-    c.push-else-item-self-3.new.self c.args.self.now.spare (entry_of c.args.item) c.in_ok-push-4.ensures.ok
+    c.push-else-item-self-3.new.self c.args.self.now.spare (entry_of c.args.item)) c.push-else-item-self-3.ensures.ok

@@ -1,19 +1,19 @@
-use Rattle.std.proofs.Common.{ℕ, arith, ap, length, sym, ◌∙◌, subst, Bool, List, Option, ◌<◌}
+use Rattle.std.proofs.Common.{ℕ, arith, ap, length, sym, ◌∙◌, subst, Bool, List, Option, ◌<◌, is_some}
 use Rattle.wave_search.specs.declared.rows.Label.{Label}
 use Rattle.wave_search.specs.State.{IsPut}
 use Rattle.wave_search.specs.Rows.{AreTouched}
 use Rattle.wave_search.proofs.Kept.{label_is}
 use Rattle.wave_search.proofs.Touched.{touched_past, touched_kept, touched_more}
 use Rattle.wave_search.proofs.labels.Labels.put.Goals as goal
-use Rattle.wave_search.proofs.labels.Labels.put.Goals.{then-self-via-then-self, then-self-via-else-self+then-has}
+use Rattle.wave_search.proofs.labels.Labels.put.Goals.{then-self-via-then-self, then-self-via-else-self+then-is_some}
 
 pub invariant_of-self : goal.invariant_of-self
 invariant_of-self c = elim c.then-self.branch [
   | then-self-via-then-self w ↦
       subst (λ (b : Bool). AreTouched c.put.new.self b c.self.inside.touched.items) (sym w.if-self.true)
       (touched_past _ _ c.self.inside.unlisted c.self.inside.touched.items c.self.invariant c.put.ensures.size)
-  | then-self-via-else-self+then-has w ↦
-      let l = label_is _ (sym w.has.ensures ∙ w.if-has.true) in
+  | then-self-via-else-self+then-is_some w ↦
+      let l = label_is _ (sym (w.is_some.ensures ∙ ap is_some w.get.ensures) ∙ w.if-is_some.true) in
       touched_kept _ _ c.self.inside.unlisted c.self.inside.touched.items c.args.v c.args.label l.0 c.self.invariant
       c.put.ensures l.1
 ]
@@ -28,8 +28,8 @@ pub returns-clause-ok : goal.returns-clause-ok
 returns-clause-ok c =
     subst (λ (t : List (Option Label)). IsPut t c.args.v c.args.label c.put-2.new.self) c.self.view_is c.put-2.ensures
 
-pub has-requires : goal.has-requires
-has-requires c =
+pub get-requires : goal.get-requires
+get-requires c =
     subst (λ (t : List (Option Label)). c.args.v < length t) (sym c.self.view_is) c.requires.node
 
 pub put-requires-clause-node : goal.put-requires-clause-node

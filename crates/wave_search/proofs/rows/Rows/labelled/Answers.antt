@@ -1,19 +1,19 @@
-use Rattle.std.proofs.Common.{◌+◌, ◌<◌, sym, ◌∙◌, subst, List, ℕ, arith, ap, length}
+use Rattle.std.proofs.Common.{◌+◌, ◌<◌, sym, ◌∙◌, subst, List, ℕ, arith, ap, length, is_some}
 use Rattle.std.proofs.lemmas.List.{length-map}
 use Rattle.wave_search.specs.Rows.{row_label}
 use Rattle.wave_search.proofs.Spared.{none_below}
 use Rattle.wave_search.proofs.Kept.{AreBelow, one_more, no_more}
 use Rattle.wave_search.proofs.Table.{within}
 use Rattle.wave_search.proofs.rows.Rows.labelled.Goals as goal
-use Rattle.wave_search.proofs.rows.Rows.labelled.Goals.{then-has+in_ok-push, else-has}
+use Rattle.wave_search.proofs.rows.Rows.labelled.Goals.{then-is_some+in_ok-push, else-is_some}
 
 pub loop-v-preserved : goal.loop-v-preserved
-loop-v-preserved c = elim c.if-has.branch [
-  | then-has+in_ok-push w ↦
-      one_more c.args.self.now c.loop-v.v c.loop-v.nodes.items c.if-has.nodes.items c.loop-v.invariant
-      (sym c.has.ensures ∙ w.if-has.true) (ap (λ x. x.items) w.nodes-is ∙ w.in_ok-push.ensures.items)
-  | else-has w ↦
-      let none = sym c.has.ensures ∙ w.if-has.false in
+loop-v-preserved c = elim c.if-is_some.branch [
+  | then-is_some+in_ok-push w ↦
+      one_more c.args.self.now c.loop-v.v c.loop-v.nodes.items c.if-is_some.nodes.items c.loop-v.invariant
+      (sym (c.is_some.ensures ∙ ap is_some c.get.ensures) ∙ w.if-is_some.true) (ap (λ x. x.items) w.nodes-is ∙ w.in_ok-push.ensures.items)
+  | else-is_some w ↦
+      let none = sym (c.is_some.ensures ∙ ap is_some c.get.ensures) ∙ w.if-is_some.false in
       subst (λ (xs : List ℕ). AreBelow c.args.self.now (c.loop-v.v + 1) xs) (sym (ap (λ x. x.items) w.nodes-is))
       (no_more c.args.self.now c.loop-v.v c.loop-v.nodes.items c.loop-v.invariant none)
 ]
@@ -29,8 +29,8 @@ returns c = record {
       c.loop-v.invariant.complete u l below f;
 }
 
-pub has-requires : goal.has-requires
-has-requires c = omega (
+pub get-requires : goal.get-requires
+get-requires c = omega (
   arith,
   c.loop-v-test.true,
   ap length c.self.view_is,

@@ -4,8 +4,8 @@ use Rattle.wave_search.proofs.task.Task.settle.Given as goal
 
 abbrev pub invariant-settle : goal.invariant-settle
 invariant-settle g l = record {
-  size : length l.table ≡ length l.initial.table;
-  kept : KeepsDone l.initial.table l.table;
+  size : length l.table ≡ length l.fn.table;
+  kept : KeepsDone l.fn.table l.table;
   state : (level : ℕ) × IsState (g.M.Moves.graph l.self.m.now) l.self.starts.now l.self.goals.now
       (g.B.Bound.low_of l.self.b.now) l.table l.front level l.finished 0 (g.M.Moves.graph l.self.m.now).arity;
 }

@@ -1,7 +1,7 @@
 use Rattle.std.proofs.Common.{◌≡◌, ◌<◌, ◌-◌, ◌^◌, Some}
 use Rattle.wave_search.specs.State.{label_at}
 use Rattle.wave_search.proofs.Tracing.{Passed}
-use Rattle.wave_search.proofs.task.Task.follow.Given as goal
+use Rattle.wave_search.proofs.task.Task.follow_into.Given as goal
 
 abbrev pub invariant-loop-way : goal.invariant-loop-way
 invariant-loop-way g l = record {

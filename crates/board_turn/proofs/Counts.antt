@@ -5,7 +5,7 @@ use Rattle.std.proofs.lemmas.Bool.{lt-ltb, le-ltb, cases_lt}
 use mathlib.Core.Option.{some, some-ne-none}
 use lib.ListN.{get_elem?}
 use Rattle.board_turn.specs.declared.lock.PassView.{PassView}
-use Rattle.claim_counter.specs.Claims.{one_if, once_below}
+use Rattle.board_turn.specs.Claims.{one_if, once_below}
 use Rattle.board_turn.specs.Lock.{named}
 
 -- what is set stands there

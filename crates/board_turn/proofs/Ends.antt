@@ -19,9 +19,9 @@ use Rattle.board_turn.specs.declared.lock.View.{View}
 use Rattle.board_turn.specs.Events.{Reaches, own, IsPrefix, AllNamed}
 use Rattle.board_turn.specs.Turns.{TurnOf, PassOf, turn_of, count_of, Ended}
 use Rattle.board_turn.specs.Lock.{named, HaveSeen, FitsRole, Slot, HasHolder, Kept}
-use Rattle.claim_counter.specs.Claims.{one_if, once_below}
+use Rattle.board_turn.specs.Claims.{one_if, once_below}
 use Rattle.board_turn.specs.Seats.{pass_of}
-use Rattle.claim_counter.proofs.Totals.{total-at, total-two}
+use Rattle.board_turn.proofs.Totals.{total-at, total-two}
 use Rattle.board_turn.proofs.Counts.{one_if_same, one_if_most, is_below, below_is}
 use Rattle.board_turn.proofs.EventLists.{own-append, extends}
 

@@ -4,7 +4,7 @@ use Rattle.std.proofs.Common.{◌∙◌, subst, arith, append_assoc, eq-eqb, ne_
 use Rattle.std.proofs.lemmas.List.{append-nil, map-append}
 use Rattle.board_offers.specs.declared.offer.Offer.{Offer}
 use Rattle.board_offers.specs.Items.{new_items}
-use Rattle.claim_counter.specs.Claims.{one_if}
+use Rattle.board_turn.specs.Claims.{one_if}
 use Rattle.pcb_board.specs.declared.answer.Answer.{Answer}
 use Rattle.pcb_board.specs.declared.answer.Answer.TheVariants.{Committed, Stale, Wrong, Malformed, Full}
 use Rattle.pcb_board.specs.declared.answer.Entry.{Entry}

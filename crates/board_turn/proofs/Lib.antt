@@ -1,3 +1,5 @@
+pub mod Totals
+pub mod ClaimMoves
 pub mod Counts
 pub mod EventLists
 pub mod Moves

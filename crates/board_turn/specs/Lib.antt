@@ -1,3 +1,4 @@
+pub mod Claims
 pub mod Events
 pub mod Lock
 pub mod Turns

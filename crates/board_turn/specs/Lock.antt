@@ -4,7 +4,7 @@ use Rattle.std.specs.Prelude.{length, take, drop, Option, Some, None}
 use mathlib.Core.Option as maybe
 use lib.ListN.{get_elem?}
 use Rattle.atomic_table.specs.Table.{State, Me, Step, rest}
-use Rattle.claim_counter.specs.Claims.{total, one_if, once_below}
+use Rattle.board_turn.specs.Claims.{total, one_if, once_below}
 use Rattle.pcb_board.specs.Boards.{BoardOf}
 use Rattle.board_turn.specs.declared.event.Deed.{Deed}
 use Rattle.board_turn.specs.declared.event.Event.{Event}

@@ -11,7 +11,8 @@ ghost use Rattle.cut_certificate.specs.Goals.{Meets};
 ghost use Rattle.route_lattice.specs.Walks.{IsSound};
 
 use crate::cut::{Block, Blocker};
-use crate::{flood, reach_tells_goals};
+use crate::laws::reach_tells_goals;
+use crate::spread::flood;
 use geo_kernel::List;
 use route_lattice::{Moves, Reach};
 use std::alloc::{AllocError, Global};

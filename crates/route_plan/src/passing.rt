@@ -11,7 +11,7 @@ ghost use Rattle.board_offers.specs.declared.offer.TheConstants.{CLOSER};
 
 use crate::plans::{Led, Planned};
 use crate::route::{Route, Routed, Task};
-use crate::{Way, make_way};
+use crate::way::{Way, make_way};
 use geo_kernel::List;
 use least_offer::{
     least_offers_may_be_made, made_shoves_stand_together, shoves_are_one, shoves_may_be_made,

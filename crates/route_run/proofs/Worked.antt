@@ -15,7 +15,7 @@ use Rattle.pcb_board.specs.Keeping.{IsBoard}
 use Rattle.pcb_board.specs.Answers.{Step}
 use Rattle.pcb_board.proofs.Prefix.{board_whole}
 use Rattle.least_offer.specs.Least.{IsLeastOffer}
-use Rattle.claim_counter.specs.Claims.{one_if, times}
+use Rattle.board_turn.specs.Claims.{one_if, times}
 use Rattle.searcher_pool.specs.declared.log.OfferNote.{OfferNote}
 use Rattle.searcher_pool.specs.declared.log.WorkerLog.{WorkerLog}
 use Rattle.searcher_pool.specs.Passes.{AreAmong, EndsPlace, EndsTask, IsFullAnswer, IsLog, IsPassed, IsSpent, IsStale}

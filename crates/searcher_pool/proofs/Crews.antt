@@ -3,8 +3,8 @@ use Rattle.std.proofs.Common.{◌≡◌, ◌∙◌, ◌+◌, ◌<◌, ℕ, refl,
 use Rattle.std.proofs.lemmas.List.{append-nil}
 use Rattle.std.proofs.lemmas.List.Elements.{All-nil}
 use Rattle.route_lattice.specs.Mesh.{node_count}
-use Rattle.claim_counter.specs.declared.Hand.{Hand}
-use Rattle.claim_counter.specs.Claims.{CounterOf, hand, times}
+use Rattle.board_turn.specs.declared.claims.Hand.{Hand}
+use Rattle.board_turn.specs.Claims.{CounterOf, hand, times}
 use Rattle.board_turn.specs.Turns.{TurnOf, opening}
 use Rattle.board_turn.specs.Turns as turn
 use Rattle.searcher_pool.specs.declared.log.OfferNote.{OfferNote}

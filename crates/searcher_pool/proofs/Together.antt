@@ -17,7 +17,7 @@ use Rattle.pcb_board.specs.declared.answer.Answer.TheVariants.{Committed, Stale,
 use Rattle.pcb_board.specs.Boards.{BoardOf}
 use Rattle.pcb_board.specs.Answers.{Step}
 use Rattle.pcb_board.specs.Keeping as board
-use Rattle.claim_counter.specs.Claims.{once_below}
+use Rattle.board_turn.specs.Claims.{once_below}
 use Rattle.board_turn.specs.declared.event.Deed.{Deed}
 use Rattle.board_turn.specs.declared.event.Deed.TheVariants.{Looked, Offered, Idle}
 use Rattle.board_turn.specs.declared.event.Event.{Event}

@@ -4,7 +4,7 @@ use Rattle.std.specs.List.{AllZip}
 use Rattle.crossbeam_utils.specs.Padded.{padded_value}
 use Rattle.crossbeam_utils.specs.declared.cache_padded.CachePadded.{CachePadded}
 use Rattle.route_lattice.specs.Mesh.{node_count}
-use Rattle.claim_counter.specs.Claims.{CounterOf, hand}
+use Rattle.board_turn.specs.Claims.{CounterOf, hand}
 use Rattle.board_turn.specs.Turns.{TurnOf}
 use Rattle.board_turn.specs.Turns as turn
 use Rattle.searcher_pool.specs.declared.log.WorkerLog.{WorkerLog}

@@ -13,7 +13,7 @@ use Rattle.pcb_board.specs.Answers.{Step}
 use Rattle.least_offer.specs.Least.{IsLeastOffer}
 use Rattle.least_offer.specs.Late.{IsFair}
 use Rattle.route_plan.specs.Plans.{IsWhole, IsShutIn}
-use Rattle.claim_counter.specs.Claims.{times, once_below}
+use Rattle.board_turn.specs.Claims.{times, once_below}
 use Rattle.searcher_pool.specs.declared.log.OfferNote.{OfferNote}
 use Rattle.searcher_pool.specs.declared.log.WorkerLog.{WorkerLog}
 

@@ -14,7 +14,7 @@ use Rattle.board_offers.specs.declared.offer.Offer.{Offer}
 use Rattle.board_sight.specs.declared.sight.Sight.{Sight}
 use Rattle.board_sight.specs.Sights.{IsSeenOn}
 use Rattle.route_plan.specs.Plans.{IsOfferOf}
-use Rattle.claim_counter.specs.Claims.{CounterOf}
+use Rattle.board_turn.specs.Claims.{CounterOf}
 use Rattle.board_turn.specs.declared.Deed.{Deed}
 use Rattle.board_turn.specs.declared.Deed.TheVariants.{Looked, Offered, Idle}
 use Rattle.board_turn.specs.declared.Event.{Event}

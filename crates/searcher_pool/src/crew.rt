@@ -5,7 +5,7 @@ ghost use Rattle.std.specs.Prelude.{◌≡◌, ℕ, ◌-◌, ◌<◌, ◌≤◌,
 ghost use Rattle.std.specs.Prelude.{vec_capacity, vec_len};
 ghost use Rattle.crossbeam_utils.specs.Padded.{padded_value};
 ghost use Rattle.route_lattice.specs.Mesh.{node_count};
-ghost use Rattle.claim_counter.specs.Claims.{hand, times};
+ghost use Rattle.board_turn.specs.Claims.{hand, times};
 ghost use Rattle.board_sight.specs.Sights.{IsSeenOn};
 ghost use Rattle.board_turn.specs.Turns.{passes_of, opening};
 ghost use Rattle.searcher_pool.specs.Passes.{claimed};
@@ -15,8 +15,7 @@ ghost use Rattle.board_offers.specs.declared.offer.TheConstants.{CLOSER};
 
 use crate::log::WorkerLog;
 use crate::worker::{Job, Worker, work};
-use board_turn::{Pass, Turn};
-use claim_counter::{Claimer, Counter};
+use board_turn::{Claimer, Counter, Pass, Turn};
 use crossbeam_utils::CachePadded;
 use desk_io::Gate;
 use geo_kernel::List;

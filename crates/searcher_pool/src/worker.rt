@@ -13,8 +13,7 @@ ghost use Rattle.board_offers.specs.declared.offer.TheConstants.{CLOSER};
 
 use crate::log::OfferNote;
 use board_sight::{Sight, see};
-use board_turn::{Pass, Turn, events_keep};
-use claim_counter::{Claimer, Counter};
+use board_turn::{Claimer, Counter, Pass, Turn, events_keep};
 use desk_io::Gate;
 use least_offer::late_offers_are_fair;
 use move_maps::MoveMaps;

@@ -14,10 +14,9 @@ use crate::board::board;
 use crate::lattices::lattice_of;
 use crate::laying::{CROSS, Routed, WALL, laid};
 use geo_kernel::List;
-use map_rips::{fixed_maps, rips_of};
 use move_maps::{Counts, MoveMaps};
 use pcb_model::{Design, Item, PlainCopper, copy_item};
-use ripup::RipMoves;
+use ripup::{RipMoves, fixed_maps, rips_of};
 use route_lattice::{Lattice, LegalMoves, Moves};
 use std::alloc::{AllocError, Global};
 

@@ -5,9 +5,9 @@ use Rattle.std.proofs.lemmas.List.{length-append}
 use Rattle.std.proofs.lemmas.List.Elements.{All-nil}
 use Rattle.crossbeam_utils.specs.Padded.{padded_value}
 use Rattle.crossbeam_utils.specs.declared.cache_padded.CachePadded.{CachePadded}
-use Rattle.claim_counter.specs.declared.Hand.{Hand}
-use Rattle.claim_counter.specs.Claims.{times}
-use Rattle.claim_counter.proofs.Totals.{times-append}
+use Rattle.board_turn.specs.declared.claims.Hand.{Hand}
+use Rattle.board_turn.specs.Claims.{times}
+use Rattle.board_turn.proofs.Totals.{times-append}
 use Rattle.board_turn.specs.Turns.{PassOf}
 use Rattle.searcher_pool.specs.declared.log.OfferNote.{OfferNote}
 use Rattle.searcher_pool.specs.declared.log.WorkerLog.{WorkerLog}

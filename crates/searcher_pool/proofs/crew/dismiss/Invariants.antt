@@ -2,7 +2,7 @@ use Rattle.std.proofs.Common.{◌≡◌, ◌+◌, ◌<◌, ◌≤◌, ℕ, false
 use Rattle.std.specs.Prelude.{slice_index_or}
 use Rattle.crossbeam_utils.specs.Padded.{padded_value}
 use Rattle.crossbeam_utils.specs.declared.cache_padded.CachePadded.{CachePadded}
-use Rattle.claim_counter.specs.Claims.{times}
+use Rattle.board_turn.specs.Claims.{times}
 use Rattle.searcher_pool.specs.declared.worker.Worker.{Worker}
 use Rattle.searcher_pool.specs.Passes.{claimed}
 use Rattle.searcher_pool.specs.Working.{Worked, pass_of}

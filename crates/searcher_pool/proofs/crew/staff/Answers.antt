@@ -5,7 +5,7 @@ use Rattle.std.proofs.lemmas.List.{length-append}
 use Rattle.crossbeam_utils.specs.Padded.{padded_value}
 use Rattle.crossbeam_utils.specs.declared.cache_padded.CachePadded.{CachePadded}
 use Rattle.route_lattice.specs.Mesh.{node_count}
-use Rattle.claim_counter.specs.Claims.{hand, less_one, newcomer}
+use Rattle.board_turn.specs.Claims.{hand, less_one, newcomer}
 use Rattle.board_turn.specs.Turns.{PassOf, passes_of}
 use Rattle.board_turn.proofs.Seats.{passes_of-snoc}
 use Rattle.searcher_pool.specs.declared.worker.Worker.{Worker}

@@ -3,7 +3,7 @@ use Rattle.std.specs.Prelude.{slice_index_or}
 use Rattle.crossbeam_utils.specs.Padded.{padded_value}
 use Rattle.crossbeam_utils.specs.declared.cache_padded.CachePadded.{CachePadded}
 use Rattle.route_lattice.specs.Mesh.{node_count}
-use Rattle.claim_counter.specs.Claims.{hand}
+use Rattle.board_turn.specs.Claims.{hand}
 use Rattle.board_turn.specs.Turns.{passes_of}
 use Rattle.searcher_pool.specs.declared.worker.Worker.{Worker}
 use Rattle.searcher_pool.specs.Working.{MayWork, pass_of}

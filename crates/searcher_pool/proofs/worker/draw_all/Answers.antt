@@ -3,8 +3,8 @@ use Rattle.std.specs.Prelude.{Vec, slice_get}
 use Rattle.std.specs.declared.alloc.Global.{Global}
 use Rattle.std.proofs.lemmas.Option.{slice_get-get_or}
 use Rattle.geo_kernel.proofs.Paths.{Any-append_second, Any-here}
-use Rattle.claim_counter.specs.declared.Hand.{Hand}
-use Rattle.claim_counter.specs.Claims.{Claim, CounterOf, drew, saw}
+use Rattle.board_turn.specs.declared.claims.Hand.{Hand}
+use Rattle.board_turn.specs.Claims.{Claim, CounterOf, drew, saw}
 use Rattle.searcher_pool.specs.declared.worker.Worker.{Worker}
 use Rattle.searcher_pool.specs.Passes.{PassOf}
 use Rattle.searcher_pool.specs.Working.{EndsDrawn, IsDrawn, IsReady, IsSeated, Knows, pass_of}

@@ -1,7 +1,0 @@
-use Rattle.std.proofs.Common.{◌≡◌, []}
-use Rattle.claim_counter.specs.Claims.{saw}
-use Rattle.claim_counter.proofs.next_of.Given as goal
-
-abbrev pub invariant-loop : goal.invariant-loop
-invariant-loop g l = (l.seat.table_id ≡ l.initial.seat.table_id)
-    × (l.seat.me.0 ≡ saw l.initial.seat.me.0 l.seat.me.0.floor) × (l.seat.me.1 ≡ [])

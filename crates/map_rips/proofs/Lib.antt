@@ -1,4 +1,0 @@
-pub mod Parting
-pub mod Alike
-pub mod Telling
-pub mod Serving

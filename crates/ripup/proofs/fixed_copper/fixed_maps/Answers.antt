@@ -4,7 +4,7 @@ use Rattle.pcb_model.specs.declared.item.Item.{Item}
 use Rattle.pcb_model.specs.Sound.{Serves}
 use Rattle.move_maps.specs.Maps.{AreMapsOf}
 use Rattle.ripup.proofs.Serving.{fixed_serve}
-use Rattle.ripup.proofs.fixed.fixed_maps.Goals as goal
+use Rattle.ripup.proofs.fixed_copper.fixed_maps.Goals as goal
 
 pub of-requires-clause-serves : goal.of-requires-clause-serves
 of-requires-clause-serves c =

@@ -1,5 +1,5 @@
 use Rattle.std.proofs.Common.{◌≡◌, take}
-use Rattle.ripup.proofs.fixed.fixed_copper.Given as goal
+use Rattle.ripup.proofs.fixed_copper.fixed_copper.Given as goal
 
 -- the items so far
 abbrev pub invariant-loop-item : goal.invariant-loop-item

@@ -5,7 +5,7 @@ use Rattle.pcb_model.specs.declared.design.Design.{Design}
 use Rattle.pcb_model.specs.Bounds.{IsItemFit}
 use Rattle.pcb_model.specs.Sound.{IsSound}
 use Rattle.ripup.proofs.Serving.{fixed_at}
-use Rattle.ripup.proofs.fixed.fixed_copper.Goals as goal
+use Rattle.ripup.proofs.fixed_copper.fixed_copper.Goals as goal
 
 -- the first fixed items have ids below the next
 ids_below : (d : Design) → IsSound d → (k : ℕ) → All (λ (b : Item). b.id < k) (take k d.fixed)

@@ -3,7 +3,7 @@
 
 ghost use Rattle.std.specs.Prelude.{◌≡◌, ◌≤◌, ◌↔◌, All, Any, IfOk, IsTrue, map};
 ghost use Rattle.pcb_model.specs.Bounds.{IsFit};
-ghost use Rattle.pcb_model.specs.Sound.{Covers, IsUsable, origin};
+ghost use Rattle.pcb_model.specs.Sound.{IsUsable};
 ghost use Rattle.pcb_model.specs.declared.item.Piece.{Piece as ThePiece};
 ghost use Rattle.dsn_design.specs.Usable.{CoversOn, HasOther, IsCovered, IsElsewhere, origin_spine};
 
@@ -20,20 +20,15 @@ pub(crate) fn origin_spine(alloc: Global) -> Result<Spine, AllocError>
     Ok(Spine::Chain(points))
 }
 
-fn covers(centre: &Spine, p: &Piece) -> bool
-    requires centre_is { centre.now ≡ origin_spine }
-    requires fit { IsFit p.now }
-    ensures { IsTrue result ↔ Covers origin p.now }
-{
-    spine_touch(centre, &p.spine, p.width)
-}
-
 fn covers_on(centre: &Spine, layer: u8, p: &Piece) -> bool
     requires centre_is { centre.now ≡ origin_spine }
     requires fit { IsFit p.now }
     ensures { IsTrue result ↔ CoversOn layer p.now }
 {
-    p.layer == layer && covers(centre, p)
+    if p.layer != layer {
+        return false;
+    }
+    spine_touch(centre, &p.spine, p.width)
 }
 
 fn is_covered(centre: &Spine, all: &[Piece], p: &Piece) -> bool

@@ -1,7 +1,7 @@
 //! How many items stand before the wiring: boundaries, keepouts, and the pins and keepouts of placed components.
 //! Together with the wires and vias there may be `MOST_ITEMS`.
 
-ghost use Rattle.std.specs.Prelude.{◌≡◌, sum_by};
+ghost use Rattle.std.specs.Prelude.{◌≡◌};
 ghost use Rattle.dsn_shapes.specs.Lists.{capped};
 ghost use Rattle.dsn_shapes.specs.declared.refusal.What.TheVariants.{Items};
 ghost use Rattle.dsn_shapes.specs.Limits.{too_many};

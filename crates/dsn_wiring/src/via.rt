@@ -6,7 +6,7 @@ ghost use Rattle.std.specs.List.{list_any};
 ghost use Rattle.dsn_shapes.specs.Numbers.{coord_refusal};
 ghost use Rattle.dsn_shapes.specs.Refusals.{noted};
 ghost use Rattle.dsn_wiring.specs.Vias.{coord_of, is_far, is_past, past_refusal, point_by, spine_past, stack_past};
-ghost use Rattle.dsn_wiring.specs.Vias.{stack_place, unknown_stack, via_metal, via_place, via_place_refusals};
+ghost use Rattle.dsn_wiring.specs.Vias.{stack_place, unknown_stack, via_metal};
 ghost use Rattle.dsn_wiring.specs.Vias.{via_refusals};
 
 use dsn_shapes::table::{NO_NUMBER, NO_PADSTACK, OUT_OF_RANGE};
@@ -138,7 +138,6 @@ fn refuse_past(
 }
 
 /// The padstack of a via, of those of these names, and its place.
-#[tactic(auto, unfolding(crate::specs::Vias::via_metal, crate::specs::Vias::via_refusals, crate::specs::Vias::via_place, crate::specs::Vias::via_place_refusals,))]
 pub(crate) fn note_via(
     first: &mut Option<Refusal>,
     via: &Tree,

@@ -6,7 +6,7 @@ ghost use Rattle.geo_kernel.specs.Spine.{IsSpineWithin};
 ghost use Rattle.dsn_shapes.specs.declared.parts.BanShape.{BanShape as TheBan};
 ghost use Rattle.dsn_shapes.specs.Within.{IsPinWithin};
 ghost use Rattle.dsn_design.specs.Fit.{ArePartsFit, IsPlaceWithin};
-ghost use Rattle.dsn_design.specs.Counts.{items_from, pads_at, placed_items};
+ghost use Rattle.dsn_design.specs.Counts.{items_from, pads_at};
 ghost use Rattle.dsn_design.specs.Items.{ban_item, edge_item, numbered, numbered_from, pad_kind};
 ghost use Rattle.dsn_design.specs.Items.{pad_pieces, placed_ban};
 ghost use Rattle.dsn_design.specs.Pins.{layer_count};
@@ -167,32 +167,6 @@ fn push_pads(
     Ok(())
 }
 
-fn push_placed(
-    alloc: Global,
-    items: &mut List<Item>,
-    board: &Board,
-    place: &Place,
-    number: u32,
-    first: u32,
-) -> Result<(), AllocError>
-    requires parts_fit { ArePartsFit board.now.parts.now }
-    requires place_within { IsPlaceWithin place.now }
-    ensures { OnOk result
-        (items.new ≡ items.old ++ placed_items board.now.parts.now board.now.stacks.now number first place.now) }
-{
-    let lib = &board.parts.library;
-    push_placed_bans(alloc, items, board.parts, place, image_bans(lib, place))?;
-    push_pads(
-        alloc,
-        items,
-        board,
-        place,
-        number,
-        first,
-        image_pins(lib, place),
-    )
-}
-
 /// Appends the keepouts and pins of the placed components.
 #[tactic(auto, unfolding(crate::specs::Counts::place_items))]
 pub(crate) fn push_places(
@@ -206,12 +180,14 @@ pub(crate) fn push_places(
     ensures { OnOk result
         (items.new ≡ items.old ++ items_from board.now.parts.now board.now.stacks.now 0 0 places.now) }
 {
+    let lib = &board.parts.library;
     let mut number: u32 = 0;
     let mut first: u32 = 0;
     for place in places {
         if place.at.is_some() {
-            push_placed(alloc, items, board, place, number, first)?;
-            let pins = image_pins(&board.parts.library, place);
+            push_placed_bans(alloc, items, board.parts, place, image_bans(lib, place))?;
+            let pins = image_pins(lib, place);
+            push_pads(alloc, items, board, place, number, first, pins)?;
             first = first.saturating_add(place_index(pins.len()));
         }
         number = number.saturating_add(1);

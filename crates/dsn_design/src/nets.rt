@@ -4,25 +4,14 @@
 ghost use Rattle.std.specs.Prelude.{◌≡◌, ◌++◌, filter, map, count_by, not, IfOk};
 ghost use Rattle.dsn_shapes.specs.Lists.{capped};
 ghost use Rattle.dsn_shapes.specs.Names.{stack_names};
-ghost use Rattle.dsn_design.specs.Nets.{class_rules, class_vias, is_usable_at, net_of, stack_number, stack_numbers};
+ghost use Rattle.dsn_design.specs.Nets.{class_rules, class_vias, is_usable_at, net_of, stack_numbers};
 ghost use Rattle.dsn_design.specs.Nets.{unusable_in, unusable_of_class, usable_of, via_list, via_notes};
 ghost use Rattle.dsn_design.specs.Counts.{counted_number};
 
-use dsn_shapes::{NameIndex, PinRef, ReadClass, ReadNet, Stack, names_of, place_index};
+use dsn_shapes::{PinRef, ReadClass, ReadNet, Stack, names_of, place_index};
 use geo_kernel::{List, Name};
 use pcb_model::{Net, Padstack, RuleSet};
 use std::alloc::{AllocError, Global};
-
-fn numbers_of(alloc: Global, known: &NameIndex, names: &[Name]) -> Result<List<u32>, AllocError>
-    ensures { IfOk result (λ ns. ns ≡ map (stack_number known.now) names.now) }
-{
-    let mut numbers = List::new(alloc);
-    for name in names {
-        let place = known.first_place(name.as_slice()).unwrap_or(0);
-        numbers.push(place_index(place))?;
-    }
-    Ok(numbers)
-}
 
 /// The indices of the padstacks of these names.
 #[tactic(auto, unfolding(crate::specs::Nets::stack_numbers))]
@@ -34,7 +23,12 @@ pub(crate) fn stack_numbers(
     ensures { IfOk result (λ ns. ns ≡ stack_numbers stacks.now names.now) }
 {
     let known = names_of(alloc, stacks.as_slice())?;
-    numbers_of(alloc, &known, names)
+    let mut numbers = List::new(alloc);
+    for name in names {
+        let place = known.first_place(name.as_slice()).unwrap_or(0);
+        numbers.push(place_index(place))?;
+    }
+    Ok(numbers)
 }
 
 fn is_usable_at(stacks: &List<Padstack>, via: u32) -> bool

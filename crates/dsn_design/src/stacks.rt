@@ -8,9 +8,9 @@ ghost use Rattle.dsn_design.specs.Fit.{IsStackFit};
 ghost use Rattle.dsn_design.specs.Usable.{AreUsable, origin_spine, padstack_of, padstacks_of, usables};
 
 use crate::copper::shape_pieces;
-use crate::usable::{is_usable, origin_spine};
+use crate::usable::is_usable;
 use dsn_shapes::Stack;
-use geo_kernel::{List, Spine};
+use geo_kernel::{List, Point, Spine};
 use pcb_model::Padstack;
 use std::alloc::{AllocError, Global};
 
@@ -62,6 +62,6 @@ pub(crate) fn padstacks_of(
     ensures are { IfOk result (λ ps. ps ≡ padstacks_of n (usables ps) stacks.now) }
     ensures usable { IfOk result (λ ps. AreUsable n (usables ps) stacks.now) }
 {
-    let centre = origin_spine(alloc)?;
+    let centre = Spine::Chain(List::from_slice(alloc, &[Point { x: 0, y: 0 }])?);
     padstacks_about(alloc, n, &centre, stacks.as_slice())
 }

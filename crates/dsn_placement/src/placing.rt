@@ -82,27 +82,6 @@ fn refuse_past(first: &mut Option<Refusal>, what: What, before: u64, laid: &[Lai
     }
 }
 
-// All components, of the images of the library.
-#[tactic(auto, unfolding(crate::specs::Placing::all_laid))]
-fn read_laid(
-    alloc: Global,
-    first: &mut Option<Refusal>,
-    components: &Trees,
-    around: Around,
-) -> Result<List<Laid>, AllocError>
-    requires { IsLibraryWithin around.library.now }
-    ensures noted { OnOk result
-        (first.new ≡ noted first.old
-        (flat_map (component_refusals around.entry.scale.nm around.entry.flip_last around.entry.library.now)
-        components.now)) }
-    ensures value { IfOk result
-        (λ ls. ls ≡ flat_map
-        (component_laid around.entry.scale.nm around.entry.flip_last around.entry.library.now) components.now) }
-{
-    let names = names_of(alloc, around.library.images.as_slice())?;
-    read_components(alloc, first, components.as_slice(), around, &names)
-}
-
 fn places_of(alloc: Global, laid: List<Laid>) -> Result<List<Place>, AllocError>
     ensures { IfOk result (λ ps. ps ≡ map (λ (l : TheLaid). l.place) laid) }
 {
@@ -141,7 +120,10 @@ fn read_places(
         (flat_map (component_laid around.entry.scale.nm around.entry.flip_last around.entry.library.now)
         components.now)) }
 {
-    let laid = read_laid(alloc, first, components, around)?;
+    let names = names_of(alloc, around.library.images.as_slice())?;
+    let laid = read_components(alloc, first, components.as_slice(), around, &names);
+    drop(names);
+    let laid = laid?;
     refuse_past(first, What::Pins, 0, laid.as_slice());
     refuse_past(first, What::Items, before, laid.as_slice());
     places_of(alloc, laid)

@@ -6,10 +6,10 @@ ghost use Rattle.dsn_shapes.specs.Lists.{capped};
 ghost use Rattle.dsn_shapes.specs.Names.{names_at};
 ghost use Rattle.dsn_shapes.specs.Refusals.{Reads, noted};
 ghost use Rattle.dsn_shapes.specs.Within.{IsLibraryWithin};
-ghost use Rattle.dsn_library.specs.Images.{image_of, images_refusals, keepouts_in};
-ghost use Rattle.dsn_library.specs.Padstacks.{shapes_in, stack_of, stacks_refusals};
+ghost use Rattle.dsn_library.specs.Images.{image_of, images_refusals};
+ghost use Rattle.dsn_library.specs.Padstacks.{stack_of, stacks_refusals};
 ghost use Rattle.dsn_library.specs.Sound.{IsLibrarySound};
-ghost use Rattle.dsn_library.specs.Whole.{forms_passed, images, libraries, library_left_out, library_notes};
+ghost use Rattle.dsn_library.specs.Whole.{images, libraries, library_left_out, library_notes};
 ghost use Rattle.dsn_library.specs.Whole.{library_of, library_refusals, padstacks};
 
 use crate::image::read_images;
@@ -46,17 +46,8 @@ fn sections_of<'a>(alloc: Global, pcb: &'a Tree) -> Result<Sections<'a>, AllocEr
     })
 }
 
-// How many lists stand beside the forms of shapes and keepouts.
-#[tactic(auto, unfolding(crate::specs::Whole::forms_passed))]
-fn forms_passed(alloc: Global, padstacks: &Trees, images: &Trees) -> Result<u64, AllocError>
-    ensures { IfOk result (λ n. n ≡ capped (forms_passed (shapes_in padstacks.now) (keepouts_in images.now))) }
-{
-    let shapes = padstacks.headed(alloc, b"shape")?;
-    let keepouts = images.lists(alloc, keepout_heads())?;
-    Ok(shape_notes(&shapes).saturating_add(ban_notes(&keepouts)))
-}
-
-// Passes over what stands directly in the sections, the images, the pins and the padstacks.
+// Passes over what stands directly in the sections, the images, the pins and the padstacks, and counts what stands
+// beside the forms of shapes and keepouts.
 fn pass_over_library(
     alloc: Global,
     first: &mut Option<Refusal>,
@@ -74,7 +65,10 @@ fn pass_over_library(
     let in_padstacks = pass_over(first, &parts.padstacks, ListKind::Padstack);
     let in_sections = in_libraries.saturating_add(in_images);
     let in_parts = in_pins.saturating_add(in_padstacks);
-    let beside = forms_passed(alloc, &parts.padstacks, &parts.images)?;
+    drop(pins);
+    let shapes = parts.padstacks.headed(alloc, b"shape")?;
+    let keepouts = parts.images.lists(alloc, keepout_heads())?;
+    let beside = shape_notes(&shapes).saturating_add(ban_notes(&keepouts));
     Ok(in_sections.saturating_add(in_parts).saturating_add(beside))
 }
 

@@ -1,6 +1,6 @@
 -- A loop that stops at the first element that answers a question about all.
 use Rattle.std.proofs.Common.{◌≡◌, ◌∙◌, ◌<◌, ◌≤◌, ◌+◌, ◌++◌, ◌∷◌, [], ℕ, List, length, map, take, get_or, All, Any}
-use Rattle.std.proofs.Common.{ap, append_assoc, refl, sym, subst}
+use Rattle.std.proofs.Common.{ap, append_assoc, drop, drop-cons, refl, suc, sym, subst, arith}
 use Rattle.std.proofs.lemmas.List.{map_more, take_all}
 use Rattle.std.proofs.lemmas.List.Elements.{All-more}
 use Rattle.dsn_shapes.proofs.Looped.{mapped_more}
@@ -43,3 +43,19 @@ pushed_at f xs i d old ys y h p q =
     ap (λ l. l ++ (y ∷ [])) p
     ∙ rw append_assoc (ap (λ l. old ++ l)
     (ap (λ z. map f (take i xs) ++ (z ∷ [])) q ∙ sym (map_more f xs i d h)))
+
+-- several values for the element that is seen, which come first of those that are left
+pub some_left : {X Y : Type 0} (F : List X → List Y) (xs : List X) (i : ℕ) (x : X) (ys zs tail whole : List Y)
+    → i < length xs → x ≡ get_or xs i x → F (x ∷ drop (i + 1) xs) ≡ zs ++ tail → ys ++ F (drop i xs) ≡ whole
+    → (ys ++ zs) ++ tail ≡ whole
+some_left F xs i x ys zs tail whole h e f w =
+    let n : i + 1 ≡ suc i = omega arith in
+    let split : drop i xs ≡ x ∷ drop (i + 1) xs =
+    drop-cons xs i x h ∙ ap (λ y. y ∷ drop (suc i) xs) (sym e) ∙ ap (λ k. x ∷ drop k xs) (sym n) in
+    append_assoc ys zs tail ∙ ap (λ l. ys ++ l) (sym (ap F split ∙ f)) ∙ w
+
+-- and one
+pub one_left : {X Y : Type 0} (F : List X → List Y) (xs : List X) (i : ℕ) (x : X) (ys : List Y) (y : Y)
+    (tail whole : List Y) → i < length xs → x ≡ get_or xs i x → F (x ∷ drop (i + 1) xs) ≡ y ∷ tail
+    → ys ++ F (drop i xs) ≡ whole → (ys ++ (y ∷ [])) ++ tail ≡ whole
+one_left F xs i x ys y tail whole h e f w = some_left F xs i x ys (y ∷ []) tail whole h e f w

@@ -51,10 +51,10 @@ made p n stacks free frame d m a u g e is =
     subst (IsCountedOf p) (sym is) full
 
 -- filled part by part, the bare design is the frame
-pub framed : (p : Parts) (stacks : List Padstack) (free : List FreeWire) (a b c d e : Design)
-    → a ≡ bare_with p stacks free → b ≡ labelled p.head a → c ≡ outlined p.structure b
-    → d ≡ populated p c → e ≡ connected p d → e ≡ counted_with p stacks [] free
+pub framed : (p : Parts) (stacks : List Padstack) (free : List FreeWire) (a b c d : Design)
+    → a ≡ bare_with p stacks free → b ≡ outlined p.structure (labelled p.head a) → c ≡ populated p b → d ≡ connected p c
+    → d ≡ counted_with p stacks [] free
 unfolding design_with
-framed p stacks free a b c d e is_bare is_labelled is_outlined is_populated is_connected =
+framed p stacks free a b c d is_bare is_outlined is_populated is_connected =
     is_connected ∙ ap (connected p) (is_populated ∙ ap (populated p) (is_outlined
-    ∙ ap (outlined p.structure) (is_labelled ∙ ap (labelled p.head) is_bare)))
+    ∙ ap (λ (x : Design). outlined p.structure (labelled p.head x)) is_bare))

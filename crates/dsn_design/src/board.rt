@@ -2,17 +2,16 @@
 //! Each field is made by itself; the fixed items come last, since vias are of the design's padstacks.
 
 ghost use Rattle.std.specs.Prelude.{◌≡◌, ◌++◌, [], All, IfOk, OnOk};
-ghost use Rattle.dsn_shapes.specs.Lists.{capped};
 ghost use Rattle.pcb_model.specs.Bounds.{IsFit};
 ghost use Rattle.pcb_model.specs.declared.design.Padstack.{Padstack as TheStack};
 ghost use Rattle.dsn_design.specs.Counts.{IsCountedOf, bare_with, connected, counted_items, counted_nets};
-ghost use Rattle.dsn_design.specs.Counts.{counted_pins, counted_with, items_from, labelled, listed_items, outlined};
+ghost use Rattle.dsn_design.specs.Counts.{counted_with, labelled, listed_items, outlined};
 ghost use Rattle.dsn_design.specs.Counts.{populated};
 ghost use Rattle.dsn_design.specs.Usable.{AreUsable, padstacks_of, usables};
 ghost use Rattle.dsn_design.specs.Fit.{ArePartsFit};
 ghost use Rattle.dsn_design.specs.Items.{free_wiring, loops_of};
-ghost use Rattle.dsn_design.specs.Made.{ArePadstacksOf, board_layer, bounds_of, layers_of, notes_of};
-ghost use Rattle.dsn_design.specs.Made.{section_notes, structure_vias};
+ghost use Rattle.dsn_design.specs.Made.{ArePadstacksOf, bounds_of, layers_of, notes_of};
+ghost use Rattle.dsn_design.specs.Made.{structure_vias};
 
 use crate::edges::loops_of;
 use crate::items::{numbered, push_bans, push_edges, push_places};
@@ -27,21 +26,15 @@ use geo_kernel::{List, Name, Point};
 use pcb_model::{BoardLayer, Design, FreeWire, Item, Net, Padstack, Pin, RuleSet};
 use std::alloc::{AllocError, Global};
 
-fn board_layer(alloc: Global, layer: &Layer) -> Result<BoardLayer, AllocError>
-    ensures { IfOk result (λ l. l ≡ board_layer layer.now) }
-{
-    Ok(BoardLayer {
-        name: List::from_slice(alloc, layer.name.as_slice())?,
-        power: layer.power,
-    })
-}
-
 fn layers_of(alloc: Global, layers: &[Layer]) -> Result<List<BoardLayer>, AllocError>
     ensures { IfOk result (λ ls. ls ≡ layers_of layers.now) }
 {
     let mut all = List::new(alloc);
     for layer in layers {
-        all.push(board_layer(alloc, layer)?)?;
+        all.push(BoardLayer {
+            name: List::from_slice(alloc, layer.name.as_slice())?,
+            power: layer.power,
+        })?;
     }
     Ok(all)
 }
@@ -65,21 +58,18 @@ fn copy_name(alloc: Global, name: &Option<Name>) -> Result<Option<Name>, AllocEr
     }
 }
 
-fn section_notes(parts: &Parts) -> u64
-    ensures { result ≡ capped (section_notes parts.now) }
-{
-    let front = parts.head.notes.saturating_add(parts.structure.notes);
-    let middle = parts.library.notes.saturating_add(parts.placing.notes);
-    let back = parts.network.notes.saturating_add(parts.wiring.notes);
-    front.saturating_add(middle).saturating_add(back)
-}
-
 fn notes_of(parts: &Parts, stacks: &List<Padstack>, vias: &List<u32>) -> u64
     requires { vias.now ≡ structure_vias parts.now }
     ensures { result ≡ notes_of parts.now stacks.now }
 {
     let unusable = via_notes(stacks, vias.as_slice(), parts.network.classes.as_slice());
-    section_notes(parts).saturating_add(unusable)
+    let front = parts.head.notes.saturating_add(parts.structure.notes);
+    let middle = parts.library.notes.saturating_add(parts.placing.notes);
+    let back = parts.network.notes.saturating_add(parts.wiring.notes);
+    front
+        .saturating_add(middle)
+        .saturating_add(back)
+        .saturating_add(unusable)
 }
 
 fn counted_nets(
@@ -116,56 +106,35 @@ fn connect(alloc: Global, parts: &Parts, design: &mut Design) -> Result<(), Allo
     Ok(())
 }
 
-fn board_of<'a>(
-    alloc: Global,
-    parts: &'a Parts,
-    stacks: &'a List<Padstack>,
-) -> Result<Board<'a>, AllocError>
-    ensures parts { IfOk result (λ b. b.parts.now ≡ parts.now) }
-    ensures stacks { IfOk result (λ b. b.stacks.now ≡ stacks.now) }
-{
-    let owners = Owners::of(alloc, parts.network.nets.as_slice())?;
-    Ok(Board {
-        parts,
-        owners,
-        stacks,
-    })
-}
-
-fn pins_of(alloc: Global, parts: &Parts, stacks: &List<Padstack>) -> Result<List<Pin>, AllocError>
-    requires { ArePartsFit parts.now }
-    ensures { IfOk result (λ pins. pins ≡ counted_pins parts.now stacks.now) }
-{
-    let board = board_of(alloc, parts, stacks)?;
-    let pins = all_pins(alloc, &board);
-    drop(board);
-    pins
-}
-
 // The placed components of a design and their pins.
 fn populate(alloc: Global, parts: &Parts, design: &mut Design) -> Result<(), AllocError>
     requires { ArePartsFit parts.now }
     ensures { OnOk result (design.new ≡ populated parts.now design.old) }
 {
-    design.pins = pins_of(alloc, parts, &design.padstacks)?;
+    let board = Board {
+        parts,
+        owners: Owners::of(alloc, parts.network.nets.as_slice())?,
+        stacks: &design.padstacks,
+    };
+    let pins = all_pins(alloc, &board);
+    drop(board);
+    design.pins = pins?;
     design.components = components_of(alloc, &parts.library, parts.placing.places.as_slice())?;
     Ok(())
 }
 
-// The names of a design and of what wrote it.
-fn label(alloc: Global, head: &Head, design: &mut Design) -> Result<(), AllocError>
-    ensures { OnOk result (design.new ≡ labelled head.now design.old) }
+// The names of a design and of what wrote it, and its layers, boundaries and rules.
+fn outline(
+    alloc: Global,
+    head: &Head,
+    structure: &Structure,
+    design: &mut Design,
+) -> Result<(), AllocError>
+    ensures { OnOk result (design.new ≡ outlined structure.now (labelled head.now design.old)) }
 {
     design.name = List::from_slice(alloc, head.name.as_slice())?;
     design.host_cad = copy_name(alloc, &head.host_cad)?;
     design.host_version = copy_name(alloc, &head.host_version)?;
-    Ok(())
-}
-
-// The layers, boundaries and rules of a design.
-fn outline(alloc: Global, structure: &Structure, design: &mut Design) -> Result<(), AllocError>
-    ensures { OnOk result (design.new ≡ outlined structure.now design.old) }
-{
     design.layers = layers_of(alloc, structure.layers.as_slice())?;
     design.bounds = bounds_of(alloc, structure.bounds.as_slice())?;
     design.rules = copy_rules(alloc, &structure.rules)?;
@@ -212,27 +181,10 @@ fn frame_of(
     ensures { IfOk result (λ d. d ≡ counted_with parts.now stacks [] free) }
 {
     let mut design = bare(alloc, parts, stacks, free);
-    label(alloc, &parts.head, &mut design)?;
-    outline(alloc, &parts.structure, &mut design)?;
+    outline(alloc, &parts.head, &parts.structure, &mut design)?;
     populate(alloc, parts, &mut design)?;
     connect(alloc, parts, &mut design)?;
     Ok(design)
-}
-
-fn push_placed(
-    alloc: Global,
-    items: &mut List<Item>,
-    parts: &Parts,
-    stacks: &List<Padstack>,
-) -> Result<(), AllocError>
-    requires { ArePartsFit parts.now }
-    ensures { OnOk result
-        (items.new ≡ items.old ++ items_from parts.now stacks.now 0 0 parts.now.placing.places) }
-{
-    let board = board_of(alloc, parts, stacks)?;
-    let pushed = push_places(alloc, items, &board, parts.placing.places.as_slice());
-    drop(board);
-    pushed
 }
 
 fn push_items(
@@ -248,7 +200,14 @@ fn push_items(
     let n = layer_count(parts);
     push_edges(alloc, items, n, parts.structure.bounds.as_slice())?;
     push_bans(alloc, items, n, parts.structure.bans.as_slice())?;
-    push_placed(alloc, items, parts, &frame.padstacks)?;
+    let board = Board {
+        parts,
+        owners: Owners::of(alloc, parts.network.nets.as_slice())?,
+        stacks: &frame.padstacks,
+    };
+    let pushed = push_places(alloc, items, &board, parts.placing.places.as_slice());
+    drop(board);
+    pushed?;
     push_fixed(alloc, items, frame, parts.wiring.wires.as_slice())
 }
 
@@ -264,12 +223,14 @@ fn fixed_items(alloc: Global, parts: &Parts, frame: &Design) -> Result<List<Item
     numbered(alloc, items)
 }
 
-// The design with its fixed items.
-fn with_fixed(alloc: Global, parts: &Parts, mut design: Design) -> Result<Design, AllocError>
-    requires parts_fit { ArePartsFit parts.now }
-    requires stacks_fit { All (λ (s : TheStack). All IsFit s.pieces) design.padstacks }
-    ensures { IfOk result (λ d. d ≡ record design { fixed = counted_items parts.now design.padstacks }) }
+/// The design that the sections of a text make together.
+pub(crate) fn make_design(alloc: Global, parts: &Parts) -> Result<Design, AllocError>
+    requires { ArePartsFit parts.now }
+    ensures { IfOk result (IsCountedOf parts.now) }
 {
+    let free = free_wiring(alloc, parts.wiring.wires.as_slice())?;
+    let stacks = padstacks_of(alloc, layer_count(parts), &parts.library.stacks)?;
+    let mut design = frame_of(alloc, parts, stacks, free)?;
     match fixed_items(alloc, parts, &design) {
         Ok(fixed) => {
             design.fixed = fixed;
@@ -280,15 +241,4 @@ fn with_fixed(alloc: Global, parts: &Parts, mut design: Design) -> Result<Design
             Err(error)
         }
     }
-}
-
-/// The design that the sections of a text make together.
-pub(crate) fn make_design(alloc: Global, parts: &Parts) -> Result<Design, AllocError>
-    requires { ArePartsFit parts.now }
-    ensures { IfOk result (IsCountedOf parts.now) }
-{
-    let free = free_wiring(alloc, parts.wiring.wires.as_slice())?;
-    let stacks = padstacks_of(alloc, layer_count(parts), &parts.library.stacks)?;
-    let frame = frame_of(alloc, parts, stacks, free)?;
-    with_fixed(alloc, parts, frame)
 }

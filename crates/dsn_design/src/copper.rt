@@ -3,23 +3,13 @@
 
 ghost use Rattle.std.specs.Prelude.{◌≡◌, ◌≤◌, ◌++◌, map, IfOk, OnOk};
 ghost use Rattle.std.specs.List.{flat_map};
-ghost use Rattle.dsn_design.specs.Copper.{piece_on, pieces_of, stack_pieces};
+ghost use Rattle.dsn_design.specs.Copper.{piece_on, pieces_of};
 
 use dsn_shapes::{LayerShape, Stack};
 use dsn_wiring::layers_below;
 use geo_kernel::List;
 use pcb_model::{Piece, copy_spine};
 use std::alloc::{AllocError, Global};
-
-fn piece_on(alloc: Global, shape: &LayerShape, layer: u8) -> Result<Piece, AllocError>
-    ensures { IfOk result (λ p. p ≡ piece_on shape.now layer) }
-{
-    Ok(Piece {
-        layer,
-        spine: copy_spine(alloc, &shape.spine)?,
-        width: shape.width,
-    })
-}
 
 fn add_on(
     alloc: Global,
@@ -30,7 +20,11 @@ fn add_on(
     ensures { OnOk result (pieces.new ≡ pieces.old ++ map (piece_on shape.now) layers.now) }
 {
     for layer in layers {
-        pieces.push(piece_on(alloc, shape, *layer)?)?;
+        pieces.push(Piece {
+            layer: *layer,
+            spine: copy_spine(alloc, &shape.spine)?,
+            width: shape.width,
+        })?;
     }
     Ok(())
 }
@@ -64,13 +58,4 @@ pub(crate) fn shape_pieces(
         add_pieces(alloc, &mut pieces, n, shape)?;
     }
     Ok(pieces)
-}
-
-/// The pieces of a padstack on a board of `n` layers.
-#[tactic(auto, unfolding(crate::specs::Copper::stack_pieces))]
-pub(crate) fn stack_pieces(alloc: Global, n: u8, stack: &Stack) -> Result<List<Piece>, AllocError>
-    requires { n ≤ 32 }
-    ensures { IfOk result (λ ps. ps ≡ stack_pieces n stack.now) }
-{
-    shape_pieces(alloc, n, stack.shapes.as_slice())
 }

@@ -5,7 +5,7 @@ ghost use Rattle.std.specs.Prelude.{◌≡◌, ◌++◌, map, IfOk, OnOk};
 ghost use Rattle.std.specs.List.{flat_map};
 ghost use Rattle.pcb_model.specs.Pieces.{wire_piece};
 ghost use Rattle.dsn_design.specs.Copper.{below};
-ghost use Rattle.dsn_design.specs.Items.{closed, edge_item, edge_pieces, fixed_item, loops_of};
+ghost use Rattle.dsn_design.specs.Items.{edge_item, edge_pieces, fixed_item, loops_of};
 
 use dsn_shapes::LayerShape;
 use geo_kernel::{List, Point, Spine};
@@ -38,16 +38,6 @@ pub(crate) fn loops_of(alloc: Global, spine: &Spine) -> Result<List<List<Point>>
             Ok(loops)
         }
     }
-}
-
-fn closed(alloc: Global, points: &[Point]) -> Result<List<Point>, AllocError>
-    ensures { IfOk result (λ ps. ps ≡ closed points.now) }
-{
-    let mut chain = List::from_slice(alloc, points)?;
-    if let [first, ..] = points {
-        chain.push(*first)?;
-    }
-    Ok(chain)
 }
 
 /// The numbers of the layers of a board of `n`.
@@ -89,7 +79,10 @@ fn push_edge(
 ) -> Result<(), AllocError>
     ensures { OnOk result (pieces.new ≡ pieces.old ++ edge_pieces layers.now width points.now) }
 {
-    let chain = closed(alloc, points)?;
+    let mut chain = List::from_slice(alloc, points)?;
+    if let [first, ..] = points {
+        chain.push(*first)?;
+    }
     push_chain(alloc, pieces, layers, width, chain.as_slice())
 }
 

@@ -6,34 +6,20 @@ ghost use Rattle.geo_kernel.specs.Spine.{IsSpineWithin};
 ghost use Rattle.dsn_shapes.specs.declared.parts.BanShape.{BanShape as TheBan};
 ghost use Rattle.dsn_shapes.specs.Within.{IsPinWithin};
 ghost use Rattle.dsn_design.specs.Fit.{ArePartsFit, IsPlaceWithin};
-ghost use Rattle.dsn_design.specs.Counts.{items_from, next_number, pads_at, place_items, placed_items};
-ghost use Rattle.dsn_design.specs.Items.{ban_item, edge_item, numbered, numbered_from, pad_item, pad_kind};
+ghost use Rattle.dsn_design.specs.Counts.{items_from, pads_at};
+ghost use Rattle.dsn_design.specs.Items.{ban_item, edge_item, numbered, numbered_from, pad_kind};
 ghost use Rattle.dsn_design.specs.Items.{pad_pieces, placed_ban};
 ghost use Rattle.dsn_design.specs.Pins.{layer_count};
 
 use crate::copper::{add_pieces, shape_pieces};
 use crate::edges::{edge_item, fixed_item};
 use crate::parts::{Parts, layer_count};
-use crate::pins::{Board, image_bans, image_pins, is_placed, is_smd, net_of_pin, stand_of};
+use crate::pins::{Board, image_bans, image_pins, is_smd, net_of_pin, stand_of};
 use dsn_placement::{ban_copper, pin_copper};
 use dsn_shapes::{BanShape, ImagePin, LayerShape, PinRef, Place, place_index};
 use geo_kernel::List;
 use pcb_model::{Item, Kind, Metal, Piece};
 use std::alloc::{AllocError, Global};
-
-#[tactic(auto, unfolding(crate::specs::Items::ban_item))]
-fn ban_item(alloc: Global, n: u8, ban: &BanShape) -> Result<Item, AllocError>
-    requires { n ≤ 32 }
-    ensures { IfOk result (λ a. a ≡ ban_item n ban.now) }
-{
-    let mut pieces = List::new(alloc);
-    add_pieces(alloc, &mut pieces, n, &ban.shape)?;
-    let metal = Metal::Ban {
-        wires: ban.wires,
-        vias: ban.vias,
-    };
-    Ok(fixed_item(None, Kind::Area, metal, pieces))
-}
 
 /// Appends the edges of boundaries on a board of `n` layers.
 pub(crate) fn push_edges(
@@ -51,6 +37,7 @@ pub(crate) fn push_edges(
 }
 
 /// Appends the keepouts of the structure on a board of `n` layers.
+#[tactic(auto, unfolding(crate::specs::Items::ban_item))]
 pub(crate) fn push_bans(
     alloc: Global,
     items: &mut List<Item>,
@@ -61,7 +48,13 @@ pub(crate) fn push_bans(
     ensures { OnOk result (items.new ≡ items.old ++ map (ban_item n) bans.now) }
 {
     for ban in bans {
-        items.push(ban_item(alloc, n, ban)?)?;
+        let mut pieces = List::new(alloc);
+        add_pieces(alloc, &mut pieces, n, &ban.shape)?;
+        let metal = Metal::Ban {
+            wires: ban.wires,
+            vias: ban.vias,
+        };
+        items.push(fixed_item(None, Kind::Area, metal, pieces))?;
     }
     Ok(())
 }
@@ -138,28 +131,8 @@ fn pad_kind(smd: bool) -> Kind
     if smd { Kind::Smd } else { Kind::Pin }
 }
 
-// The pad of a pin, which is pin `pin` of the design.
+// The pads of the pins of a component, of which the first is pin `first` of the design.
 #[tactic(auto, unfolding(crate::specs::Items::pad_item))]
-fn pad_item(
-    alloc: Global,
-    board: &Board,
-    place: &Place,
-    number: PinRef,
-    pin: u32,
-    image_pin: &ImagePin,
-) -> Result<Item, AllocError>
-    requires parts_fit { ArePartsFit board.now.parts.now }
-    requires place_within { IsPlaceWithin place.now }
-    requires pin_within { IsPinWithin image_pin.now }
-    ensures { IfOk result
-        (λ a. a ≡ pad_item board.now.parts.now board.now.stacks.now pin number place.now image_pin.now) }
-{
-    let pieces = pad_pieces(alloc, board.parts, place, image_pin)?;
-    let net = net_of_pin(&board.owners, number);
-    let kind = pad_kind(is_smd(board.stacks, image_pin));
-    Ok(fixed_item(net, kind, Metal::Pad { pin }, pieces))
-}
-
 fn push_pads(
     alloc: Global,
     items: &mut List<Item>,
@@ -183,71 +156,19 @@ fn push_pads(
             place: number,
             pin: next,
         };
-        items.push(pad_item(alloc, board, place, number, count, pin)?)?;
+        let pieces = pad_pieces(alloc, board.parts, place, pin)?;
+        let net = net_of_pin(&board.owners, number);
+        let kind = pad_kind(is_smd(board.stacks, pin));
+        let metal = Metal::Pad { pin: count };
+        items.push(fixed_item(net, kind, metal, pieces))?;
         next = next.saturating_add(1);
         count = count.saturating_add(1);
     }
     Ok(())
 }
 
-fn push_placed(
-    alloc: Global,
-    items: &mut List<Item>,
-    board: &Board,
-    place: &Place,
-    number: u32,
-    first: u32,
-) -> Result<(), AllocError>
-    requires parts_fit { ArePartsFit board.now.parts.now }
-    requires place_within { IsPlaceWithin place.now }
-    ensures { OnOk result
-        (items.new ≡ items.old ++ placed_items board.now.parts.now board.now.stacks.now number first place.now) }
-{
-    let lib = &board.parts.library;
-    push_placed_bans(alloc, items, board.parts, place, image_bans(lib, place))?;
-    push_pads(
-        alloc,
-        items,
-        board,
-        place,
-        number,
-        first,
-        image_pins(lib, place),
-    )
-}
-
-#[tactic(auto, unfolding(crate::specs::Counts::place_items))]
-fn push_place(
-    alloc: Global,
-    items: &mut List<Item>,
-    board: &Board,
-    place: &Place,
-    number: u32,
-    first: u32,
-) -> Result<(), AllocError>
-    requires parts_fit { ArePartsFit board.now.parts.now }
-    requires place_within { IsPlaceWithin place.now }
-    ensures { OnOk result
-        (items.new ≡ items.old ++ place_items board.now.parts.now board.now.stacks.now number first place.now) }
-{
-    if is_placed(place) {
-        push_placed(alloc, items, board, place, number, first)?;
-    }
-    Ok(())
-}
-
-fn next_number(parts: &Parts, number: u32, place: &Place) -> u32
-    requires { ArePartsFit parts.now }
-    ensures { result ≡ next_number parts.now number place.now }
-{
-    if is_placed(place) {
-        number.saturating_add(place_index(image_pins(&parts.library, place).len()))
-    } else {
-        number
-    }
-}
-
 /// Appends the keepouts and pins of the placed components.
+#[tactic(auto, unfolding(crate::specs::Counts::place_items))]
 pub(crate) fn push_places(
     alloc: Global,
     items: &mut List<Item>,
@@ -259,11 +180,16 @@ pub(crate) fn push_places(
     ensures { OnOk result
         (items.new ≡ items.old ++ items_from board.now.parts.now board.now.stacks.now 0 0 places.now) }
 {
+    let lib = &board.parts.library;
     let mut number: u32 = 0;
     let mut first: u32 = 0;
     for place in places {
-        push_place(alloc, items, board, place, number, first)?;
-        first = next_number(board.parts, first, place);
+        if place.at.is_some() {
+            push_placed_bans(alloc, items, board.parts, place, image_bans(lib, place))?;
+            let pins = image_pins(lib, place);
+            push_pads(alloc, items, board, place, number, first, pins)?;
+            first = first.saturating_add(place_index(pins.len()));
+        }
         number = number.saturating_add(1);
     }
     Ok(())

@@ -1,34 +1,17 @@
 //! Nets: their pins by number, their classes, and the usable padstacks of their vias.
 //! Source: SPECCTRA reference, net, class and circuit descriptors.
 
-ghost use Rattle.std.specs.Prelude.{◌≡◌, ◌++◌, filter, map, sum_by, count_by, not, IfOk};
+ghost use Rattle.std.specs.Prelude.{◌≡◌, ◌++◌, filter, map, count_by, not, IfOk};
 ghost use Rattle.dsn_shapes.specs.Lists.{capped};
 ghost use Rattle.dsn_shapes.specs.Names.{stack_names};
-ghost use Rattle.dsn_design.specs.Nets.{class_rules, class_vias, is_usable_at, net_of, stack_number, stack_numbers};
+ghost use Rattle.dsn_design.specs.Nets.{class_rules, class_vias, is_usable_at, net_of, stack_numbers};
 ghost use Rattle.dsn_design.specs.Nets.{unusable_in, unusable_of_class, usable_of, via_list, via_notes};
 ghost use Rattle.dsn_design.specs.Counts.{counted_number};
 
-use crate::pins::pin_number;
-use dsn_shapes::{NameIndex, PinRef, ReadClass, ReadNet, Stack, names_of, place_index};
+use dsn_shapes::{PinRef, ReadClass, ReadNet, Stack, names_of, place_index};
 use geo_kernel::{List, Name};
 use pcb_model::{Net, Padstack, RuleSet};
 use std::alloc::{AllocError, Global};
-
-fn stack_number(known: &NameIndex, name: &[u8]) -> u32
-    ensures { result ≡ stack_number known.now name.now }
-{
-    place_index(known.first_place(name).unwrap_or(0))
-}
-
-fn numbers_of(alloc: Global, known: &NameIndex, names: &[Name]) -> Result<List<u32>, AllocError>
-    ensures { IfOk result (λ ns. ns ≡ map (stack_number known.now) names.now) }
-{
-    let mut numbers = List::new(alloc);
-    for name in names {
-        numbers.push(stack_number(known, name.as_slice()))?;
-    }
-    Ok(numbers)
-}
 
 /// The indices of the padstacks of these names.
 #[tactic(auto, unfolding(crate::specs::Nets::stack_numbers))]
@@ -40,7 +23,12 @@ pub(crate) fn stack_numbers(
     ensures { IfOk result (λ ns. ns ≡ stack_numbers stacks.now names.now) }
 {
     let known = names_of(alloc, stacks.as_slice())?;
-    numbers_of(alloc, &known, names)
+    let mut numbers = List::new(alloc);
+    for name in names {
+        let place = known.first_place(name.as_slice()).unwrap_or(0);
+        numbers.push(place_index(place))?;
+    }
+    Ok(numbers)
 }
 
 fn is_usable_at(stacks: &List<Padstack>, via: u32) -> bool
@@ -105,12 +93,14 @@ pub(crate) fn copy_rules(alloc: Global, rules: &RuleSet) -> Result<RuleSet, Allo
     })
 }
 
+#[tactic(auto, unfolding(crate::specs::Counts::counted_number))]
 fn pin_numbers(alloc: Global, firsts: &List<u32>, pins: &[PinRef]) -> Result<List<u32>, AllocError>
     ensures { IfOk result (λ ns. ns ≡ map (counted_number firsts.now) pins.now) }
 {
     let mut numbers = List::new(alloc);
     for pin in pins {
-        numbers.push(pin_number(firsts, *pin))?;
+        let first = firsts.get(pin.place as usize).copied().unwrap_or(0);
+        numbers.push(first.saturating_add(pin.pin))?;
     }
     Ok(numbers)
 }
@@ -182,20 +172,14 @@ fn unusable_of_class(stacks: &List<Padstack>, class: &ReadClass) -> u64
     }
 }
 
-fn unusable_of_classes(stacks: &List<Padstack>, classes: &[ReadClass]) -> u64
-    ensures { result ≡ capped (sum_by (unusable_of_class stacks.now) classes.now) }
-{
-    let mut count: u64 = 0;
-    for class in classes {
-        count = count.saturating_add(unusable_of_class(stacks, class));
-    }
-    count
-}
-
 /// How many padstacks of the via lists may not be vias.
 #[tactic(auto, unfolding(crate::specs::Nets::via_notes))]
 pub(crate) fn via_notes(stacks: &List<Padstack>, vias: &[u32], classes: &[ReadClass]) -> u64
     ensures { result ≡ capped (via_notes stacks.now vias.now classes.now) }
 {
-    unusable_in(stacks, vias).saturating_add(unusable_of_classes(stacks, classes))
+    let mut count = unusable_in(stacks, vias);
+    for class in classes {
+        count = count.saturating_add(unusable_of_class(stacks, class));
+    }
+    count
 }

@@ -8,14 +8,13 @@ ghost use Rattle.geo_kernel.specs.Spine.{IsSpineWithin};
 ghost use Rattle.pcb_model.specs.declared.item.Piece.{Piece as ThePiece};
 ghost use Rattle.dsn_shapes.specs.declared.parts.BanShape.{BanShape as TheBan};
 ghost use Rattle.dsn_shapes.specs.Within.{IsLibraryWithin, IsPinWithin};
-ghost use Rattle.pcb_model.specs.Sound.{origin};
 ghost use Rattle.dsn_placement.specs.Copper.{IsStandWithin, stand_of};
 ghost use Rattle.dsn_design.specs.Fit.{ArePartsFit, IsPlaceWithin};
-ghost use Rattle.dsn_design.specs.Counts.{counted_components, counted_number, counted_pins, first_pins};
-ghost use Rattle.dsn_design.specs.Counts.{firsts_from, next_component, pin_count, pins_at, pins_from, place_pins};
+ghost use Rattle.dsn_design.specs.Counts.{counted_components, counted_pins, first_pins};
+ghost use Rattle.dsn_design.specs.Counts.{firsts_from, pin_count, pins_at};
 ghost use Rattle.dsn_design.specs.Counts.{plus};
-ghost use Rattle.dsn_design.specs.Pins.{centre_of, component_of, image_bans, image_name, image_pins, is_on_one};
-ghost use Rattle.dsn_design.specs.Pins.{is_placed, is_smd, net_of_pin, pin_of, pin_ref, placed_as, placed_pin};
+ghost use Rattle.dsn_design.specs.Pins.{component_of, image_bans, image_name, image_pins};
+ghost use Rattle.dsn_design.specs.Pins.{is_smd, net_of_pin, pin_ref};
 
 use crate::parts::Parts;
 use dsn_network::Owners;
@@ -24,12 +23,6 @@ use dsn_shapes::{BanShape, ImagePin, Library, PinRef, Place, place_index};
 use geo_kernel::{List, Point};
 use pcb_model::{Component, Padstack, Piece, Pin};
 use std::alloc::{AllocError, Global};
-
-pub(crate) fn is_placed(place: &Place) -> bool
-    ensures { result ≡ is_placed place.now }
-{
-    place.at.is_some()
-}
 
 /// The pins of a component's image.
 pub(crate) fn image_pins<'a>(lib: &'a Library, place: &Place) -> &'a [ImagePin]
@@ -64,19 +57,13 @@ fn image_name<'a>(lib: &'a Library, place: &Place) -> &'a [u8]
     }
 }
 
-fn origin() -> Point
-    ensures { result ≡ origin }
-{
-    Point { x: 0, y: 0 }
-}
-
 fn component_of(alloc: Global, lib: &Library, place: &Place) -> Result<Component, AllocError>
     ensures { IfOk result (λ c. c ≡ component_of lib.now place.now) }
 {
     Ok(Component {
         name: List::from_slice(alloc, place.name.as_slice())?,
         image: List::from_slice(alloc, image_name(lib, place))?,
-        at: place.at.unwrap_or(origin()),
+        at: place.at.unwrap_or(Point { x: 0, y: 0 }),
         back: place.back,
         microdegrees: place.angle.microdegrees,
     })
@@ -93,7 +80,7 @@ pub(crate) fn components_of(
 {
     let mut components = List::new(alloc);
     for place in places {
-        if is_placed(place) {
+        if place.at.is_some() {
             components.push(component_of(alloc, lib, place)?)?;
         }
     }
@@ -107,7 +94,7 @@ pub(crate) fn stand_of(flip_last: bool, place: &Place) -> Stand
     ensures within { IsStandWithin result }
 {
     Stand {
-        at: place.at.unwrap_or(origin()),
+        at: place.at.unwrap_or(Point { x: 0, y: 0 }),
         back: place.back,
         flip_last,
         angle: place.angle,
@@ -125,15 +112,6 @@ pub(crate) fn net_of_pin(owners: &Owners, pin: PinRef) -> Option<u32>
     }
 }
 
-#[tactic(auto, unfolding(crate::specs::Pins::centre_of))]
-fn centre_of(flip_last: bool, place: &Place, pin: &ImagePin) -> Point
-    requires place_within { IsPlaceWithin place.now }
-    requires pin_within { IsPinWithin pin.now }
-    ensures { result ≡ centre_of flip_last place.now pin.now }
-{
-    pin_centre(stand_of(flip_last, place), pin).unwrap_or(origin())
-}
-
 fn are_on(layer: u8, pieces: &[Piece]) -> bool
     ensures { result ≡ list_all (λ (q : ThePiece). q.layer == layer) pieces.now }
 {
@@ -145,22 +123,16 @@ fn are_on(layer: u8, pieces: &[Piece]) -> bool
     true
 }
 
-fn is_on_one(pieces: &[Piece]) -> bool
-    ensures { result ≡ is_on_one pieces.now }
-{
-    match pieces {
-        [] => false,
-        [first, rest @ ..] => are_on(first.layer, rest),
-    }
-}
-
 /// Whether a pin's padstack has copper on one layer only.
 #[tactic(auto, unfolding(crate::specs::Pins::is_smd))]
 pub(crate) fn is_smd(stacks: &List<Padstack>, pin: &ImagePin) -> bool
     ensures { result ≡ is_smd stacks.now pin.now }
 {
     match stacks.get(pin.stack as usize) {
-        Some(stack) => is_on_one(stack.pieces.as_slice()),
+        Some(stack) => match stack.pieces.as_slice() {
+            [] => false,
+            [first, rest @ ..] => are_on(first.layer, rest),
+        },
         None => false,
     }
 }
@@ -174,30 +146,7 @@ pub(crate) struct Board<'a> {
     ghost owned: { owners ≡ parts.now.network.nets },
 }
 
-#[tactic(auto, unfolding(crate::specs::Pins::pin_of))]
-fn pin_of(
-    alloc: Global,
-    board: &Board,
-    component: u32,
-    place: &Place,
-    number: PinRef,
-    pin: &ImagePin,
-) -> Result<Pin, AllocError>
-    requires place_within { IsPlaceWithin place.now }
-    requires pin_within { IsPinWithin pin.now }
-    ensures { IfOk result
-        (λ p. p ≡ pin_of board.now.parts.now board.now.stacks.now
-        (placed_pin (placed_as (component, (number.place, place.now))) (number.pin, pin.now))) }
-{
-    Ok(Pin {
-        component,
-        name: List::from_slice(alloc, pin.name.as_slice())?,
-        net: net_of_pin(&board.owners, number),
-        centre: centre_of(board.parts.structure.flip_last, place, pin),
-        smd: is_smd(board.stacks, pin),
-    })
-}
-
+#[tactic(auto, unfolding(crate::specs::Pins::pin_of, crate::specs::Pins::centre_of))]
 fn push_pins(
     alloc: Global,
     pins: &mut List<Pin>,
@@ -213,78 +162,52 @@ fn push_pins(
         (pins.new ≡ pins.old ++ pins_at board.now.parts.now board.now.stacks.now number component place.now 0
         image_pins.now) }
 {
+    let stand = stand_of(board.parts.structure.flip_last, place);
     let mut next: u32 = 0;
     for image_pin in image_pins {
         let number = PinRef {
             place: number,
             pin: next,
         };
-        pins.push(pin_of(alloc, board, component, place, number, image_pin)?)?;
+        pins.push(Pin {
+            component,
+            name: List::from_slice(alloc, image_pin.name.as_slice())?,
+            net: net_of_pin(&board.owners, number),
+            centre: pin_centre(stand, image_pin).unwrap_or(Point { x: 0, y: 0 }),
+            smd: is_smd(board.stacks, image_pin),
+        })?;
         next = next.saturating_add(1);
     }
     Ok(())
 }
 
-#[tactic(auto, unfolding(crate::specs::Counts::place_pins))]
-fn push_place(
-    alloc: Global,
-    pins: &mut List<Pin>,
-    board: &Board,
-    component: u32,
-    place: &Place,
-    number: u32,
-) -> Result<(), AllocError>
-    requires library_within { IsLibraryWithin board.now.parts.now.library }
-    requires place_within { IsPlaceWithin place.now }
-    ensures { OnOk result
-        (pins.new ≡ pins.old ++ place_pins board.now.parts.now board.now.stacks.now number component place.now) }
+/// The pins of all placed components.
+#[tactic(auto, unfolding(crate::specs::Counts::counted_pins, crate::specs::Counts::place_pins))]
+pub(crate) fn all_pins(alloc: Global, board: &Board) -> Result<List<Pin>, AllocError>
+    requires { ArePartsFit board.now.parts.now }
+    ensures { IfOk result (λ ps. ps ≡ counted_pins board.now.parts.now board.now.stacks.now) }
 {
-    if is_placed(place) {
-        let image_pins = image_pins(&board.parts.library, place);
-        push_pins(alloc, pins, board, component, place, number, image_pins)?;
-    }
-    Ok(())
-}
-
-fn next_component(component: u32, place: &Place) -> u32
-    ensures { result ≡ next_component component place.now }
-{
-    if is_placed(place) {
-        component.saturating_add(1)
-    } else {
-        component
-    }
-}
-
-fn pins_of(alloc: Global, board: &Board, places: &[Place]) -> Result<List<Pin>, AllocError>
-    requires library_within { IsLibraryWithin board.now.parts.now.library }
-    requires places_within { All IsPlaceWithin places.now }
-    ensures { IfOk result (λ ps. ps ≡ pins_from board.now.parts.now board.now.stacks.now 0 0 places.now) }
-{
+    let places = board.parts.placing.places.as_slice();
     let mut pins = List::new(alloc);
     let mut number: u32 = 0;
     let mut component: u32 = 0;
     for place in places {
-        push_place(alloc, &mut pins, board, component, place, number)?;
-        component = next_component(component, place);
+        if place.at.is_some() {
+            let image_pins = image_pins(&board.parts.library, place);
+            push_pins(
+                alloc, &mut pins, board, component, place, number, image_pins,
+            )?;
+            component = component.saturating_add(1);
+        }
         number = number.saturating_add(1);
     }
     Ok(pins)
 }
 
-/// The pins of all placed components.
-#[tactic(auto, unfolding(crate::specs::Counts::counted_pins))]
-pub(crate) fn all_pins(alloc: Global, board: &Board) -> Result<List<Pin>, AllocError>
-    requires { ArePartsFit board.now.parts.now }
-    ensures { IfOk result (λ ps. ps ≡ counted_pins board.now.parts.now board.now.stacks.now) }
-{
-    pins_of(alloc, board, board.parts.placing.places.as_slice())
-}
-
 fn pin_count(lib: &Library, place: &Place) -> u32
     ensures { result ≡ min (pin_count lib.now place.now) (2 ^ 32 - 1) }
 {
-    if !is_placed(place) {
+    if place.at.is_none() {
         return 0;
     }
     match lib.images.get(place.image as usize) {
@@ -309,13 +232,4 @@ pub(crate) fn first_pins(
         next = next.saturating_add(pin_count(lib, place));
     }
     Ok(firsts)
-}
-
-/// The number of a pin, where the components' first pins have these numbers.
-#[tactic(auto, unfolding(crate::specs::Counts::counted_number))]
-pub(crate) fn pin_number(firsts: &List<u32>, pin: PinRef) -> u32
-    ensures { result ≡ counted_number firsts.now pin }
-{
-    let first = firsts.get(pin.place as usize).copied().unwrap_or(0);
-    first.saturating_add(pin.pin)
 }

@@ -7,13 +7,14 @@ ghost use Rattle.dsn_design.specs.Copper.{stack_pieces};
 ghost use Rattle.dsn_design.specs.Fit.{IsStackFit};
 ghost use Rattle.dsn_design.specs.Usable.{AreUsable, origin_spine, padstack_of, padstacks_of, usables};
 
-use crate::copper::stack_pieces;
-use crate::usable::{is_usable, origin_spine};
+use crate::copper::shape_pieces;
+use crate::usable::is_usable;
 use dsn_shapes::Stack;
-use geo_kernel::{List, Spine};
+use geo_kernel::{List, Point, Spine};
 use pcb_model::Padstack;
 use std::alloc::{AllocError, Global};
 
+#[tactic(auto, unfolding(crate::specs::Copper::stack_pieces))]
 fn padstack_of(alloc: Global, n: u8, centre: &Spine, stack: &Stack) -> Result<Padstack, AllocError>
     requires few { n ≤ 32 }
     requires centre_is { centre.now ≡ origin_spine }
@@ -21,7 +22,7 @@ fn padstack_of(alloc: Global, n: u8, centre: &Spine, stack: &Stack) -> Result<Pa
     ensures is { IfOk result (λ p. p ≡ padstack_of n (p.usable, stack.now)) }
     ensures usable { IfOk result (λ p. IsTrue p.usable ↔ IsUsable (stack_pieces n stack.now)) }
 {
-    let pieces = stack_pieces(alloc, n, stack)?;
+    let pieces = shape_pieces(alloc, n, stack.shapes.as_slice())?;
     let usable = is_usable(centre, pieces.as_slice());
     let name = List::from_slice(alloc, stack.name.as_slice())?;
     Ok(Padstack {
@@ -61,6 +62,6 @@ pub(crate) fn padstacks_of(
     ensures are { IfOk result (λ ps. ps ≡ padstacks_of n (usables ps) stacks.now) }
     ensures usable { IfOk result (λ ps. AreUsable n (usables ps) stacks.now) }
 {
-    let centre = origin_spine(alloc)?;
+    let centre = Spine::Chain(List::from_slice(alloc, &[Point { x: 0, y: 0 }])?);
     padstacks_about(alloc, n, &centre, stacks.as_slice())
 }

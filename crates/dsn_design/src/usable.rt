@@ -1,39 +1,24 @@
 //! Which padstacks may be vias: those with copper on at least two layers, and at the origin on each of them.
 //! Source: SPECCTRA reference, padstack descriptor.
 
-ghost use Rattle.std.specs.Prelude.{◌≡◌, ◌≤◌, ◌↔◌, All, Any, IfOk, IsTrue, map};
+ghost use Rattle.std.specs.Prelude.{◌≡◌, ◌≤◌, ◌↔◌, All, Any, IsTrue, map};
 ghost use Rattle.pcb_model.specs.Bounds.{IsFit};
-ghost use Rattle.pcb_model.specs.Sound.{Covers, IsUsable, origin};
+ghost use Rattle.pcb_model.specs.Sound.{IsUsable};
 ghost use Rattle.pcb_model.specs.declared.item.Piece.{Piece as ThePiece};
 ghost use Rattle.dsn_design.specs.Usable.{CoversOn, HasOther, IsCovered, IsElsewhere, origin_spine};
 
-use geo_kernel::{List, Point, Spine, spine_touch};
+use geo_kernel::{Spine, spine_touch};
 use pcb_model::Piece;
-use std::alloc::{AllocError, Global};
-
-/// The origin as a chain of one point.
-pub(crate) fn origin_spine(alloc: Global) -> Result<Spine, AllocError>
-    ensures { IfOk result (λ s. s ≡ origin_spine) }
-{
-    let mut points = List::new(alloc);
-    points.push(Point { x: 0, y: 0 })?;
-    Ok(Spine::Chain(points))
-}
-
-fn covers(centre: &Spine, p: &Piece) -> bool
-    requires centre_is { centre.now ≡ origin_spine }
-    requires fit { IsFit p.now }
-    ensures { IsTrue result ↔ Covers origin p.now }
-{
-    spine_touch(centre, &p.spine, p.width)
-}
 
 fn covers_on(centre: &Spine, layer: u8, p: &Piece) -> bool
     requires centre_is { centre.now ≡ origin_spine }
     requires fit { IsFit p.now }
     ensures { IsTrue result ↔ CoversOn layer p.now }
 {
-    p.layer == layer && covers(centre, p)
+    if p.layer != layer {
+        return false;
+    }
+    spine_touch(centre, &p.spine, p.width)
 }
 
 fn is_covered(centre: &Spine, all: &[Piece], p: &Piece) -> bool
@@ -76,12 +61,10 @@ fn has_other(all: &[Piece], p: &Piece) -> bool
 fn has_two_layers(all: &[Piece]) -> bool
     ensures { IsTrue result ↔ Any (HasOther all.now) all.now }
 {
-    for p in all {
-        if has_other(all, p) {
-            return true;
-        }
+    match all {
+        [] => false,
+        [first, ..] => has_other(all, first),
     }
-    false
 }
 
 /// Whether these pieces of a padstack have copper on at least two layers, and at the origin on each of them.

@@ -5,26 +5,15 @@ ghost use Rattle.std.specs.Prelude.{◌≡◌, ◌++◌, filter, map, All, IfOk,
 ghost use Rattle.pcb_model.specs.Bounds.{IsFit, IsMetalFit};
 ghost use Rattle.pcb_model.specs.declared.design.Padstack.{Padstack as TheStack};
 ghost use Rattle.dsn_design.specs.Fit.{IsWireFit};
-ghost use Rattle.dsn_design.specs.Items.{fixed_wiring, free_wire, free_wiring, wiring_item};
+ghost use Rattle.dsn_design.specs.Items.{fixed_wiring, free_wiring};
 
 use dsn_shapes::ReadWire;
 use geo_kernel::List;
 use pcb_model::{Design, FreeWire, Item, copy_metal, make_item};
 use std::alloc::{AllocError, Global};
 
-// A wire or via of the padstacks of a design.
-#[tactic(auto, unfolding(crate::specs::Items::wiring_item))]
-fn wiring_item(alloc: Global, d: &Design, wire: &ReadWire) -> Result<Item, AllocError>
-    requires stacks_fit { All (λ (s : TheStack). All IsFit s.pieces) d.now.padstacks }
-    requires wire_fit { IsWireFit wire.now }
-    ensures { IfOk result (λ a. a ≡ wiring_item d.now.padstacks wire.now) }
-{
-    let metal = copy_metal(alloc, &wire.metal)?;
-    make_item(alloc, d, 0, wire.net, true, metal)
-}
-
 /// Appends the fixed wires and vias, of the padstacks of a design.
-#[tactic(auto, unfolding(crate::specs::Items::fixed_wiring))]
+#[tactic(auto, unfolding(crate::specs::Items::fixed_wiring, crate::specs::Items::wiring_item))]
 pub(crate) fn push_fixed(
     alloc: Global,
     items: &mut List<Item>,
@@ -37,20 +26,11 @@ pub(crate) fn push_fixed(
 {
     for wire in wires {
         if wire.fixed {
-            items.push(wiring_item(alloc, d, wire)?)?;
+            let metal = copy_metal(alloc, &wire.metal)?;
+            items.push(make_item(alloc, d, 0, wire.net, true, metal)?)?;
         }
     }
     Ok(())
-}
-
-fn free_wire(alloc: Global, wire: &ReadWire) -> Result<FreeWire, AllocError>
-    ensures { IfOk result (λ f. f ≡ free_wire wire.now) }
-{
-    Ok(FreeWire {
-        at: wire.at,
-        net: wire.net.unwrap_or(0),
-        metal: copy_metal(alloc, &wire.metal)?,
-    })
 }
 
 /// The free wires and vias.
@@ -61,7 +41,11 @@ pub(crate) fn free_wiring(alloc: Global, wires: &[ReadWire]) -> Result<List<Free
     let mut free = List::new(alloc);
     for wire in wires {
         if !wire.fixed {
-            free.push(free_wire(alloc, wire)?)?;
+            free.push(FreeWire {
+                at: wire.at,
+                net: wire.net.unwrap_or(0),
+                metal: copy_metal(alloc, &wire.metal)?,
+            })?;
         }
     }
     Ok(free)

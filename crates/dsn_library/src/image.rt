@@ -48,6 +48,8 @@ impl<'a, 'b> Part<Image> for Images<'a, 'b> {
     }
 }
 
+// The pins of one image.
+#[tactic(auto, unfolding(crate::specs::Images::pins_refusals, dsn_shapes::specs::Names::same_names))]
 fn read_pins(
     alloc: Global,
     first: &mut Option<Refusal>,
@@ -60,24 +62,9 @@ fn read_pins(
     ensures value { IfOk result (λ v. v ≡ map (pin_of scale.nm stacks.now) (pins_in (tree.now ∷ []))) }
 {
     let pins = Trees::in_list(alloc, tree, b"pin")?;
-    note_pins(alloc, first, &pins, scale, stacks)
-}
-
-// The pins of one image.
-#[tactic(auto, unfolding(crate::specs::Images::pins_refusals, dsn_shapes::specs::Names::same_names))]
-fn note_pins(
-    alloc: Global,
-    first: &mut Option<Refusal>,
-    pins: &Trees,
-    scale: Scale,
-    stacks: &NameIndex,
-) -> Result<List<ImagePin>, AllocError>
-    ensures noted { OnOk result (first.new ≡ noted first.old (pins_refusals scale.nm stacks.now pins.now)) }
-    ensures value { IfOk result (λ v. v ≡ map (pin_of scale.nm stacks.now) pins.now) }
-{
-    let names = NameIndex::new(alloc, pins, 2)?;
-    names.refuse_same(first, pins, 2);
-    read_each(alloc, &Pins { scale, stacks }, first, pins)
+    let names = NameIndex::new(alloc, &pins, 2)?;
+    names.refuse_same(first, &pins, 2);
+    read_each(alloc, &Pins { scale, stacks }, first, &pins)
 }
 
 fn read_bans(
@@ -92,15 +79,8 @@ fn read_bans(
     ensures value { IfOk result (λ v. v ≡ map (ban_of scale.nm layers.now) (keepouts_in (tree.now ∷ []))) }
 {
     let image = Trees::one(alloc, tree)?;
-    let keepouts = keepouts_in(alloc, &image)?;
+    let keepouts = image.lists(alloc, keepout_heads())?;
     read_each(alloc, &Keepouts { scale, layers }, first, &keepouts)
-}
-
-/// The keepouts that stand directly in these lists.
-pub(crate) fn keepouts_in<'a>(alloc: Global, images: &Trees<'a>) -> Result<Trees<'a>, AllocError>
-    ensures { IfOk result (λ ts. ts ≡ keepouts_in images.now) }
-{
-    images.lists(alloc, keepout_heads())
 }
 
 /// All images of a library, whose padstacks `stacks` is the index of.

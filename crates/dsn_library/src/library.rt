@@ -6,18 +6,17 @@ ghost use Rattle.dsn_shapes.specs.Lists.{capped};
 ghost use Rattle.dsn_shapes.specs.Names.{names_at};
 ghost use Rattle.dsn_shapes.specs.Refusals.{Reads, noted};
 ghost use Rattle.dsn_shapes.specs.Within.{IsLibraryWithin};
-ghost use Rattle.dsn_library.specs.Images.{image_of, images_refusals, keepouts_in};
-ghost use Rattle.dsn_library.specs.Padstacks.{shapes_in, stack_of, stacks_refusals};
+ghost use Rattle.dsn_library.specs.Images.{image_of, images_refusals};
+ghost use Rattle.dsn_library.specs.Padstacks.{stack_of, stacks_refusals};
 ghost use Rattle.dsn_library.specs.Sound.{IsLibrarySound};
-ghost use Rattle.dsn_library.specs.Whole.{forms_passed, images, libraries, library_left_out, library_notes};
-ghost use Rattle.dsn_library.specs.Whole.{library_of, library_refusals, padstacks, parts_left_out, parts_passed};
-ghost use Rattle.dsn_library.specs.Whole.{sections_left_out, sections_passed};
+ghost use Rattle.dsn_library.specs.Whole.{images, libraries, library_left_out, library_notes};
+ghost use Rattle.dsn_library.specs.Whole.{library_of, library_refusals, padstacks};
 
-use crate::image::{keepouts_in, read_images};
+use crate::image::read_images;
 use crate::padstack::read_stacks;
 use dsn_shapes::{
-    Layer, Library, ListKind, NameIndex, ReadFault, Refusal, Trees, ban_notes, pass_over,
-    shape_notes,
+    Layer, Library, ListKind, NameIndex, ReadFault, Refusal, Trees, ban_notes, keepout_heads,
+    pass_over, shape_notes,
 };
 use dsn_tree::Tree;
 use dsn_units::Scale;
@@ -47,39 +46,8 @@ fn sections_of<'a>(alloc: Global, pcb: &'a Tree) -> Result<Sections<'a>, AllocEr
     })
 }
 
-// Passes over what stands directly in the sections and the images.
-#[tactic(auto, unfolding(crate::specs::Whole::sections_left_out, crate::specs::Whole::sections_passed))]
-fn pass_over_sections(first: &mut Option<Refusal>, libraries: &Trees, images: &Trees) -> u64
-    ensures noted { first.new ≡ noted first.old (sections_left_out libraries.now images.now) }
-    ensures value { result ≡ capped (sections_passed libraries.now images.now) }
-{
-    let in_libraries = pass_over(first, libraries, ListKind::Library);
-    let in_images = pass_over(first, images, ListKind::Image);
-    in_libraries.saturating_add(in_images)
-}
-
-// Passes over what stands directly in the pins and the padstacks.
-#[tactic(auto, unfolding(crate::specs::Whole::parts_left_out, crate::specs::Whole::parts_passed))]
-fn pass_over_parts(first: &mut Option<Refusal>, pins: &Trees, padstacks: &Trees) -> u64
-    ensures noted { first.new ≡ noted first.old (parts_left_out pins.now padstacks.now) }
-    ensures value { result ≡ capped (parts_passed pins.now padstacks.now) }
-{
-    let in_pins = pass_over(first, pins, ListKind::Pin);
-    let in_padstacks = pass_over(first, padstacks, ListKind::Padstack);
-    in_pins.saturating_add(in_padstacks)
-}
-
-// How many lists stand beside the forms of shapes and keepouts.
-#[tactic(auto, unfolding(crate::specs::Whole::forms_passed))]
-fn forms_passed(alloc: Global, padstacks: &Trees, images: &Trees) -> Result<u64, AllocError>
-    ensures { IfOk result (λ n. n ≡ capped (forms_passed (shapes_in padstacks.now) (keepouts_in images.now))) }
-{
-    let shapes = padstacks.headed(alloc, b"shape")?;
-    let keepouts = keepouts_in(alloc, images)?;
-    Ok(shape_notes(&shapes).saturating_add(ban_notes(&keepouts)))
-}
-
-#[tactic(auto, unfolding(crate::specs::Whole::library_left_out, crate::specs::Whole::library_notes))]
+// Passes over what stands directly in the sections, the images, the pins and the padstacks, and counts what stands
+// beside the forms of shapes and keepouts.
 fn pass_over_library(
     alloc: Global,
     first: &mut Option<Refusal>,
@@ -91,9 +59,16 @@ fn pass_over_library(
         (λ n. n ≡ capped (library_notes parts.now.libraries parts.now.images parts.now.padstacks)) }
 {
     let pins = parts.images.headed(alloc, b"pin")?;
-    let in_sections = pass_over_sections(first, &parts.libraries, &parts.images);
-    let in_parts = pass_over_parts(first, &pins, &parts.padstacks);
-    let beside = forms_passed(alloc, &parts.padstacks, &parts.images)?;
+    let in_libraries = pass_over(first, &parts.libraries, ListKind::Library);
+    let in_images = pass_over(first, &parts.images, ListKind::Image);
+    let in_pins = pass_over(first, &pins, ListKind::Pin);
+    let in_padstacks = pass_over(first, &parts.padstacks, ListKind::Padstack);
+    let in_sections = in_libraries.saturating_add(in_images);
+    let in_parts = in_pins.saturating_add(in_padstacks);
+    drop(pins);
+    let shapes = parts.padstacks.headed(alloc, b"shape")?;
+    let keepouts = parts.images.lists(alloc, keepout_heads())?;
+    let beside = shape_notes(&shapes).saturating_add(ban_notes(&keepouts));
     Ok(in_sections.saturating_add(in_parts).saturating_add(beside))
 }
 

@@ -1,12 +1,10 @@
 //! Padstacks: the copper of a pin or a via on each layer.
 //! Source: SPECCTRA reference, padstack descriptor.
 
-ghost use Rattle.std.specs.Prelude.{◌≡◌, ◌∷◌, [], map, IfOk, OnOk};
-ghost use Rattle.std.specs.List.{flat_map};
+ghost use Rattle.std.specs.Prelude.{◌≡◌, map, IfOk, OnOk};
 ghost use Rattle.dsn_shapes.specs.Names.{names_at};
 ghost use Rattle.dsn_shapes.specs.Refusals.{noted};
-ghost use Rattle.dsn_shapes.specs.Shapes.{held_shape, refusals_in, shape_refusals};
-ghost use Rattle.dsn_library.specs.Padstacks.{shapes_in, stack_of, stacks_refusals};
+ghost use Rattle.dsn_library.specs.Padstacks.{stack_of, stacks_refusals};
 
 use dsn_shapes::{
     Layer, LayerShape, NameIndex, Part, Refusal, Shapes, Stack, Trees, name_of, read_each,
@@ -39,26 +37,17 @@ impl<'a> Part<Stack> for Padstacks<'a> {
         tree: &Tree,
     ) -> Result<Stack, AllocError> {
         refuse_quoted_name(first, tree, 1);
-        let shapes = read_shapes(alloc, first, tree, self.scale, self.layers)?;
+        let forms = Shapes {
+            scale: self.scale,
+            layers: self.layers,
+        };
+        let lists = Trees::in_list(alloc, tree, b"shape")?;
+        let shapes = read_each(alloc, &forms, first, &lists);
+        drop(lists);
+        let shapes = shapes?;
         let name = List::from_slice(alloc, name_of(tree, 1))?;
         Ok(Stack { name, shapes })
     }
-}
-
-fn read_shapes(
-    alloc: Global,
-    first: &mut Option<Refusal>,
-    tree: &Tree,
-    scale: Scale,
-    layers: &List<Layer>,
-) -> Result<List<LayerShape>, AllocError>
-    ensures noted { OnOk result
-        (first.new ≡ noted first.old
-        (flat_map (refusals_in (shape_refusals scale.nm layers.now)) (shapes_in (tree.now ∷ [])))) }
-    ensures value { IfOk result (λ v. v ≡ map (held_shape scale.nm layers.now) (shapes_in (tree.now ∷ []))) }
-{
-    let shapes = Trees::in_list(alloc, tree, b"shape")?;
-    read_each(alloc, &Shapes { scale, layers }, first, &shapes)
 }
 
 /// All padstacks of a library, whose names `names` is the index of.

@@ -4,7 +4,7 @@
 ghost use Rattle.std.specs.Prelude.{◌≡◌};
 ghost use Rattle.dsn_shapes.specs.Refusals.{noted};
 ghost use Rattle.dsn_shapes.specs.Angles.{no_turn};
-ghost use Rattle.dsn_library.specs.Pins.{degrees_in, degrees_refusals, pin_place, pin_place_refusals, pin_stack};
+ghost use Rattle.dsn_library.specs.Pins.{degrees_in, degrees_refusals, pin_stack};
 ghost use Rattle.dsn_library.specs.Pins.{rotation_of, rotation_refusals, unknown_stack};
 
 use dsn_shapes::table::{NO_NUMBER, NO_PADSTACK};
@@ -67,17 +67,6 @@ fn pin_stack(first: &mut Option<Refusal>, stacks: &NameIndex, pin: &Tree) -> u32
     }
 }
 
-// Where a pin stands in its image.
-#[tactic(auto, unfolding(crate::specs::Pins::pin_place, crate::specs::Pins::pin_place_refusals))]
-fn pin_place(first: &mut Option<Refusal>, pin: &Tree, s: Scale) -> Point
-    ensures noted { first.new ≡ noted first.old (pin_place_refusals s.nm pin.now) }
-    ensures value { result ≡ pin_place s.nm pin.now }
-{
-    let x = coord_at(first, pin, 3, s);
-    let y = coord_at(first, pin, 4, s);
-    Point { x, y }
-}
-
 /// Pins of an image, whose padstacks are of the index.
 #[derive(Drop)]
 pub(crate) struct Pins<'a, 'b> {
@@ -92,7 +81,6 @@ impl<'a, 'b> Part<ImagePin> for Pins<'a, 'b> {
 
     ghost value = { λ p t. pin_of p.scale.nm p.stacks.now t };
 
-    #[tactic(auto, unfolding(crate::specs::Pins::pin_of, crate::specs::Pins::pin_refusals))]
     fn read(
         &self,
         alloc: Global,
@@ -100,13 +88,14 @@ impl<'a, 'b> Part<ImagePin> for Pins<'a, 'b> {
         tree: &Tree,
     ) -> Result<ImagePin, AllocError> {
         let stack = pin_stack(first, self.stacks, tree);
-        let at = pin_place(first, tree, self.scale);
+        let x = coord_at(first, tree, 3, self.scale);
+        let y = coord_at(first, tree, 4, self.scale);
         let angle = rotation_of(first, tree);
         let name = List::from_slice(alloc, name_of(tree, 2))?;
         Ok(ImagePin {
             name,
             stack,
-            at,
+            at: Point { x, y },
             angle,
         })
     }

@@ -12,11 +12,11 @@ ghost use Rattle.dsn_shapes.specs.Refusals.{noted};
 ghost use Rattle.dsn_shapes.specs.Within.{IsImageWithin, IsLibraryWithin};
 ghost use Rattle.dsn_placement.specs.Copper.{IsStandWithin};
 ghost use Rattle.dsn_placement.specs.Places.{angle_in, angle_refusal, component_laid, component_refusals};
-ghost use Rattle.dsn_placement.specs.Places.{coord_word, counted_by, far_refusal, has_coordinates, image_at};
-ghost use Rattle.dsn_placement.specs.Places.{image_names, image_place, index_of, items_of, laid_of, pins_of};
-ghost use Rattle.dsn_placement.specs.Places.{place_by, place_refusals, places_in, point_by, point_in};
+ghost use Rattle.dsn_placement.specs.Places.{coord_word, counted_by, far_refusal, image_at};
+ghost use Rattle.dsn_placement.specs.Places.{image_names, image_place, items_of, laid_of, pins_of};
+ghost use Rattle.dsn_placement.specs.Places.{place_by, place_refusals, places_in, point_in};
 ghost use Rattle.dsn_placement.specs.Places.{point_refusals, side_in, side_refusal, stand_by, stand_in};
-ghost use Rattle.dsn_placement.specs.Places.{stand_refusals, turn_by, unknown_at, words_refusals, words_stand};
+ghost use Rattle.dsn_placement.specs.Places.{stand_refusals, turn_by, unknown_at};
 
 use crate::reach::is_image_placed;
 use crate::seat::Stand;
@@ -62,21 +62,6 @@ fn coord_word(first: &mut Option<Refusal>, tree: &Tree, i: usize, s: Scale) -> O
     }
 }
 
-fn point_by(x: Option<i64>, y: Option<i64>) -> Option<Point>
-    requires x_within { IfSome x (λ x. unsigned_abs x ≤ 2 ^ 29) }
-    requires y_within { IfSome y (λ y. unsigned_abs y ≤ 2 ^ 29) }
-    ensures value { result ≡ point_by x y }
-    ensures within { IfSome result (IsWithin (2 ^ 29)) }
-{
-    match x {
-        Some(x) => match y {
-            Some(y) => Some(Point { x, y }),
-            None => None,
-        },
-        None => None,
-    }
-}
-
 fn point_in(first: &mut Option<Refusal>, tree: &Tree, s: Scale) -> Option<Point>
     ensures noted { first.new ≡ noted first.old (point_refusals s.nm tree.now) }
     ensures value { result ≡ point_in s.nm tree.now }
@@ -84,7 +69,13 @@ fn point_in(first: &mut Option<Refusal>, tree: &Tree, s: Scale) -> Option<Point>
 {
     let x = coord_word(first, tree, 2, s);
     let y = coord_word(first, tree, 3, s);
-    point_by(x, y)
+    match x {
+        Some(x) => match y {
+            Some(y) => Some(Point { x, y }),
+            None => None,
+        },
+        None => None,
+    }
 }
 
 fn side_in(first: &mut Option<Refusal>, tree: &Tree) -> Option<bool>
@@ -135,38 +126,21 @@ fn turn_by(flip_last: bool, at: Point, back: Option<bool>, angle: Option<Angle>)
     }
 }
 
-// Where the words of a component let it stand.
-#[tactic(auto, unfolding(crate::specs::Places::words_stand, crate::specs::Places::words_refusals))]
-fn words_stand(first: &mut Option<Refusal>, tree: &Tree, s: Scale, flip_last: bool) -> Option<Stand>
-    ensures noted { first.new ≡ noted first.old (words_refusals s.nm tree.now) }
-    ensures value { result ≡ words_stand s.nm flip_last tree.now }
+// Where the words of a component let it stand, if it has any behind its name.
+fn stand_in(first: &mut Option<Refusal>, tree: &Tree, s: Scale, flip_last: bool) -> Option<Stand>
+    ensures noted { first.new ≡ noted first.old (stand_refusals s.nm tree.now) }
+    ensures value { result ≡ stand_in s.nm flip_last tree.now }
     ensures within { IfSome result IsStandWithin }
 {
+    if nth_word(tree, 2).is_none() {
+        return None;
+    }
     let at = point_in(first, tree, s);
     let back = side_in(first, tree);
     let angle = angle_in(first, tree);
     match at {
         Some(at) => turn_by(flip_last, at, back, angle),
         None => None,
-    }
-}
-
-fn has_coordinates(tree: &Tree) -> bool
-    ensures { result ≡ has_coordinates tree.now }
-{
-    nth_word(tree, 2).is_some()
-}
-
-#[tactic(auto, unfolding(crate::specs::Places::stand_in, crate::specs::Places::stand_refusals))]
-fn stand_in(first: &mut Option<Refusal>, tree: &Tree, s: Scale, flip_last: bool) -> Option<Stand>
-    ensures noted { first.new ≡ noted first.old (stand_refusals s.nm tree.now) }
-    ensures value { result ≡ stand_in s.nm flip_last tree.now }
-    ensures within { IfSome result IsStandWithin }
-{
-    if has_coordinates(tree) {
-        words_stand(first, tree, s, flip_last)
-    } else {
-        None
     }
 }
 
@@ -203,15 +177,6 @@ fn refuse_far(
     }
 }
 
-fn index_of(place: Option<usize>) -> u32
-    ensures { result ≡ index_of place }
-{
-    match place {
-        Some(place) => place_index(place),
-        None => 0,
-    }
-}
-
 fn place_by(
     alloc: Global,
     name: &[u8],
@@ -239,28 +204,22 @@ fn place_by(
     }
 }
 
-fn pins_of(image: Option<&Image>) -> u64
-    ensures { result ≡ pins_of (option_copied image.entry) }
+fn pins_of(counts: bool, image: Option<&Image>) -> u64
+    ensures { result ≡ counted_by counts (pins_of (option_copied image.entry)) }
 {
     match image {
-        Some(image) => image.pins.len() as u64,
-        None => 0,
+        Some(image) if counts => image.pins.len() as u64,
+        _ => 0,
     }
 }
 
-fn items_of(image: Option<&Image>) -> u64
-    ensures { result ≡ items_of (option_copied image.entry) }
+fn items_of(counts: bool, image: Option<&Image>) -> u64
+    ensures { result ≡ counted_by counts (items_of (option_copied image.entry)) }
 {
     match image {
-        Some(image) => (image.bans.len() as u64).saturating_add(image.pins.len() as u64),
-        None => 0,
+        Some(image) if counts => (image.bans.len() as u64).saturating_add(image.pins.len() as u64),
+        _ => 0,
     }
-}
-
-fn counted_by(counts: bool, n: u64) -> u64
-    ensures { result ≡ counted_by counts n }
-{
-    if counts { n } else { 0 }
 }
 
 // A component of the image at a place of the library.
@@ -283,13 +242,18 @@ fn read_place(
     let found = image_at(around.library, image);
     let stand = stand_in(first, tree, around.scale, around.flip_last);
     refuse_far(first, at_of(tree), around.library, found, stand);
-    let place = place_by(alloc, name_of(tree, 1), index_of(image), stand)?;
-    let counts = has_coordinates(tree);
+    let place = place_by(
+        alloc,
+        name_of(tree, 1),
+        place_index(image.unwrap_or(0)),
+        stand,
+    )?;
+    let counts = nth_word(tree, 2).is_some();
     Ok(Laid {
         place,
         at: at_of(tree),
-        pins: counted_by(counts, pins_of(found)),
-        items: counted_by(counts, items_of(found)),
+        pins: pins_of(counts, found),
+        items: items_of(counts, found),
     })
 }
 

@@ -11,7 +11,7 @@ ghost use Rattle.dsn_shapes.specs.Within.{IsLibraryWithin};
 ghost use Rattle.dsn_placement.specs.declared.place.Laid.{Laid as TheLaid};
 ghost use Rattle.std.specs.List.{flat_map};
 ghost use Rattle.dsn_placement.specs.Places.{component_laid, component_refusals, image_names, places_in};
-ghost use Rattle.dsn_placement.specs.Placing.{adds, all_laid, components, items_before, limit_refusals};
+ghost use Rattle.dsn_placement.specs.Placing.{adds, all_laid, components, limit_refusals};
 ghost use Rattle.dsn_placement.specs.Placing.{lists_left_out, lists_passed, first_past, placement_refusals};
 ghost use Rattle.dsn_placement.specs.Placing.{placements, placing_of};
 ghost use Rattle.dsn_placement.specs.Sound.{HasFewImages, IsPlacingSound};
@@ -49,19 +49,6 @@ fn sections_of<'a>(alloc: Global, pcb: &'a Tree) -> Result<Sections<'a>, AllocEr
     })
 }
 
-// Passes over what stands directly in the sections, the component lists and the components.
-#[tactic(auto, unfolding(crate::specs::Placing::lists_left_out, crate::specs::Placing::lists_passed))]
-fn pass_over_lists(first: &mut Option<Refusal>, parts: &Sections) -> u64
-    ensures noted { first.new
-        ≡ noted first.old (lists_left_out parts.now.placements parts.now.components parts.now.places) }
-    ensures value { result ≡ capped (lists_passed parts.now.placements parts.now.components parts.now.places) }
-{
-    let beside = pass_over(first, &parts.placements, ListKind::Placement);
-    let in_components = pass_over(first, &parts.components, ListKind::Component);
-    let in_places = pass_over(first, &parts.places, ListKind::Component);
-    beside.saturating_add(in_components.saturating_add(in_places))
-}
-
 fn adds(what: What, laid: &Laid) -> u64
     ensures { result ≡ adds what laid.now }
 {
@@ -95,41 +82,6 @@ fn refuse_past(first: &mut Option<Refusal>, what: What, before: u64, laid: &[Lai
     }
 }
 
-#[tactic(auto, unfolding(crate::specs::Placing::limit_refusals))]
-fn refuse_many(first: &mut Option<Refusal>, before: u64, laid: &[Laid])
-    ensures { first.new ≡ noted first.old (limit_refusals before laid.now) }
-{
-    refuse_past(first, What::Pins, 0, laid);
-    refuse_past(first, What::Items, before, laid);
-}
-
-fn items_before(st: &Structure) -> u64
-    ensures { result ≡ items_before st.now }
-{
-    (st.bounds.len() as u64).saturating_add(st.bans.len() as u64)
-}
-
-// All components, of the images of the library.
-#[tactic(auto, unfolding(crate::specs::Placing::all_laid))]
-fn read_laid(
-    alloc: Global,
-    first: &mut Option<Refusal>,
-    components: &Trees,
-    around: Around,
-) -> Result<List<Laid>, AllocError>
-    requires { IsLibraryWithin around.library.now }
-    ensures noted { OnOk result
-        (first.new ≡ noted first.old
-        (flat_map (component_refusals around.entry.scale.nm around.entry.flip_last around.entry.library.now)
-        components.now)) }
-    ensures value { IfOk result
-        (λ ls. ls ≡ flat_map
-        (component_laid around.entry.scale.nm around.entry.flip_last around.entry.library.now) components.now) }
-{
-    let names = names_of(alloc, around.library.images.as_slice())?;
-    read_components(alloc, first, components.as_slice(), around, &names)
-}
-
 fn places_of(alloc: Global, laid: List<Laid>) -> Result<List<Place>, AllocError>
     ensures { IfOk result (λ ps. ps ≡ map (λ (l : TheLaid). l.place) laid) }
 {
@@ -146,21 +98,8 @@ fn places_of(alloc: Global, laid: List<Laid>) -> Result<List<Place>, AllocError>
     Ok(places)
 }
 
-// Refuses each list whose name an earlier one gives.
-#[tactic(auto, unfolding(dsn_shapes::specs::Names::same_names))]
-fn refuse_same_names(
-    alloc: Global,
-    first: &mut Option<Refusal>,
-    lists: &Trees,
-) -> Result<(), AllocError>
-    ensures { OnOk result (first.new ≡ noted first.old (same_names 1 lists.now)) }
-{
-    let names = NameIndex::new(alloc, lists, 1)?;
-    names.refuse_same(first, lists, 1);
-    Ok(())
-}
-
 // The components of the image lists, counted behind the items that there are before.
+#[tactic(auto, unfolding(crate::specs::Placing::limit_refusals))]
 fn read_places(
     alloc: Global,
     first: &mut Option<Refusal>,
@@ -181,8 +120,12 @@ fn read_places(
         (flat_map (component_laid around.entry.scale.nm around.entry.flip_last around.entry.library.now)
         components.now)) }
 {
-    let laid = read_laid(alloc, first, components, around)?;
-    refuse_many(first, before, laid.as_slice());
+    let names = names_of(alloc, around.library.images.as_slice())?;
+    let laid = read_components(alloc, first, components.as_slice(), around, &names);
+    drop(names);
+    let laid = laid?;
+    refuse_past(first, What::Pins, 0, laid.as_slice());
+    refuse_past(first, What::Items, before, laid.as_slice());
     places_of(alloc, laid)
 }
 
@@ -212,8 +155,13 @@ fn note_sections(
           notes = capped (lists_passed parts.now.placements parts.now.components parts.now.places);
         }) }
 {
-    let notes = pass_over_lists(first, parts);
-    refuse_same_names(alloc, first, &parts.places)?;
+    let beside = pass_over(first, &parts.placements, ListKind::Placement);
+    let in_components = pass_over(first, &parts.components, ListKind::Component);
+    let in_places = pass_over(first, &parts.places, ListKind::Component);
+    let notes = beside.saturating_add(in_components.saturating_add(in_places));
+    let names = NameIndex::new(alloc, &parts.places, 1)?;
+    names.refuse_same(first, &parts.places, 1);
+    drop(names);
     let places = read_places(alloc, first, &parts.components, around, before)?;
     Ok(Placing { places, notes })
 }
@@ -237,7 +185,8 @@ fn note_placement(
         flip_last: st.flip_last,
         library: lib,
     };
-    note_sections(alloc, first, &parts, around, items_before(st))
+    let before = (st.bounds.len() as u64).saturating_add(st.bans.len() as u64);
+    note_sections(alloc, first, &parts, around, before)
 }
 
 /// The components of all `placement` sections of a design together, of the images of `lib`.

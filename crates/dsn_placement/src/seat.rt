@@ -1,10 +1,9 @@
 //! Where a component stands on the board, and where a pin's padstack stands in it; points that are placed so.
 //! Source: SPECCTRA reference, placement descriptor and pin descriptor of an image. Lengths are in nm.
 
-ghost use Rattle.std.specs.Prelude.{◌≡◌, ◌<◌, ◌≤◌, ◌^◌, IfSome};
+ghost use Rattle.std.specs.Prelude.{◌≡◌, ◌≤◌, ◌^◌, IfSome};
 ghost use Rattle.geo_kernel.specs.Plane.{IsWithin};
-ghost use Rattle.dsn_units.specs.Turn.{turned};
-ghost use Rattle.dsn_placement.specs.Copper.{IsMountWithin, IsSeatWithin, in_image, mounted, seat_point};
+ghost use Rattle.dsn_placement.specs.Copper.{IsMountWithin, IsSeatWithin, in_image, seat_point};
 
 use crate::point::{moved, place_point};
 use dsn_units::{Angle, rotate};
@@ -34,25 +33,6 @@ pub struct Seat {
     pub stand: Stand,
 }
 
-// A turn of at most 2 ^ 29 in each coordinate leads to at most 2 ^ 30.
-fn turned(p: Point, a: Angle) -> Point
-    requires p_within { IsWithin (2 ^ 29) p }
-    requires reduced { a.microdegrees < 360000000 }
-    ensures value { result ≡ turned a p }
-    ensures within { IsWithin (2 ^ 30) result }
-{
-    rotate(p, a)
-}
-
-fn mounted(mount: Mount, p: Point) -> Point
-    requires mount_within { IsMountWithin mount }
-    requires p_within { IsWithin (2 ^ 29) p }
-    ensures value { result ≡ mounted mount p }
-    ensures within { IsWithin (2 ^ 31) result }
-{
-    moved(turned(p, mount.angle), mount.at)
-}
-
 fn in_image(pin: Option<Mount>, p: Point) -> Point
     requires pin_within { IfSome pin IsMountWithin }
     requires p_within { IsWithin (2 ^ 29) p }
@@ -60,7 +40,7 @@ fn in_image(pin: Option<Mount>, p: Point) -> Point
     ensures within { IsWithin (2 ^ 31) result }
 {
     match pin {
-        Some(mount) => mounted(mount, p),
+        Some(mount) => moved(rotate(p, mount.angle), mount.at),
         None => p,
     }
 }

@@ -1,21 +1,15 @@
 //! How many items stand before the wiring: boundaries, keepouts, and the pins and keepouts of placed components.
 //! Together with the wires and vias there may be `MOST_ITEMS`.
 
-ghost use Rattle.std.specs.Prelude.{◌≡◌, sum_by};
+ghost use Rattle.std.specs.Prelude.{◌≡◌};
 ghost use Rattle.dsn_shapes.specs.Lists.{capped};
 ghost use Rattle.dsn_shapes.specs.declared.refusal.What.TheVariants.{Items};
 ghost use Rattle.dsn_shapes.specs.Limits.{too_many};
 ghost use Rattle.dsn_shapes.specs.Refusals.{noted};
-ghost use Rattle.dsn_wiring.specs.Counts.{image_items, items_before, place_items};
+ghost use Rattle.dsn_wiring.specs.Counts.{items_before, place_items};
 
 use dsn_shapes::{Image, Library, Place, Placing, Refusal, Structure, Trees, What, refuse_past};
 use geo_kernel::List;
-
-fn image_items(image: &Image) -> u64
-    ensures { result ≡ capped (image_items image.now) }
-{
-    (image.pins.len() as u64).saturating_add(image.bans.len() as u64)
-}
 
 fn place_items(images: &List<Image>, place: &Place) -> u64
     ensures { result ≡ capped (place_items images.now place.now) }
@@ -24,32 +18,13 @@ fn place_items(images: &List<Image>, place: &Place) -> u64
         return 0;
     }
     match images.get(place.image as usize) {
-        Some(image) => image_items(image),
+        Some(image) => (image.pins.len() as u64).saturating_add(image.bans.len() as u64),
         None => 0,
     }
 }
 
-fn placed_items(images: &List<Image>, places: &[Place]) -> u64
-    ensures { result ≡ capped (sum_by (place_items images.now) places.now) }
-{
-    let mut count: u64 = 0;
-    for place in places {
-        count = count.saturating_add(place_items(images, place));
-    }
-    count
-}
-
-// How many items stand before the wiring; the count ends at 2^64 - 1.
+/// Refuses the first wire or via past the limit of items; the count of those before ends at 2^64 - 1.
 #[tactic(auto, unfolding(crate::specs::Counts::items_before))]
-fn items_before(st: &Structure, lib: &Library, placing: &Placing) -> u64
-    ensures { result ≡ capped (items_before st.now lib.now placing.now) }
-{
-    let placed = placed_items(&lib.images, placing.places.as_slice());
-    let areas = (st.bounds.len() as u64).saturating_add(st.bans.len() as u64);
-    areas.saturating_add(placed)
-}
-
-/// Refuses the first wire or via past the limit of items.
 pub(crate) fn refuse_many(
     first: &mut Option<Refusal>,
     st: &Structure,
@@ -59,5 +34,10 @@ pub(crate) fn refuse_many(
 )
     ensures { first.new ≡ noted first.old (too_many Items (items_before st.now lib.now placing.now) wires.now) }
 {
-    refuse_past(first, What::Items, items_before(st, lib, placing), wires);
+    let places = placing.places.as_slice();
+    let mut before = (st.bounds.len() as u64).saturating_add(st.bans.len() as u64);
+    for place in places {
+        before = before.saturating_add(place_items(&lib.images, place));
+    }
+    refuse_past(first, What::Items, before, wires);
 }

@@ -1,37 +1,24 @@
 //! Vias: a padstack of the library and its place, which its copper may not carry past the board.
 //! Source: SPECCTRA reference, via descriptor of the wiring; coordinates in nm.
 
-ghost use Rattle.std.specs.Prelude.{◌≡◌, IfOk};
+ghost use Rattle.std.specs.Prelude.{◌≡◌};
 ghost use Rattle.std.specs.List.{list_any};
-ghost use Rattle.pcb_model.specs.Sound.{origin};
-ghost use Rattle.dsn_shapes.specs.Names.{stack_names};
 ghost use Rattle.dsn_shapes.specs.Numbers.{coord_refusal};
 ghost use Rattle.dsn_shapes.specs.Refusals.{noted};
 ghost use Rattle.dsn_wiring.specs.Vias.{coord_of, is_far, is_past, past_refusal, point_by, spine_past, stack_past};
-ghost use Rattle.dsn_wiring.specs.Vias.{stack_place, unknown_stack, via_metal, via_place, via_place_refusals};
+ghost use Rattle.dsn_wiring.specs.Vias.{stack_place, unknown_stack, via_metal};
 ghost use Rattle.dsn_wiring.specs.Vias.{via_refusals};
 
 use dsn_shapes::table::{NO_NUMBER, NO_PADSTACK, OUT_OF_RANGE};
 use dsn_shapes::{
-    NameIndex, Refusal, Stack, at_of, coord_in, name_of, names_of, note, nth_word, place_index,
-    place_of, refused,
+    NameIndex, Refusal, Stack, at_of, coord_in, name_of, note, nth_word, place_index, place_of,
+    refused,
 };
 use dsn_tree::Tree;
 use dsn_units::Scale;
 use geo_kernel::limits::FURTHEST;
 use geo_kernel::{List, Point, Spine};
 use pcb_model::Metal;
-use std::alloc::{AllocError, Global};
-
-/// The index of the names of these padstacks.
-pub(crate) fn stack_names<'a>(
-    alloc: Global,
-    stacks: &'a List<Stack>,
-) -> Result<NameIndex<'a>, AllocError>
-    ensures { IfOk result (λ x. x ≡ stack_names stacks.now) }
-{
-    names_of(alloc, stacks.as_slice())
-}
 
 // Where the padstack of a via stands among those of these names.
 #[tactic(auto, unfolding(crate::specs::Vias::unknown_stack))]
@@ -67,17 +54,6 @@ pub fn point_by(x: Option<i64>, y: Option<i64>) -> Option<Point>
         (Some(x), Some(y)) => Some(Point { x, y }),
         _ => None,
     }
-}
-
-// The place of a via, where neither of its numbers is refused.
-#[tactic(auto, unfolding(crate::specs::Vias::via_place, crate::specs::Vias::via_place_refusals))]
-fn via_place(first: &mut Option<Refusal>, via: &Tree, s: Scale) -> Option<Point>
-    ensures noted { first.new ≡ noted first.old (via_place_refusals s.nm via.now) }
-    ensures value { result ≡ via_place s.nm via.now }
-{
-    let x = coord_of(first, via, 2, s);
-    let y = coord_of(first, via, 3, s);
-    point_by(x, y)
 }
 
 fn is_far(a: i64, by: i64) -> bool
@@ -161,14 +137,7 @@ fn refuse_past(
     }
 }
 
-fn origin() -> Point
-    ensures { result ≡ origin }
-{
-    Point { x: 0, y: 0 }
-}
-
 /// The padstack of a via, of those of these names, and its place.
-#[tactic(auto, unfolding(crate::specs::Vias::via_metal, crate::specs::Vias::via_refusals))]
 pub(crate) fn note_via(
     first: &mut Option<Refusal>,
     via: &Tree,
@@ -180,10 +149,12 @@ pub(crate) fn note_via(
     ensures value { result ≡ via_metal s.nm names.now via.now }
 {
     let place = stack_place(first, names, via);
-    let at = via_place(first, via, s);
+    let x = coord_of(first, via, 2, s);
+    let y = coord_of(first, via, 3, s);
+    let at = point_by(x, y);
     refuse_past(first, stacks, place, at, via);
     Metal::Via {
         padstack: place_index(place.unwrap_or(0)),
-        at: at.unwrap_or(origin()),
+        at: at.unwrap_or(Point { x: 0, y: 0 }),
     }
 }

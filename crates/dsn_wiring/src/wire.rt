@@ -160,16 +160,10 @@ fn note_paths(
     refuse_further(alloc, first, paths.as_slice(), wire)?;
     match paths.get(0) {
         Some(path) => note_path(alloc, first, path, s, layers),
-        None => Ok(no_wire(alloc)),
-    }
-}
-
-fn no_wire(alloc: Global) -> Metal
-    ensures { result ≡ no_wire }
-{
-    Metal::Wire {
-        layer: 0,
-        width: 0,
-        chain: List::new(alloc),
+        None => Ok(Metal::Wire {
+            layer: 0,
+            width: 0,
+            chain: List::new(alloc),
+        }),
     }
 }

@@ -3,21 +3,20 @@
 
 ghost use Rattle.std.specs.Prelude.{◌≡◌, map, IfOk, OnOk};
 ghost use Rattle.std.specs.List.{flat_map};
-ghost use Rattle.dsn_shapes.specs.Lists.{capped};
 ghost use Rattle.dsn_shapes.specs.Names.{stack_names};
 ghost use Rattle.dsn_shapes.specs.Refusals.{Reads, noted};
 ghost use Rattle.dsn_wiring.specs.Nets.{net_names};
 ghost use Rattle.dsn_wiring.specs.Sound.{HasFewStacks, IsWiringSound};
-ghost use Rattle.dsn_wiring.specs.Whole.{lists_left_out, lists_passed, metal_of, metal_refusals, refusals_of};
+ghost use Rattle.dsn_wiring.specs.Whole.{metal_of, metal_refusals, refusals_of};
 ghost use Rattle.dsn_wiring.specs.Whole.{wire_lists, wire_of, wiring_of, wiring_refusals, wirings};
 
 use crate::counts::refuse_many;
-use crate::net::{is_fixed, net_names, net_of};
-use crate::via::{note_via, stack_names};
+use crate::net::{is_fixed, net_of};
+use crate::via::note_via;
 use crate::wire::note_wire;
 use dsn_shapes::{
     Layer, Library, ListKind, NameIndex, Network, Part, Placing, ReadFault, ReadWire, Refusal,
-    Stack, Structure, Trees, Wiring, at_of, pass_over, read_each,
+    Stack, Structure, Trees, Wiring, at_of, names_of, pass_over, read_each,
 };
 use dsn_tree::{Tree, is_headed};
 use dsn_units::Scale;
@@ -107,8 +106,8 @@ fn read_wires(
         (λ v. v ≡ map (wire_of scale.nm st.now.layers (stack_names lib.now.stacks) (net_names net.now.nets))
         wires.now) }
 {
-    let names = stack_names(alloc, &lib.stacks)?;
-    let nets = net_names(alloc, &net.nets)?;
+    let names = names_of(alloc, lib.stacks.as_slice())?;
+    let nets = names_of(alloc, net.nets.as_slice())?;
     let part = Wires {
         scale,
         layers: &st.layers,
@@ -119,17 +118,7 @@ fn read_wires(
     read_each(alloc, &part, first, wires)
 }
 
-// Passes over what stands directly in the sections, the wires and the vias.
 #[tactic(auto, unfolding(crate::specs::Whole::lists_left_out, crate::specs::Whole::lists_passed))]
-fn pass_over_lists(first: &mut Option<Refusal>, sections: &Trees, wires: &Trees) -> u64
-    ensures noted { first.new ≡ noted first.old (lists_left_out sections.now wires.now) }
-    ensures value { result ≡ capped (lists_passed sections.now wires.now) }
-{
-    let in_sections = pass_over(first, sections, ListKind::Wiring);
-    let in_wires = pass_over(first, wires, ListKind::Wiring);
-    in_sections.saturating_add(in_wires)
-}
-
 fn note_wiring(
     alloc: Global,
     first: &mut Option<Refusal>,
@@ -152,7 +141,9 @@ fn note_wiring(
             return Err(error);
         }
     };
-    let notes = pass_over_lists(first, &sections, &lists);
+    let in_sections = pass_over(first, &sections, ListKind::Wiring);
+    let in_lists = pass_over(first, &lists, ListKind::Wiring);
+    let notes = in_sections.saturating_add(in_lists);
     drop(sections);
     refuse_many(first, st, lib, placing, &lists);
     match read_wires(alloc, first, &lists, s, st, lib, net) {

@@ -21,8 +21,8 @@ pub(crate) fn usage_words(number: u64) -> &'static str
     }
 }
 
-// What a refusal of the text's brackets and quotes means.
-fn spelling_words(number: u8) -> &'static str
+/// What a refusal of a design means, by the numbers from 1 to 24 of the table of refusals.
+pub fn refusal_words(number: u8) -> &'static str
     ensures { IsPlain result.now }
 {
     match number {
@@ -31,15 +31,7 @@ fn spelling_words(number: u8) -> &'static str
         UNCLOSED => "this bracket isn't closed",
         SURPLUS => "something stands before or behind the list",
         TOO_DEEP => "more than 64 brackets are open",
-        _ => "there is no list",
-    }
-}
-
-// What a refusal of a list means that isn't as it should be.
-fn list_words(number: u8) -> &'static str
-    ensures { IsPlain result.now }
-{
-    match number {
+        NO_LIST => "there is no list",
         NO_BOARD => "the list isn't a `pcb` with a name",
         NO_SECTION => "`resolution`, `structure` or a layer is missing",
         NO_NUMBER => "a number is wanted, and isn't there or is none that can be",
@@ -49,18 +41,6 @@ fn list_words(number: u8) -> &'static str
         BAD_FORM => "the numbers of a shape, its layer or the side of a place don't fit",
         PAST_LIMIT => "a limit is passed",
         NO_BOUNDARY => "there is no boundary",
-        _ => "the design isn't as it should be",
-    }
-}
-
-/// What a refusal of a design means, by the numbers from 1 to 24 of the table of refusals.
-pub fn refusal_words(number: u8) -> &'static str
-    ensures { IsPlain result.now }
-{
-    match number {
-        QUOTE_OPEN | BAD_QUOTE_BYTE | UNCLOSED | SURPLUS | TOO_DEEP | NO_LIST => {
-            spelling_words(number)
-        }
         NO_LAYER => "no layer has this name",
         NAMED_TWICE => "a second layer, padstack, image, pin, component or net has this name",
         NO_PADSTACK => "the library has no padstack of this name",
@@ -70,7 +50,7 @@ pub fn refusal_words(number: u8) -> &'static str
         TAKEN_PIN => "a second net names this pin",
         UNPLACED_PIN => "this reference names a component without coordinates",
         NO_NET => "no net has this name",
-        _ => list_words(number),
+        _ => "the design isn't as it should be",
     }
 }
 

@@ -1,10 +1,9 @@
 //! Vias: a padstack of the design and its place, which its copper may not carry past the board.
 //! Source: SPECCTRA reference, via descriptor of the routes; coordinates in nm.
 
-ghost use Rattle.std.specs.Prelude.{◌≡◌, ◌≤◌, ◌++◌};
+ghost use Rattle.std.specs.Prelude.{◌≡◌, ◌≤◌};
 ghost use Rattle.dsn_shapes.specs.Refusals.{noted};
-ghost use Rattle.ses_reader.specs.Measures.{coord_refusal};
-ghost use Rattle.ses_reader.specs.Copper.{is_via_past, padstack_at, via_metal, via_point, via_refusals};
+ghost use Rattle.ses_reader.specs.Copper.{is_via_past, padstack_at, via_metal, via_refusals};
 
 use crate::index::DesignIndex;
 use crate::measure::Measure;
@@ -16,18 +15,6 @@ use dsn_tree::Tree;
 use dsn_wiring::point_by;
 use geo_kernel::Point;
 use pcb_model::{Design, Metal};
-
-// The place of a via, where neither of its numbers is refused.
-#[tactic(auto, unfolding(crate::specs::Copper::via_point))]
-fn note_point(first: &mut Option<Refusal>, via: &Tree, m: Measure) -> Option<Point>
-    requires { 1 ≤ m.per }
-    ensures noted { first.new ≡ noted first.old (coord_refusal m via.now 2 ++ coord_refusal m via.now 3) }
-    ensures value { result ≡ via_point m via.now }
-{
-    let x = note_coord(first, via, 2, m);
-    let y = note_coord(first, via, 3, m);
-    point_by(x, y)
-}
 
 #[tactic(auto, unfolding(crate::specs::Copper::is_via_past))]
 fn is_via_past(d: &Design, place: Option<usize>, at: Option<Point>) -> bool
@@ -43,7 +30,6 @@ fn is_via_past(d: &Design, place: Option<usize>, at: Option<Point>) -> bool
 }
 
 /// The padstack of a via, and its place.
-#[tactic(auto, unfolding(crate::specs::Copper::via_metal, crate::specs::Copper::via_refusals))]
 pub(crate) fn note_via(
     first: &mut Option<Refusal>,
     index: &DesignIndex,
@@ -56,7 +42,9 @@ pub(crate) fn note_via(
 {
     let place = index.padstack(name_of(via, 1));
     note_unless(first, place.is_some(), NO_PADSTACK, place_of(via, 1));
-    let at = note_point(first, via, m);
+    let x = note_coord(first, via, 2, m);
+    let y = note_coord(first, via, 3, m);
+    let at = point_by(x, y);
     let is_past = is_via_past(index.design(), place, at);
     note_unless(first, !is_past, NO_MEASURE, at_of(via));
     Metal::Via {

@@ -1,25 +1,24 @@
-use Rattle.std.proofs.Common.{◌∙◌, refl, sym, true≢false}
+use Rattle.std.proofs.Common.{◌≡◌, ◌<◌, ◌≤◌, List, arith, length, ⊎_elim, Any}
+use Rattle.std.proofs.lemmas.Bool.{cases_lt}
 use Rattle.pcb_model.specs.declared.item.Piece.{Piece}
-use Rattle.dsn_design.specs.Usable.{HasOther}
-use Rattle.dsn_design.proofs.Loops.{any_at, front_more, none_left}
+use Rattle.dsn_design.specs.Usable.{HasOther, IsElsewhere}
+use Rattle.dsn_design.proofs.Loops.{any_at}
 use Rattle.dsn_design.proofs.usable.has_two_layers.Goals as goal
 
-pub loop-p-preserved : goal.loop-p-preserved
-loop-p-preserved c =
-    front_more (λ (p : Piece). ¬ (HasOther c.args.all.now p)) c.args.all.now c.loop-p.p-index c.p-item.result
-    c.loop-p-test.true c.p-item.is c.loop-p.invariant
-    (λ h. true≢false (sym (c.has_other.ensures.1 h) ∙ c.if-has_other.false))
+-- of two that lie on different layers, one lies on another than any third
+other_than : (all : List Piece) (first : Piece) → Any (HasOther all) all → HasOther all first
+other_than all first (i, a, before, a_is, (k, b, within, b_is, apart)) =
+    ⊎_elim (λ (l : first.layer < a.layer). (i, a, before, a_is, λ (e : first.layer ≡ a.layer). absurd (omega (arith, l, e))))
+    (λ (l : a.layer ≤ first.layer). ⊎_elim
+    (λ (m : a.layer < first.layer). (i, a, before, a_is, λ (e : first.layer ≡ a.layer). absurd (omega (arith, m, e))))
+    (λ (m : first.layer ≤ a.layer). (k, b, within, b_is, λ (e : first.layer ≡ b.layer). apart (omega (arith, l, m, e))))
+    (cases_lt a.layer first.layer))
+    (cases_lt first.layer a.layer)
 
-pub returns-then-has_other : goal.returns-then-has_other
-returns-then-has_other c = (
-  λ t. any_at (HasOther c.args.all.now) c.args.all.now c.loop-p.p-index c.p-item.result c.loop-p-test.true c.p-item.is
-      (c.has_other.ensures.0 c.if-has_other.true),
-  λ h. refl,
-)
-
-pub returns : goal.returns
-returns c = (
-  λ t. absurd (true≢false (sym t)),
-  λ h. absurd (none_left (HasOther c.args.all.now) c.args.all.now c.loop-p.p-index c.loop-p-test.false
-      c.loop-p.invariant h),
-)
+pub returns-in-len1-up : goal.returns-in-len1-up
+returns-in-len1-up c =
+    let all = c.args.all.now in
+    let some : 0 < length all = omega (arith, c.in-len1-up.len_at_least) in (
+      λ t. any_at (HasOther all) all 0 c.first-item.result some c.first-item.is (c.has_other.ensures.0 t),
+      λ h. c.has_other.ensures.1 (other_than all c.first-item.result h),
+    )

@@ -5,7 +5,7 @@ use Rattle.dsn_shapes.specs.Lists.{capped, trees_of}
 use Rattle.dsn_shapes.specs.Refusals.{noted}
 use Rattle.dsn_network.specs.Classes.{class_refusals, read_class_of}
 use Rattle.dsn_network.specs.Whole.{rules_passed}
-use Rattle.dsn_network.proofs.class.read_each_class.Given as goal
+use Rattle.dsn_network.proofs.class.read_classes.Given as goal
 
 abbrev pub invariant-loop-tree : goal.invariant-loop-tree
 invariant-loop-tree l =

@@ -6,7 +6,6 @@ ghost use Rattle.std.specs.List.{list_any};
 ghost use Rattle.board_offers.specs.declared.offer.Shoved.{Shoved as OneShove};
 ghost use Rattle.board_offers.specs.Items.{names, gone};
 ghost use Rattle.board_offers.specs.Offers.{NamesOnce};
-ghost use Rattle.board_offers.specs.Troubles.{wanted};
 
 use crate::offer::{Offer, Shoved};
 use std::alloc::{AllocError, Global};
@@ -81,36 +80,15 @@ pub(crate) fn names_once(offer: &Offer) -> bool
     are_shoved_once(shoves)
 }
 
-// The ids of shoved items.
-fn shoved_ids(alloc: Global, shoves: &[Shoved]) -> Result<Vec<u64>, AllocError>
-    ensures { IfOk result (λ ids. ids.items ≡ map (λ (s : OneShove). s.id) shoves.now) }
-{
-    let mut ids = Vec::new(alloc);
-    for s in shoves {
-        ids.push(s.id)?;
-    }
-    Ok(ids)
-}
-
 /// The ids that an offer takes out: those that it rips, and behind them those that it shoves.
 /// `AllocError` comes only for want of memory.
 pub fn gone_ids(alloc: Global, offer: &Offer) -> Result<Vec<u64>, AllocError>
     ensures { IfOk result (λ ids. ids.items ≡ gone offer.now) }
 {
+    let shoves = offer.shoves.as_slice();
     let mut ids = Vec::from_slice(alloc, offer.rip.as_slice())?;
-    let shoved = shoved_ids(alloc, offer.shoves.as_slice())?;
-    ids.extend_from_slice(shoved.as_slice())?;
-    Ok(ids)
-}
-
-/// The ids that an offer joins, rips or shoves.
-pub(crate) fn wanted_ids(alloc: Global, offer: &Offer) -> Result<Vec<u64>, AllocError>
-    ensures { IfOk result (λ ids. ids.items ≡ wanted offer.now) }
-{
-    let mut ids = Vec::new(alloc);
-    ids.push(offer.from)?;
-    ids.push(offer.to)?;
-    let gone = gone_ids(alloc, offer)?;
-    ids.extend_from_slice(gone.as_slice())?;
+    for s in shoves {
+        ids.push(s.id)?;
+    }
     Ok(ids)
 }

@@ -60,18 +60,6 @@ fn is_addable(d: &Design, net: u32, m: &Metal) -> bool
     }
 }
 
-fn are_addable(d: &Design, net: u32, add: &[Metal]) -> bool
-    requires design { IsDesignFit d.now }
-    ensures { IsTrue result ↔ All (IsAddable d.now net) add.now }
-{
-    for m in add {
-        if !is_addable(d, net, m) {
-            return false;
-        }
-    }
-    true
-}
-
 /// Whether there are metals, and each may be added.
 pub(crate) fn has_metals(d: &Design, net: u32, add: &[Metal]) -> bool
     requires design { IsDesignFit d.now }
@@ -80,5 +68,10 @@ pub(crate) fn has_metals(d: &Design, net: u32, add: &[Metal]) -> bool
     if add.is_empty() {
         return false;
     }
-    are_addable(d, net, add)
+    for m in add {
+        if !is_addable(d, net, m) {
+            return false;
+        }
+    }
+    true
 }

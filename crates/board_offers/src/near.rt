@@ -80,21 +80,13 @@ fn is_spine_near_at(s: &Spine, at: Point) -> bool
     }
 }
 
-fn is_piece_near_at(p: &Piece, at: Point) -> bool
-    requires fits { IsFit p.now }
-    requires at_within { IsWithin (2 ^ 29) at }
-    ensures { IsTrue result ↔ IsSpineWithin (2 ^ 29) (moved_piece at p.now).spine }
-{
-    is_spine_near_at(&p.spine, at)
-}
-
 fn are_pieces_near_at(ps: &[Piece], at: Point) -> bool
     requires fit { All IsFit ps.now }
     requires at_within { IsWithin (2 ^ 29) at }
     ensures { IsTrue result ↔ All (λ (p : OnePiece). IsSpineWithin (2 ^ 29) p.spine) (map (moved_piece at) ps.now) }
 {
     for p in ps {
-        if !is_piece_near_at(p, at) {
+        if !is_spine_near_at(&p.spine, at) {
             return false;
         }
     }

@@ -1,12 +1,10 @@
 //! What shoves part: items that touched a shoved wire and don't touch its replacement.
 //! Where such an item is shoved too, its own replacement counts in place of it.
 
-ghost use Rattle.std.specs.Prelude.{◌≡◌, ◌==◌, ◌↔◌, ◌<◌, ◌+◌, ℕ, All, IsTrue, length, slice_get};
-ghost use Rattle.std.specs.List.{position};
+ghost use Rattle.std.specs.Prelude.{◌≡◌, ◌↔◌, ◌<◌, ◌+◌, ℕ, All, IsTrue, length, slice_get};
 ghost use Rattle.pcb_model.specs.declared.item.Item.{Item as OneItem};
 ghost use Rattle.pcb_model.specs.declared.design.Design.{Design as TheDesign};
 ghost use Rattle.pcb_model.specs.Bounds.{IsItemFit};
-ghost use Rattle.board_offers.specs.declared.offer.Shoved.{Shoved as OneShove};
 ghost use Rattle.board_offers.specs.Given.{AreGiven};
 ghost use Rattle.board_offers.specs.Troubles.{FailsLeast};
 ghost use Rattle.board_offers.specs.Searching.{lies_after, TouchesAfter, StaysBy, StaysWith, StaysWithAll};
@@ -19,26 +17,17 @@ use pcb_model::{Copper, Item, Steps};
 use std::marker::Brand;
 use std::sync::ledger::{Blank, Ledger};
 
-fn place_of_shove(shoves: &[Shoved], id: u64) -> Option<usize>
-    ensures { result ≡ position (λ (s : OneShove). s.id == id) shoves.now }
-{
-    for i in 0..shoves.len() {
-        if shoves[i].id == id {
-            return Some(i);
-        }
-    }
-    None
-}
-
 // An item as it lies after the shoves.
 fn lying_after<'a>(shoves: &[Shoved], replaced: &'a [Item], a: &'a Item) -> &'a Item
     requires { length replaced.now ≡ length shoves.now }
     ensures { result.now ≡ lies_after shoves.now replaced.now a.now }
 {
-    match place_of_shove(shoves, a.id) {
-        Some(i) => &replaced[i],
-        None => a,
+    for i in 0..shoves.len() {
+        if shoves[i].id == a.id {
+            return &replaced[i];
+        }
     }
+    a
 }
 
 // Whether a shoved item and the one of an id touch after the shoves.

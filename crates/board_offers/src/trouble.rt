@@ -8,10 +8,10 @@ ghost use Rattle.pcb_model.specs.Bounds.{IsItemFit};
 ghost use Rattle.pcb_model.specs.Pairs.{Agrees, AreTouching};
 ghost use Rattle.board_offers.specs.Given.{AreGiven};
 ghost use Rattle.board_offers.specs.Items.{names, is_on, new_items, gone};
-ghost use Rattle.board_offers.specs.Troubles.{wanted, FailsLeast, IsThere, AgreesWithNew, StaysJoined, IsClear};
+ghost use Rattle.board_offers.specs.Troubles.{FailsLeast, IsThere, AgreesWithNew, StaysJoined, IsClear};
 ghost use Rattle.board_offers.specs.Searching.{least_of, IsNamedThere, AgreesUnless, AgreesWithAll};
 
-use crate::ids::{gone_ids, is_named, wanted_ids};
+use crate::ids::{gone_ids, is_named};
 use crate::offer::Offer;
 use crate::parted::least_parted;
 use pcb_model::{Copper, Design, Item, Steps};
@@ -127,7 +127,8 @@ pub fn least_trouble<C: Copper>(
     ensures { IfOk result (FailsLeast (IsClear d.now given.now (C.items c.now) offer.now)) }
 {
     let gone = gone_ids(alloc, offer)?;
-    let wanted = wanted_ids(alloc, offer)?;
+    let mut wanted = Vec::from_slice(alloc, &[offer.from, offer.to])?;
+    wanted.extend_from_slice(gone.as_slice())?;
     let missing = least_missing(c, wanted.as_slice());
     let clash = least_clash(d, c, gone.as_slice(), new);
     let replaced = behind(new, offer.add.len());

@@ -1,13 +1,15 @@
 -- The last class list that names a net, with one more list behind.
 use Rattle.std.proofs.Common.{◌≡◌, ◌+◌, ◌<◌, ◌∙◌, ap, sym, ℕ, suc, List, [], ◌∷◌, ◌++◌, length, take, get_or, Bool}
-use Rattle.std.proofs.Common.{true, false, cond, arith}
+use Rattle.std.proofs.Common.{true, false, cond, arith, ◌||◌}
 use Rattle.std.specs.Prelude.{Option, Some, None, map, if◌then◌else◌}
 use Rattle.std.specs.Option.{option_or}
 use Rattle.std.specs.List.{list_any}
 use Rattle.std.specs.Str.{bytes_eq}
-use Rattle.std.proofs.lemmas.List.{take_more, map-append, length-map, length-take-le}
+use Rattle.std.proofs.lemmas.List.{take_more, map-append, map_more, length-map, length-take-le}
+use Rattle.std.proofs.lemmas.List.Folds.{list_any-append}
+use Rattle.std.specs.Borrow.{Bor}
 use Rattle.dsn_tree.specs.declared.tree.Tree.{Tree}
-use Rattle.dsn_shapes.specs.Lists.{text_of}
+use Rattle.dsn_shapes.specs.Lists.{text_of, trees_of}
 use Rattle.dsn_network.specs.Words.{words_from}
 use Rattle.dsn_network.specs.Classes.{last_naming, names_net}
 
@@ -22,6 +24,27 @@ named_behind name k [] t = let s : k ≡ k + 0 = omega arith in ap (λ m. cond (
 named_behind name k (u ∷ ts) t =
     one_behind (names_net name t) (k + 1 + length ts) (k + suc (length ts)) _ (last_naming name (k + 1) ts) _
     (named_behind name (k + 1) ts t) (omega arith)
+
+either : (a b : Bool) (class : ℕ) (start old new : Option ℕ) → old ≡ cond a (Some class) start
+    → new ≡ cond b (Some class) old → new ≡ cond (a || (b || false)) (Some class) start
+either true true class start old new e f = f
+either true false class start old new e f = f ∙ e
+either false true class start old new e f = f
+either false false class start old new e f = f ∙ e
+
+-- one more word of a class list
+pub word_behind : (p : Tree → Bool) (words : List (Bor Tree)) (i : ℕ) (w : Bor Tree) (class : ℕ)
+    (start old new : Option ℕ) → i < length words → w ≡ get_or words i w
+    → old ≡ (if list_any p (trees_of (take i words)) then Some class else start)
+    → new ≡ cond (p w.now) (Some class) old
+    → new ≡ (if list_any p (trees_of (take (i + 1) words)) then Some class else start)
+word_behind p words i w class start old new h is e f =
+    let more : trees_of (take i words) ++ w.now ∷ [] ≡ trees_of (take (i + 1) words) =
+    ap (λ (b : Bor Tree). trees_of (take i words) ++ (b.now ∷ [])) is
+    ∙ sym (map_more (λ (b : Bor Tree). b.now) words i w h) in
+    either (list_any p (trees_of (take i words))) (p w.now) class start old new e f
+    ∙ ap (λ b. cond b (Some class) start) (sym (list_any-append p (trees_of (take i words)) (w.now ∷ [])))
+    ∙ ap (λ ts. if list_any p ts then Some class else start) more
 
 -- one more class list
 pub class_behind : {N : Type 0} (f : N → Tree) (lists : List N) (k : ℕ) (x : N) (words : List Tree) (q : List ℕ)

@@ -8,7 +8,7 @@ ghost use Rattle.dsn_shapes.specs.Refusals.{noted};
 ghost use Rattle.dsn_shapes.specs.Rules.{rule_notes};
 ghost use Rattle.dsn_network.specs.Words.{rules_in};
 ghost use Rattle.dsn_network.specs.Whole.{rules_passed};
-ghost use Rattle.dsn_network.specs.Classes.{class_refusals, read_class_of, unknown_via, via_lists, via_refusals};
+ghost use Rattle.dsn_network.specs.Classes.{class_refusals, read_class_of, unknown_via, via_refusals};
 ghost use Rattle.dsn_network.specs.Classes.{via_stack, vias_of};
 
 use crate::words::{rules_of, words_in};
@@ -64,29 +64,15 @@ fn vias_of(
     ensures value { IfOk result (λ v. v ≡ vias_of stacks.now lists.now) }
 {
     let words = words_in(alloc, lists, 1)?;
-    let vias = match via_stacks(alloc, first, words.as_slice(), stacks) {
-        Ok(vias) => {
-            drop(words);
-            vias
-        }
-        Err(error) => {
-            drop(words);
-            return Err(error);
-        }
-    };
+    let vias = via_stacks(alloc, first, words.as_slice(), stacks);
+    drop(words);
+    let vias = vias?;
     if lists.len() == 0 {
         drop(vias);
         Ok(None)
     } else {
         Ok(Some(vias))
     }
-}
-
-fn via_lists<'a>(alloc: Global, class: &'a Tree) -> Result<Trees<'a>, AllocError>
-    ensures { IfOk result (λ ts. ts ≡ via_lists (class.now ∷ [])) }
-{
-    let circuits = Trees::in_list(alloc, class, b"circuit")?;
-    circuits.headed(alloc, b"use_via")
 }
 
 // A class, and how many lists of its rules were passed over.
@@ -108,7 +94,7 @@ fn read_class(
     ensures class { IfOk result (λ v. v.class ≡ read_class_of scale.nm stacks.now tree.now) }
     ensures notes { IfOk result (λ v. v.notes ≡ capped (rule_notes (rules_in (tree.now ∷ [])))) }
 {
-    let lists = via_lists(alloc, tree)?;
+    let lists = Trees::in_list(alloc, tree, b"circuit")?.headed(alloc, b"use_via")?;
     let vias = match vias_of(alloc, first, &lists, stacks) {
         Ok(vias) => {
             drop(lists);
@@ -138,28 +124,6 @@ pub(crate) struct Classes {
     pub(crate) notes: u64,
 }
 
-fn read_each_class(
-    alloc: Global,
-    first: &mut Option<Refusal>,
-    trees: &[&Tree],
-    stacks: &NameIndex,
-    scale: Scale,
-) -> Result<Classes, AllocError>
-    ensures noted { OnOk result
-        (first.new ≡ noted first.old (flat_map (class_refusals scale.nm stacks.now) (trees_of trees.now))) }
-    ensures classes { IfOk result (λ v. v.classes ≡ map (read_class_of scale.nm stacks.now) (trees_of trees.now)) }
-    ensures notes { IfOk result (λ v. v.notes ≡ capped (rules_passed (trees_of trees.now))) }
-{
-    let mut classes = List::new(alloc);
-    let mut notes: u64 = 0;
-    for tree in trees {
-        let read = read_class(alloc, first, tree, stacks, scale)?;
-        classes.push(read.class)?;
-        notes = notes.saturating_add(read.notes);
-    }
-    Ok(Classes { classes, notes })
-}
-
 /// All classes of a network, where the padstacks have the names of the index.
 pub(crate) fn read_classes(
     alloc: Global,
@@ -173,5 +137,13 @@ pub(crate) fn read_classes(
     ensures classes { IfOk result (λ v. v.classes ≡ map (read_class_of scale.nm stacks.now) lists.now) }
     ensures notes { IfOk result (λ v. v.notes ≡ capped (rules_passed lists.now)) }
 {
-    read_each_class(alloc, first, lists.as_slice(), stacks, scale)
+    let trees = lists.as_slice();
+    let mut classes = List::new(alloc);
+    let mut notes: u64 = 0;
+    for tree in trees {
+        let read = read_class(alloc, first, tree, stacks, scale)?;
+        classes.push(read.class)?;
+        notes = notes.saturating_add(read.notes);
+    }
+    Ok(Classes { classes, notes })
 }

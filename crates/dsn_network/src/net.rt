@@ -40,16 +40,9 @@ fn read_pins(
     ensures value { IfOk result (λ v. v ≡ net_pins pins.now.lib.now pins.now.placing.now tree.now) }
 {
     let words = refs_of(alloc, tree)?;
-    let named = match read_refs(alloc, first, words.as_slice(), pins) {
-        Ok(named) => {
-            drop(words);
-            named
-        }
-        Err(error) => {
-            drop(words);
-            return Err(error);
-        }
-    };
+    let named = read_refs(alloc, first, words.as_slice(), pins);
+    drop(words);
+    let named = named?;
     let once = each_once(alloc, named.as_slice());
     drop(named);
     once

@@ -9,8 +9,8 @@ ghost use Rattle.dsn_shapes.specs.Refusals.{Reads, noted};
 ghost use Rattle.dsn_network.specs.Classes.{class_refusals, read_class_of};
 ghost use Rattle.dsn_network.specs.Nets.{net_of, nets_refusals};
 ghost use Rattle.dsn_network.specs.Sound.{HasFewPlaces, IsNetworkSound};
-ghost use Rattle.dsn_network.specs.Whole.{class_lists, classes_left_out, classes_passed, net_lists, nets_left_out};
-ghost use Rattle.dsn_network.specs.Whole.{nets_passed, network_left_out, network_of, network_passed};
+ghost use Rattle.dsn_network.specs.Whole.{class_lists, classes_left_out, classes_passed, net_lists};
+ghost use Rattle.dsn_network.specs.Whole.{network_left_out, network_of, network_passed};
 ghost use Rattle.dsn_network.specs.Whole.{network_refusals, networks, refusals_of, rules_passed, value_of};
 
 use crate::class::{Classes, read_classes};
@@ -59,17 +59,6 @@ fn sections_of<'a>(alloc: Global, pcb: &'a Tree) -> Result<Sections<'a>, AllocEr
     })
 }
 
-// Passes over what stands directly in the sections and the nets.
-#[tactic(auto, unfolding(crate::specs::Whole::nets_left_out, crate::specs::Whole::nets_passed))]
-fn pass_over_nets(first: &mut Option<Refusal>, sections: &Trees, nets: &Trees) -> u64
-    ensures noted { first.new ≡ noted first.old (nets_left_out sections.now nets.now) }
-    ensures value { result ≡ capped (nets_passed sections.now nets.now) }
-{
-    let in_sections = pass_over(first, sections, ListKind::Network);
-    let in_nets = pass_over(first, nets, ListKind::Net);
-    in_sections.saturating_add(in_nets)
-}
-
 // Passes over what stands directly in the classes and their circuits.
 #[tactic(auto, unfolding(crate::specs::Whole::classes_left_out, crate::specs::Whole::classes_passed))]
 fn pass_over_classes(
@@ -87,7 +76,7 @@ fn pass_over_classes(
 }
 
 // Passes over what stands beside the parts; `names` are those of the nets.
-#[tactic(auto, unfolding(crate::specs::Whole::network_left_out, crate::specs::Whole::network_passed))]
+#[tactic(auto, unfolding(crate::specs::Whole::network_left_out, crate::specs::Whole::network_passed, crate::specs::Whole::nets_left_out, crate::specs::Whole::nets_passed))]
 fn pass_over_network(
     alloc: Global,
     first: &mut Option<Refusal>,
@@ -99,10 +88,12 @@ fn pass_over_network(
         (first.new ≡ noted first.old (network_left_out parts.now.networks parts.now.nets parts.now.classes)) }
     ensures value { IfOk result (λ n. n ≡ capped (network_passed parts.now.networks parts.now.nets parts.now.classes)) }
 {
-    let in_nets = pass_over_nets(first, &parts.networks, &parts.nets);
+    let in_sections = pass_over(first, &parts.networks, ListKind::Network);
+    let in_nets = pass_over(first, &parts.nets, ListKind::Net);
     let in_classes = pass_over_classes(alloc, first, &parts.classes)?;
     let strays = stray_names(alloc, names, &parts.classes)?;
-    Ok(in_nets.saturating_add(in_classes.saturating_add(strays)))
+    let in_lists = in_sections.saturating_add(in_nets);
+    Ok(in_lists.saturating_add(in_classes.saturating_add(strays)))
 }
 
 fn nets_of(
@@ -190,26 +181,6 @@ fn parts_of(
     })
 }
 
-fn read_sections(
-    alloc: Global,
-    first: &mut Option<Refusal>,
-    parts: &Sections,
-    scale: Scale,
-    lib: &Library,
-    placing: &Placing,
-) -> Result<Network, AllocError>
-    ensures noted { OnOk result
-        (first.new ≡ noted first.old
-        (refusals_of scale.nm lib.now placing.now parts.now.networks parts.now.nets parts.now.classes)) }
-    ensures value { IfOk result
-        (λ v. v ≡ value_of scale.nm lib.now placing.now parts.now.networks parts.now.nets parts.now.classes) }
-{
-    let names = NameIndex::new(alloc, &parts.nets, 1)?;
-    let network = parts_of(alloc, first, parts, &names, scale, lib, placing);
-    drop(names);
-    network
-}
-
 fn note_network(
     alloc: Global,
     first: &mut Option<Refusal>,
@@ -222,8 +193,15 @@ fn note_network(
     ensures value { IfOk result (λ v. v ≡ network_of scale.nm lib.now placing.now pcb.now) }
 {
     let parts = sections_of(alloc, pcb)?;
-    let network = read_sections(alloc, first, &parts, scale, lib, placing);
-    drop(parts);
+    let names = match NameIndex::new(alloc, &parts.nets, 1) {
+        Ok(names) => names,
+        Err(error) => {
+            drop(parts);
+            return Err(error);
+        }
+    };
+    let network = parts_of(alloc, first, &parts, &names, scale, lib, placing);
+    drop((names, parts));
     network
 }
 

@@ -11,9 +11,10 @@ ghost use Rattle.dsn_network.specs.Nets.{each_once, first_net, has_pin, is_pin, 
 ghost use Rattle.dsn_network.specs.Owners.{net_by, pins_of};
 
 use crate::pins::PinIndex;
-use crate::refs::{refs_of, split_at};
+use crate::refs::refs_of;
+use crate::split::split_by;
 use dsn_shapes::table::TAKEN_PIN;
-use dsn_shapes::{PinRef, ReadNet, Refusal, Split, at_of, note, refused};
+use dsn_shapes::{PinRef, ReadNet, Refusal, Split, at_of, note, refused, text_of};
 use dsn_tree::Tree;
 use geo_kernel::List;
 use std::alloc::{AllocError, Global};
@@ -118,7 +119,7 @@ fn refuse_ref(first: &mut Option<Refusal>, word: &Tree, k: usize, owners: &Owner
     ensures { first.new
         ≡ noted first.old (ref_taken pins.now.lib.now pins.now.placing.now (pins_of owners.now) k word.now) }
 {
-    match split_at(word, pins) {
+    match split_by(text_of(word), pins) {
         Split::Unknown => {}
         Split::One(pin) => {
             if owners.net_of(pin) != Some(k) {

@@ -1,7 +1,7 @@
 //! An index of the components and of the pins of each image.
 //! A reference is looked up in it in little more than the length of its words.
 
-ghost use Rattle.std.specs.Prelude.{◌≡◌, ◌++◌, ◌∷◌, [], map, IfOk, OnOk};
+ghost use Rattle.std.specs.Prelude.{◌≡◌, map, IfOk};
 ghost use Rattle.dsn_shapes.specs.declared.parts.Image.{Image as TheImage};
 ghost use Rattle.dsn_network.specs.Splits.{pin_names, place_names};
 
@@ -20,24 +20,13 @@ pub(crate) struct PinIndex<'a, 'b> {
     ghost by_image: { images.items ≡ map (λ (image : TheImage). pin_names image.pins) lib.now.images },
 }
 
-fn push_pins<'a>(
-    alloc: Global,
-    names: &mut Vec<NameIndex<'a>>,
-    image: &'a Image,
-) -> Result<(), AllocError>
-    ensures { OnOk result (names.new.items ≡ names.old.items ++ pin_names image.now.pins ∷ []) }
-{
-    let pins = names_of(alloc, image.pins.as_slice())?;
-    names.push(pins)?;
-    Ok(())
-}
-
 fn images_of<'a>(alloc: Global, images: &'a [Image]) -> Result<Vec<NameIndex<'a>>, AllocError>
     ensures { IfOk result (λ v. v.items ≡ map (λ (image : TheImage). pin_names image.pins) images.now) }
 {
     let mut names = Vec::new(alloc);
     for image in images {
-        push_pins(alloc, &mut names, image)?;
+        let pins = names_of(alloc, image.pins.as_slice())?;
+        names.push(pins)?;
     }
     Ok(names)
 }

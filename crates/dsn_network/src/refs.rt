@@ -4,10 +4,9 @@
 ghost use Rattle.std.specs.Prelude.{◌≡◌, ◌∷◌, [], IfOk, OnOk};
 ghost use Rattle.std.specs.List.{flat_map};
 ghost use Rattle.std.specs.Option.{option_to_list};
-ghost use Rattle.dsn_shapes.specs.Lists.{text_of, trees_of};
+ghost use Rattle.dsn_shapes.specs.Lists.{trees_of};
 ghost use Rattle.dsn_shapes.specs.Refusals.{noted};
 ghost use Rattle.dsn_network.specs.Nets.{is_placed, ref_pins, ref_refusals, refs_of};
-ghost use Rattle.dsn_network.specs.Splits.{split_of};
 
 use crate::pins::PinIndex;
 use crate::split::split_by;
@@ -26,13 +25,6 @@ pub(crate) fn refs_of<'a>(alloc: Global, net: &'a Tree) -> Result<Trees<'a>, All
     words_in(alloc, &lists, 1)
 }
 
-/// What the splits of a reference name.
-pub(crate) fn split_at(word: &Tree, pins: &PinIndex) -> Split
-    ensures { result ≡ split_of pins.now.lib.now pins.now.placing.now (text_of word.now) }
-{
-    split_by(text_of(word), pins)
-}
-
 fn is_placed(placing: &Placing, pin: PinRef) -> bool
     ensures { result ≡ is_placed placing.now pin }
 {
@@ -47,7 +39,7 @@ fn read_ref(first: &mut Option<Refusal>, word: &Tree, pins: &PinIndex) -> Option
     ensures noted { first.new ≡ noted first.old (ref_refusals pins.now.lib.now pins.now.placing.now word.now) }
     ensures value { option_to_list result ≡ ref_pins pins.now.lib.now pins.now.placing.now word.now }
 {
-    match split_at(word, pins) {
+    match split_by(text_of(word), pins) {
         Split::Unknown => {
             note(first, refused(NO_PIN, at_of(word)));
             None

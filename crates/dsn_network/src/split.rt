@@ -4,9 +4,9 @@
 
 ghost use Rattle.std.specs.Prelude.{◌≡◌};
 ghost use Rattle.dsn_shapes.specs.Names.{first_place};
-ghost use Rattle.dsn_network.specs.Splits.{pin_names, pin_ref, place_names, split_of, split_with, with_fit};
+ghost use Rattle.dsn_network.specs.Splits.{pin_names, pin_ref, split_of, split_with, with_fit};
 
-use dsn_shapes::{Image, Library, PinRef, Place, Placing, Split, first_named, place_index};
+use dsn_shapes::{Image, Library, PinRef, Placing, Split, first_named, place_index};
 use geo_kernel::Name;
 
 /// What finds a pin by the names of its component and its own.
@@ -58,12 +58,6 @@ pub(crate) fn pin_ref(place: usize, pin: usize) -> PinRef
     }
 }
 
-fn place_named(places: &[Place], name: &[u8]) -> Option<usize>
-    ensures { result ≡ first_place name.now (place_names places.now) }
-{
-    first_named(places, name)
-}
-
 fn pin_named(image: &Image, name: &[u8]) -> Option<usize>
     ensures { result ≡ first_place name.now (pin_names image.now.pins) }
 {
@@ -84,7 +78,7 @@ impl<'a> Pins for Scan<'a> {
 
     #[tactic(auto, unfolding(crate::specs::Splits::pin_named))]
     fn find(&self, component: &[u8], name: &[u8]) -> Option<PinRef> {
-        let k = place_named(self.placing.places.as_slice(), component)?;
+        let k = first_named(self.placing.places.as_slice(), component)?;
         let place = self.placing.places.get(k)?;
         let image = self.lib.images.get(place.image as usize)?;
         let j = pin_named(image, name)?;

@@ -2,7 +2,7 @@
 //! Groups between words are skipped.
 
 ghost use Rattle.std.specs.Prelude.{◌≡◌, ◌∷◌, ◌++◌, [], IfOk, OnOk};
-ghost use Rattle.dsn_shapes.specs.Lists.{capped, trees_of};
+ghost use Rattle.dsn_shapes.specs.Lists.{capped};
 ghost use Rattle.dsn_shapes.specs.Refusals.{noted};
 ghost use Rattle.dsn_shapes.specs.Rules.{rule_notes, rule_refusals, rule_set};
 ghost use Rattle.dsn_network.specs.Words.{rules_in, words_from, words_in};
@@ -12,7 +12,12 @@ use dsn_tree::{Tree, items};
 use dsn_units::Scale;
 use std::alloc::{AllocError, Global};
 
-fn push_words<'a>(found: &mut Trees<'a>, tree: &'a Tree, from: usize) -> Result<(), AllocError>
+/// Appends the words of a list from word `from` on, where its head is word 0.
+pub(crate) fn push_words<'a>(
+    found: &mut Trees<'a>,
+    tree: &'a Tree,
+    from: usize,
+) -> Result<(), AllocError>
     ensures { OnOk result (found.new ≡ found.old ++ words_from from tree.now) }
 {
     let mut left = from;
@@ -28,33 +33,6 @@ fn push_words<'a>(found: &mut Trees<'a>, tree: &'a Tree, from: usize) -> Result<
     Ok(())
 }
 
-/// The words of a list from word `from` on, where its head is word 0.
-pub(crate) fn words_from<'a>(
-    alloc: Global,
-    tree: &'a Tree,
-    from: usize,
-) -> Result<Trees<'a>, AllocError>
-    ensures { IfOk result (λ ts. ts ≡ words_from from tree.now) }
-{
-    let mut found = Trees::new(alloc);
-    push_words(&mut found, tree, from)?;
-    Ok(found)
-}
-
-fn words_of_each<'a>(
-    alloc: Global,
-    lists: &[&'a Tree],
-    from: usize,
-) -> Result<Trees<'a>, AllocError>
-    ensures { IfOk result (λ ts. ts ≡ words_in from (trees_of lists.now)) }
-{
-    let mut found = Trees::new(alloc);
-    for tree in lists {
-        push_words(&mut found, tree, from)?;
-    }
-    Ok(found)
-}
-
 /// The words of these lists from word `from` on, where the head of a list is word 0.
 pub(crate) fn words_in<'a>(
     alloc: Global,
@@ -63,7 +41,12 @@ pub(crate) fn words_in<'a>(
 ) -> Result<Trees<'a>, AllocError>
     ensures { IfOk result (λ ts. ts ≡ words_in from lists.now) }
 {
-    words_of_each(alloc, lists.as_slice(), from)
+    let trees = lists.as_slice();
+    let mut found = Trees::new(alloc);
+    for tree in trees {
+        push_words(&mut found, tree, from)?;
+    }
+    Ok(found)
 }
 
 /// The rules that stand directly in a list.
@@ -78,14 +61,7 @@ pub(crate) fn rules_of(
     ensures notes { IfOk result (λ v. v.notes ≡ capped (rule_notes (rules_in (tree.now ∷ [])))) }
 {
     let rules = Trees::in_list(alloc, tree, b"rule")?;
-    match read_rules(alloc, first, &rules, scale) {
-        Ok(read) => {
-            drop(rules);
-            Ok(read)
-        }
-        Err(error) => {
-            drop(rules);
-            Err(error)
-        }
-    }
+    let read = read_rules(alloc, first, &rules, scale);
+    drop(rules);
+    read
 }

@@ -5,23 +5,16 @@ ghost use Rattle.std.specs.Prelude.{◌≡◌, ◌++◌, map, sum_by, IfOk, OnOk
 ghost use Rattle.dsn_shapes.specs.Lists.{capped, trees_of};
 ghost use Rattle.dsn_shapes.specs.Refusals.{noted};
 ghost use Rattle.dsn_shapes.specs.Shapes.{ban_notes, ban_of, bound_of};
-ghost use Rattle.dsn_structure.specs.Layout.{area_refusals, keepouts};
+ghost use Rattle.dsn_structure.specs.Layout.{area_refusals};
 
 use dsn_shapes::{
-    BanShape, Bounds, Keepouts, Layer, LayerShape, Refusal, Trees, What, ban_notes, keepout_heads,
-    read_each, refuse_past,
+    BanShape, Bounds, Keepouts, Layer, LayerShape, Refusal, Trees, What, ban_notes, read_each,
+    refuse_past,
 };
 use dsn_tree::Tree;
 use dsn_units::Scale;
 use geo_kernel::List;
 use std::alloc::{AllocError, Global};
-
-/// The keepouts of the three kinds that stand in the structure.
-pub(crate) fn keepouts<'a>(alloc: Global, structs: &Trees<'a>) -> Result<Trees<'a>, AllocError>
-    ensures { IfOk result (λ ts. ts ≡ keepouts structs.now) }
-{
-    structs.lists(alloc, keepout_heads())
-}
 
 /// The boundaries and the keepouts, and how many lists the keepouts have beside their forms.
 #[derive(Drop)]
@@ -41,20 +34,6 @@ fn push_all<'a>(all: &mut Trees<'a>, trees: &[&'a Tree]) -> Result<(), AllocErro
     Ok(())
 }
 
-// The items of the structure in their order: the boundaries, and then the keepouts.
-fn all_areas<'a>(
-    alloc: Global,
-    bounds: &Trees<'a>,
-    bans: &Trees<'a>,
-) -> Result<Trees<'a>, AllocError>
-    ensures { IfOk result (λ ts. ts ≡ bounds.now ++ bans.now) }
-{
-    let mut all = Trees::new(alloc);
-    push_all(&mut all, bounds.as_slice())?;
-    push_all(&mut all, bans.as_slice())?;
-    Ok(all)
-}
-
 /// Reads the boundaries and the keepouts.
 #[tactic(auto, unfolding(crate::specs::Layout::area_refusals))]
 pub(crate) fn read_areas(
@@ -70,7 +49,10 @@ pub(crate) fn read_areas(
     ensures bans { IfOk result (λ a. a.bans ≡ map (ban_of scale.nm layers.now) bans.now) }
     ensures notes { IfOk result (λ a. a.notes ≡ capped (sum_by ban_notes bans.now)) }
 {
-    let all = all_areas(alloc, bounds, bans)?;
+    // The items of the structure in their order.
+    let mut all = Trees::new(alloc);
+    push_all(&mut all, bounds.as_slice())?;
+    push_all(&mut all, bans.as_slice())?;
     let bound_shapes = match read_each(alloc, &Bounds { scale, layers }, first, bounds) {
         Ok(shapes) => shapes,
         Err(error) => {

@@ -1,17 +1,15 @@
 //! What stands before the sections: the design's name, its resolution and unit, and what wrote it.
 //! Source: SPECCTRA reference, pcb, parser, resolution and unit descriptors.
 
-ghost use Rattle.std.specs.Prelude.{◌≡◌, ◌∷◌, [], IfOk, OnOk};
+ghost use Rattle.std.specs.Prelude.{◌≡◌, IfOk, OnOk};
 ghost use Rattle.dsn_shapes.specs.Refusals.{Reads, noted};
-ghost use Rattle.dsn_shapes.specs.Lists.{name_of};
-ghost use Rattle.dsn_structure.specs.Header.{count_of, count_refusal, first_of, head_of, head_refusals};
-ghost use Rattle.dsn_structure.specs.Header.{header_left_out, header_notes, host_in, host_of, host_refusal, hosts};
-ghost use Rattle.dsn_structure.specs.Header.{not_pcb, parsers, resolution_count, resolution_refusals};
-ghost use Rattle.dsn_structure.specs.Header.{resolution_unit, resolutions, scale_of, scale_refusals, some_count};
+ghost use Rattle.dsn_structure.specs.Header.{count_of, first_of, head_of, head_refusals};
+ghost use Rattle.dsn_structure.specs.Header.{header_left_out, header_notes, host_of, host_refusal, hosts};
+ghost use Rattle.dsn_structure.specs.Header.{not_pcb, resolution_count, resolution_refusals};
+ghost use Rattle.dsn_structure.specs.Header.{resolution_unit, resolutions, scale_of, scale_refusals};
 ghost use Rattle.dsn_structure.specs.Header.{unit_in, unit_of, unit_refusal, units};
 ghost use Rattle.dsn_structure.specs.Sound.{IsHeadSound};
 ghost use Rattle.std.specs.Option.{option_map_or};
-ghost use Rattle.std.specs.Prelude.{codes, unwrap_or};
 
 use crate::vias::headed_in;
 use dsn_shapes::table::{NO_BOARD, NO_NUMBER, NO_SECTION, NO_UNIT};
@@ -51,15 +49,6 @@ fn unit_of(text: &[u8]) -> Option<Unit>
     }
 }
 
-fn unit_in(tree: &Tree) -> Unit
-    ensures { result ≡ unit_in tree.now }
-{
-    match unit_of(name_of(tree, 1)) {
-        Some(unit) => unit,
-        None => Unit::Um,
-    }
-}
-
 fn refuse_unit(first: &mut Option<Refusal>, tree: &Tree)
     ensures { first.new ≡ noted first.old (unit_refusal tree.now) }
 {
@@ -68,30 +57,16 @@ fn refuse_unit(first: &mut Option<Refusal>, tree: &Tree)
     }
 }
 
-fn some_count(count: Option<u32>) -> Option<u32>
-    ensures { result ≡ some_count count }
-{
-    match count {
-        Some(n) => { if n == 0 { None } else { Some(n) } }
-        None => None,
-    }
-}
-
 // How many units of a resolution are one of its unit, from 1 to 1,000,000.
 fn count_of(tree: &Tree) -> Option<u32>
     ensures { result ≡ count_of tree.now }
 {
     match read_decimal(name_of(tree, 2)) {
-        Some(decimal) => some_count(whole_number(&decimal, MOST_PER)),
+        Some(decimal) => match whole_number(&decimal, MOST_PER) {
+            Some(n) => { if n == 0 { None } else { Some(n) } }
+            None => None,
+        },
         None => None,
-    }
-}
-
-fn refuse_count(first: &mut Option<Refusal>, tree: &Tree)
-    ensures { first.new ≡ noted first.old (count_refusal tree.now) }
-{
-    if count_of(tree).is_none() {
-        note(first, refused(NO_NUMBER, place_of(tree, 2)));
     }
 }
 
@@ -101,7 +76,9 @@ fn refuse_resolution(first: &mut Option<Refusal>, pcb: &Tree, resolutions: &Tree
     match resolutions.get(0) {
         Some(tree) => {
             refuse_unit(first, tree);
-            refuse_count(first, tree);
+            if count_of(tree).is_none() {
+                note(first, refused(NO_NUMBER, place_of(tree, 2)));
+            }
         }
         None => note(first, refused(NO_SECTION, at_of(pcb))),
     }
@@ -124,16 +101,8 @@ fn unit_or(lists: &Trees, other: Unit) -> Unit
     ensures { result ≡ option_map_or unit_in (first_of lists.now) other }
 {
     match lists.get(0) {
-        Some(tree) => unit_in(tree),
+        Some(tree) => unit_of(name_of(tree, 1)).unwrap_or(Unit::Um),
         None => other,
-    }
-}
-
-fn refuse_first_unit(first: &mut Option<Refusal>, lists: &Trees)
-    ensures { first.new ≡ noted first.old (option_map_or unit_refusal (first_of lists.now) []) }
-{
-    if let Some(tree) = lists.get(0) {
-        refuse_unit(first, tree);
     }
 }
 
@@ -150,23 +119,12 @@ fn refuse_scale(first: &mut Option<Refusal>, pcb: &Tree, resolutions: &Trees, un
     ensures { first.new ≡ noted first.old (scale_refusals pcb.now resolutions.now units.now) }
 {
     refuse_resolution(first, pcb, resolutions);
-    refuse_first_unit(first, units);
+    if let Some(tree) = units.get(0) {
+        refuse_unit(first, tree);
+    }
 }
 
-#[tactic(auto, unfolding(crate::specs::Header::resolution_unit))]
-fn resolution_unit(resolutions: &Trees) -> Unit
-    ensures { result ≡ resolution_unit resolutions.now }
-{
-    unit_or(resolutions, Unit::Um)
-}
-
-#[tactic(auto, unfolding(crate::specs::Header::scale_of))]
-fn scale_of(units: &Trees, resolutions: &Trees) -> Scale
-    ensures { result ≡ scale_of units.now resolutions.now }
-{
-    Scale::of(unit_or(units, resolution_unit(resolutions)))
-}
-
+#[tactic(auto, unfolding(crate::specs::Header::resolution_unit, crate::specs::Header::scale_of))]
 fn read_resolution(
     alloc: Global,
     first: &mut Option<Refusal>,
@@ -181,20 +139,12 @@ fn read_resolution(
     let resolutions = Trees::in_list(alloc, pcb, b"resolution")?;
     let units = Trees::in_list(alloc, pcb, b"unit")?;
     refuse_scale(first, pcb, &resolutions, &units);
+    let unit = unit_or(&resolutions, Unit::Um);
     Ok(Resolution {
-        unit: resolution_unit(&resolutions),
+        unit,
         per: per_of(&resolutions),
-        scale: scale_of(&units, &resolutions),
+        scale: Scale::of(unit_or(&units, unit)),
     })
-}
-
-fn host_in(alloc: Global, tree: &Tree) -> Result<Option<Name>, AllocError>
-    ensures { IfOk result (λ n. n ≡ host_in tree.now) }
-{
-    match nth_word(tree, 1) {
-        Some(word) => Ok(Some(List::from_slice(alloc, text_of(word))?)),
-        None => Ok(None),
-    }
 }
 
 #[tactic(auto, unfolding(crate::specs::Header::host_of, crate::specs::Header::host_refusal))]
@@ -209,7 +159,10 @@ fn first_host(
     match hosts.get(0) {
         Some(tree) => {
             refuse_quoted_name(first, tree, 1);
-            host_in(alloc, tree)
+            match nth_word(tree, 1) {
+                Some(word) => Ok(Some(List::from_slice(alloc, text_of(word))?)),
+                None => Ok(None),
+            }
         }
         None => Ok(None),
     }

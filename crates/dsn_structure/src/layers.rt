@@ -1,11 +1,11 @@
 //! The layers of a structure, the parts that it lacks, and the lists beside its parts.
 //! Source: SPECCTRA reference, structure, layer and control descriptors.
 
-ghost use Rattle.std.specs.Prelude.{◌≡◌, slice_get, IfOk, OnOk};
+ghost use Rattle.std.specs.Prelude.{◌≡◌, IfOk, OnOk};
 ghost use Rattle.dsn_shapes.specs.Lists.{capped};
 ghost use Rattle.dsn_shapes.specs.Refusals.{noted};
-ghost use Rattle.dsn_structure.specs.Layout.{frame_layers, frame_notes, frame_refusals, is_power, layer_refusals};
-ghost use Rattle.dsn_structure.specs.Layout.{layers_in, lists_left_out, lists_passed, missing, no_boundary};
+ghost use Rattle.dsn_structure.specs.Layout.{frame_layers, frame_notes, frame_refusals, layer_refusals};
+ghost use Rattle.dsn_structure.specs.Layout.{layers_in, lists_left_out, lists_passed, missing};
 
 use dsn_shapes::table::{NO_BOUNDARY, NO_SECTION};
 use dsn_shapes::{
@@ -15,15 +15,6 @@ use dsn_shapes::{
 use dsn_tree::{Tree, child};
 use geo_kernel::List;
 use std::alloc::{AllocError, Global};
-
-fn is_power(tree: &Tree) -> bool
-    ensures { result ≡ is_power tree.now }
-{
-    match child(tree, b"type") {
-        Some(found) => says(found, 1, b"power"),
-        None => false,
-    }
-}
 
 // Layers, but for names that are given twice.
 #[derive(Drop)]
@@ -44,11 +35,12 @@ impl Part<Layer> for LayerPart {
         tree: &Tree,
     ) -> Result<Layer, AllocError> {
         refuse_quoted_name(first, tree, 1);
+        let power = match child(tree, b"type") {
+            Some(found) => says(found, 1, b"power"),
+            None => false,
+        };
         let name = List::from_slice(alloc, name_of(tree, 1))?;
-        Ok(Layer {
-            name,
-            power: is_power(tree),
-        })
+        Ok(Layer { name, power })
     }
 }
 
@@ -88,12 +80,6 @@ fn refuse_missing(
     if structs.len() == 0 || layers.len() == 0 {
         note(first, refused(NO_SECTION, at_of(pcb)));
     }
-    refuse_no_boundary(first, structs, bounds);
-}
-
-fn refuse_no_boundary(first: &mut Option<Refusal>, structs: &Trees, bounds: &Trees)
-    ensures { first.new ≡ noted first.old (no_boundary bounds.now (slice_get structs.now 0)) }
-{
     if let Some(tree) = structs.get(0) {
         if bounds.len() == 0 {
             note(first, refused(NO_BOUNDARY, at_of(tree)));
@@ -149,14 +135,10 @@ pub(crate) fn read_frame(
     refuse_missing(first, pcb, structs, &lists, bounds);
     let notes = pass_over_lists(first, structs, &lists, &ctrls);
     drop(ctrls);
-    match read_layers(alloc, first, &lists) {
-        Ok(layers) => {
-            drop(lists);
-            Ok(Frame { layers, notes })
-        }
-        Err(error) => {
-            drop(lists);
-            Err(error)
-        }
-    }
+    let layers = read_layers(alloc, first, &lists);
+    drop(lists);
+    Ok(Frame {
+        layers: layers?,
+        notes,
+    })
 }

@@ -7,10 +7,10 @@ ghost use Rattle.dsn_structure.specs.Layout.{boundaries, keepouts, refusals_of, 
 ghost use Rattle.dsn_structure.specs.Layout.{structure_refusals, structures, value_of};
 ghost use Rattle.dsn_structure.specs.Sound.{IsStructureSound};
 
-use crate::areas::{Areas, keepouts, read_areas};
+use crate::areas::{Areas, read_areas};
 use crate::layers::{Frame, read_frame};
 use crate::vias::{Vias, read_switches};
-use dsn_shapes::{ReadFault, Refusal, Rules, Structure, Trees, read_rules};
+use dsn_shapes::{ReadFault, Refusal, Rules, Structure, Trees, keepout_heads, read_rules};
 use dsn_tree::Tree;
 use dsn_units::Scale;
 use std::alloc::{AllocError, Global};
@@ -95,7 +95,7 @@ fn lists_of<'a>(alloc: Global, pcb: &'a Tree) -> Result<Lists<'a>, AllocError>
 {
     let structs = Trees::in_list(alloc, pcb, b"structure")?;
     let bounds = structs.headed(alloc, b"boundary")?;
-    let bans = keepouts(alloc, &structs)?;
+    let bans = structs.lists(alloc, keepout_heads())?;
     let rules = structs.headed(alloc, b"rule")?;
     Ok(Lists {
         structs,

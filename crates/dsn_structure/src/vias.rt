@@ -1,9 +1,9 @@
 //! The via padstacks of a structure, and its switches.
 //! Source: SPECCTRA reference, via, control and place_control descriptors.
 
-ghost use Rattle.std.specs.Prelude.{◌≡◌, ◌∷◌, ◌++◌, [], codes, map, filter, IfOk, OnOk};
+ghost use Rattle.std.specs.Prelude.{◌≡◌, ◌∷◌, ◌++◌, [], map, IfOk, OnOk};
 ghost use Rattle.std.specs.List.{flat_map};
-ghost use Rattle.dsn_shapes.specs.Lists.{is_word, lists, text_of, trees_of};
+ghost use Rattle.dsn_shapes.specs.Lists.{lists, text_of, trees_of};
 ghost use Rattle.dsn_shapes.specs.Names.{names_at};
 ghost use Rattle.dsn_shapes.specs.Refusals.{noted};
 ghost use Rattle.dsn_structure.specs.Layout.{any_says, controls, flip_last, names_in, padstacks, via_at_smd};
@@ -33,17 +33,10 @@ fn push_names<'a>(found: &mut Trees<'a>, tree: &'a Tree) -> Result<(), AllocErro
     ensures { OnOk result (found.new ≡ found.old ++ names_in tree.now) }
 {
     if let [_, rest @ ..] = items(tree) {
-        push_words(found, rest)?;
-    }
-    Ok(())
-}
-
-fn push_words<'a>(found: &mut Trees<'a>, all: &'a [Tree]) -> Result<(), AllocError>
-    ensures { OnOk result (found.new ≡ found.old ++ filter is_word all.now) }
-{
-    for item in all {
-        if is_word(item) {
-            found.push(item)?;
+        for item in rest {
+            if is_word(item) {
+                found.push(item)?;
+            }
         }
     }
     Ok(())
@@ -84,20 +77,6 @@ fn copy_vias(
     Ok(names)
 }
 
-#[tactic(auto, unfolding(crate::specs::Layout::via_refusals, crate::specs::Layout::via_names))]
-fn known_vias(
-    alloc: Global,
-    first: &mut Option<Refusal>,
-    lists: &Trees,
-    known: &NameIndex,
-) -> Result<List<Name>, AllocError>
-    ensures noted { OnOk result (first.new ≡ noted first.old (via_refusals known.now lists.now)) }
-    ensures value { IfOk result (λ ns. ns ≡ via_names lists.now) }
-{
-    let words = via_words(alloc, lists.as_slice())?;
-    copy_vias(alloc, first, words.as_slice(), known)
-}
-
 // The index of the names of the library's padstacks.
 fn padstack_names<'a>(alloc: Global, pcb: &'a Tree) -> Result<NameIndex<'a>, AllocError>
     ensures { IfOk result (λ x. x ≡ names_at 1 (padstacks pcb.now)) }
@@ -108,6 +87,7 @@ fn padstack_names<'a>(alloc: Global, pcb: &'a Tree) -> Result<NameIndex<'a>, All
 }
 
 // The padstacks of the via lists, each of which the library has.
+#[tactic(auto, unfolding(crate::specs::Layout::via_refusals, crate::specs::Layout::via_names))]
 fn read_vias(
     alloc: Global,
     first: &mut Option<Refusal>,
@@ -118,9 +98,10 @@ fn read_vias(
         (first.new ≡ noted first.old (via_refusals (names_at 1 (padstacks pcb.now)) (via_lists structs.now))) }
     ensures value { IfOk result (λ ns. ns ≡ via_names (via_lists structs.now)) }
 {
-    let known = padstack_names(alloc, pcb)?;
     let lists = structs.headed(alloc, b"via")?;
-    known_vias(alloc, first, &lists, &known)
+    let words = via_words(alloc, lists.as_slice())?;
+    let known = padstack_names(alloc, pcb)?;
+    copy_vias(alloc, first, words.as_slice(), &known)
 }
 
 #[tactic(auto, unfolding(crate::specs::Layout::any_says))]
@@ -145,22 +126,14 @@ fn via_at_smd(alloc: Global, structs: &Trees) -> Result<bool, AllocError>
     Ok(any_says(switches.as_slice(), b"on"))
 }
 
-fn place_controls<'a>(alloc: Global, pcb: &'a Tree) -> Result<Trees<'a>, AllocError>
-    ensures { IfOk result
-        (λ ts. ts ≡ lists (codes "place_control" ∷ [])
-        (lists (codes "structure" ∷ codes "placement" ∷ []) (pcb.now ∷ []))) }
-{
-    let heads: [&[u8]; 2] = [b"structure", b"placement"];
-    let sections = Trees::one(alloc, pcb)?.lists(alloc, &heads)?;
-    headed_in(alloc, sections, b"place_control")
-}
-
 // `(place_control (flip_style rotate_first))` in the structure or the placement.
 #[tactic(auto, unfolding(crate::specs::Layout::flip_last))]
 fn flip_last(alloc: Global, pcb: &Tree) -> Result<bool, AllocError>
     ensures { IfOk result (λ b. b ≡ flip_last pcb.now) }
 {
-    let place_controls = place_controls(alloc, pcb)?;
+    let heads: [&[u8]; 2] = [b"structure", b"placement"];
+    let sections = Trees::one(alloc, pcb)?.lists(alloc, &heads)?;
+    let place_controls = headed_in(alloc, sections, b"place_control")?;
     let styles = headed_in(alloc, place_controls, b"flip_style")?;
     Ok(any_says(styles.as_slice(), b"rotate_first"))
 }

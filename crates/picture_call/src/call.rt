@@ -99,23 +99,15 @@ fn draw_session<D: Desk>(
     }
 }
 
-fn draw_design<D: Desk>(alloc: Global, d: &Design, call: &PictureCall, desk: &mut D) -> Outcome
-    requires sound { IsSound d.now }
-    requires design { IsDesignIn call.now.design (D.state desk.old).files d.now }
-    ensures { Leaves call.now (D.state desk.old) (D.state desk.new) result }
-{
-    match &call.session {
-        Some(name) => draw_session(alloc, d, name, call, desk),
-        None => draw_wires(alloc, d, d.free.as_slice(), call, desk),
-    }
-}
-
 fn draw_text<D: Desk>(alloc: Global, text: &[u8], call: &PictureCall, desk: &mut D) -> Outcome
     requires design { IsInput call.now.design (D.state desk.old).files text.now }
     ensures { Leaves call.now (D.state desk.old) (D.state desk.new) result }
 {
     match read_design(alloc, text) {
-        Ok(design) => draw_design(alloc, &design, call, desk),
+        Ok(design) => match &call.session {
+            Some(name) => draw_session(alloc, &design, name, call, desk),
+            None => draw_wires(alloc, &design, design.free.as_slice(), call, desk),
+        },
         Err(DesignFault::Spelling(fault)) => Outcome::DesignMisspelt(fault),
         Err(DesignFault::Refused(refusal)) => Outcome::DesignRefused(refusal),
         Err(DesignFault::Memory(_)) => Outcome::Memory,

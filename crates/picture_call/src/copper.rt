@@ -72,24 +72,18 @@ fn lay_wires(alloc: Global, d: &Design, wires: &[FreeWire]) -> Result<PlainCoppe
     Ok(copper)
 }
 
-fn wire_of(alloc: Global, item: &SesItem) -> Result<FreeWire, AllocError>
-    ensures { IfOk result (λ w. w ≡ wire_of item.now) }
-{
-    let metal = copy_metal(alloc, &item.metal)?;
-    Ok(FreeWire {
-        at: item.at,
-        net: item.net,
-        metal,
-    })
-}
-
 /// A session's items as wiring of the design.
 pub(crate) fn wires_of(alloc: Global, items: &[SesItem]) -> Result<List<FreeWire>, AllocError>
     ensures { IfOk result (λ wires. wires ≡ map wire_of items.now) }
 {
     let mut wires = List::new(alloc);
     for item in items {
-        wires.push(wire_of(alloc, item)?)?;
+        let metal = copy_metal(alloc, &item.metal)?;
+        wires.push(FreeWire {
+            at: item.at,
+            net: item.net,
+            metal,
+        })?;
     }
     Ok(wires)
 }

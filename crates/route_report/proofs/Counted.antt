@@ -31,6 +31,20 @@ counted_from p f (net ∷ nets) (n ∷ counts) i long are =
     one_more (p n) (p (f i)) (ap p here) n (i, net) (filter p counts)
     (filter (λ (n : ℕ × Net). p (f n.0)) (enumerate_from (i + 1) nets)) rest
 
+kept : (b : Bool) (n : ℕ) (xs ys ns : List ℕ) → length xs + length ys ≡ length ns
+    → length (cond b (n ∷ xs) xs) + length (cond (not b) (n ∷ ys) ys) ≡ length (n ∷ ns)
+kept true n xs ys ns e = omega (arith, e)
+kept false n xs ys ns e = omega (arith, e)
+
+parted : (p : ℕ → Bool) (ns : List ℕ) → length (filter p ns) + length (filter (λ n. not (p n)) ns) ≡ length ns
+parted p [] = refl
+parted p (n ∷ ns) = kept (p n) n (filter p ns) (filter (λ n. not (p n)) ns) ns (parted p ns)
+
+-- those that pass, and those that don't, are all
+pub all_counted : (p : ℕ → Bool) (ns : List ℕ) → count_by p ns + count_by (λ n. not (p n)) ns ≡ length ns
+all_counted p ns =
+    omega (arith, length-filter p ns, length-filter (λ n. not (p n)) ns, parted p ns)
+
 module _ (facts : Facts) (nets : List Net) (counts : List ℕ) (are : AreCounts facts.cuts (length nets) counts) where
   counted : (p : ℕ → Bool) → count_by p counts
       ≡ length (filter (λ (n : ℕ × Net). p (length (cuts_of facts n.0))) (enumerate_from 0 nets))

@@ -12,7 +12,7 @@ use crate::stretches::put_stretches;
 use crate::words::{put_count, put_pair};
 use cut_certificate::{Block, Blocker, Cut};
 use pcb_board::Board;
-use pcb_model::{Copper, Design, Item, Kind, Pin};
+use pcb_model::{Copper, Design, Kind, Pin};
 use pcb_tiles::Tiles;
 use route_lattice::Lattice;
 use ses_writer::{put, put_word};
@@ -88,14 +88,6 @@ fn put_kind(out: &mut Vec<u8>, kind: Kind) -> Result<(), AllocError>
     }
 }
 
-#[tactic(auto, unfolding(crate::specs::Report::by_line))]
-fn put_by(out: &mut Vec<u8>, item: &Item) -> Result<(), AllocError>
-    ensures { OnOk result (Appends out.old.items out.new.items (by_line item.now)) }
-{
-    put_kind(out, item.kind)?;
-    put_count(out, b" ", item.id)
-}
-
 // The line of the item of an id, as far as there is one.
 fn put_by_id(out: &mut Vec<u8>, copper: &Tiles, id: u64) -> Result<(), AllocError>
     ensures { OnOk result (Appends out.old.items out.new.items
@@ -103,7 +95,10 @@ fn put_by_id(out: &mut Vec<u8>, copper: &Tiles, id: u64) -> Result<(), AllocErro
 {
     copper.in_order();
     match copper.item(id) {
-        Some(item) => put_by(out, item),
+        Some(item) => {
+            put_kind(out, item.kind)?;
+            put_count(out, b" ", item.id)
+        }
         None => Ok(()),
     }
 }

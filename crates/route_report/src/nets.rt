@@ -1,6 +1,6 @@
 //! What the report tells of the nets: each net's line and its cuts, and how many nets are complete and open.
 
-ghost use Rattle.std.specs.Prelude.{◌≡◌, ◌==◌, ℕ, ◌+◌, ◌<◌, ◌^◌, ◌++◌, [], not, OnOk, IfOk, All, Vec, count_by};
+ghost use Rattle.std.specs.Prelude.{◌≡◌, ◌==◌, ℕ, ◌+◌, ◌<◌, ◌^◌, ◌++◌, [], OnOk, IfOk, All, Vec, count_by};
 ghost use Rattle.std.specs.Prelude.{flat_map, length};
 ghost use Rattle.std.specs.List.{enumerate_from};
 ghost use Rattle.std.specs.Global.{Global as Memory};
@@ -105,18 +105,12 @@ fn put_verdict(out: &mut Vec<u8>, count: u64) -> Result<(), AllocError>
 }
 
 #[tactic(auto, unfolding(crate::specs::Report::net_line))]
-fn put_net_line(out: &mut Vec<u8>, net: &Net, count: u64) -> Result<(), AllocError>
-    ensures { OnOk result (Appends out.old.items out.new.items (net_line net.now.name count)) }
-{
-    put(out, b"net ")?;
-    put_word(out, net.name.as_slice())?;
-    put_verdict(out, count)
-}
-
 fn put_net(out: &mut Vec<u8>, net: &Net, count: u64, lines: &[u8]) -> Result<(), AllocError>
     ensures { OnOk result (Appends out.old.items out.new.items (net_line net.now.name count ++ lines.now)) }
 {
-    put_net_line(out, net, count)?;
+    put(out, b"net ")?;
+    put_word(out, net.name.as_slice())?;
+    put_verdict(out, count)?;
     put(out, lines)
 }
 
@@ -168,18 +162,6 @@ fn zeros(counts: &[u64]) -> usize
     count
 }
 
-fn others(counts: &[u64]) -> usize
-    ensures { result ≡ count_by (λ n. not (n == 0)) counts.now }
-{
-    let mut count = 0;
-    for n in counts {
-        if *n != 0 {
-            count += 1;
-        }
-    }
-    count
-}
-
 /// How many nets are complete, and how many open.
 #[tactic(auto, unfolding(crate::specs::Report::total_line))]
 pub(crate) fn put_totals(
@@ -191,12 +173,7 @@ pub(crate) fn put_totals(
     ensures { OnOk result (Appends out.old.items out.new.items (total_line d.now facts.now)) }
 {
     let counts = cut_counts(alloc, facts.cuts.as_slice(), d.nets.len())?;
-    let complete = zeros(&counts) as u64;
-    put_pair(
-        out,
-        b"complete ",
-        complete,
-        b" open ",
-        others(&counts) as u64,
-    )
+    let complete = zeros(&counts);
+    let others = counts.len() - complete;
+    put_pair(out, b"complete ", complete as u64, b" open ", others as u64)
 }

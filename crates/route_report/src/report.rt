@@ -2,7 +2,7 @@
 
 ghost use Rattle.std.specs.Prelude.{◌≡◌, ◌+◌, OnOk, IfOk, flat_map};
 ghost use Rattle.ses_writer.specs.Words.{Appends};
-ghost use Rattle.route_report.specs.Report.{board_line, size_line, lattice_line, drop_line, pass_line};
+ghost use Rattle.route_report.specs.Report.{board_line, size_line, drop_line, pass_line};
 ghost use Rattle.route_report.specs.Report.{pass_lines, head_lines, run_lines, report_of};
 
 use crate::facts::{Facts, PassLine};
@@ -32,13 +32,6 @@ fn put_size(out: &mut Vec<u8>, d: &Design) -> Result<(), AllocError>
     put_count(out, b" pins ", d.pins.len() as u64)
 }
 
-#[tactic(auto, unfolding(crate::specs::Report::lattice_line))]
-fn put_lattice(out: &mut Vec<u8>, facts: &Facts) -> Result<(), AllocError>
-    ensures { OnOk result (Appends out.old.items out.new.items (lattice_line facts.now)) }
-{
-    put_pair(out, b"grid ", facts.grid, b" nodes ", facts.nodes)
-}
-
 fn put_drops(out: &mut Vec<u8>, places: &[u64]) -> Result<(), AllocError>
     ensures { OnOk result (Appends out.old.items out.new.items (flat_map drop_line places.now)) }
 {
@@ -48,13 +41,13 @@ fn put_drops(out: &mut Vec<u8>, places: &[u64]) -> Result<(), AllocError>
     Ok(())
 }
 
-#[tactic(auto, unfolding(crate::specs::Report::head_lines))]
+#[tactic(auto, unfolding(crate::specs::Report::head_lines, crate::specs::Report::lattice_line))]
 fn put_head(out: &mut Vec<u8>, d: &Design, facts: &Facts) -> Result<(), AllocError>
     ensures { OnOk result (Appends out.old.items out.new.items (head_lines d.now facts.now)) }
 {
     put_board(out, d)?;
     put_size(out, d)?;
-    put_lattice(out, facts)?;
+    put_pair(out, b"grid ", facts.grid, b" nodes ", facts.nodes)?;
     put_count(out, b"dropped ", facts.dropped.len() as u64)?;
     put_drops(out, facts.dropped.as_slice())?;
     put_count(out, b"notes ", d.notes)

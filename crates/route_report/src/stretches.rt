@@ -2,7 +2,7 @@
 
 ghost use Rattle.std.specs.Prelude.{◌≡◌, ◌/◌, ◌%◌, OnOk};
 ghost use Rattle.ses_writer.specs.Words.{Appends};
-ghost use Rattle.route_lattice.specs.Mesh.{column as column_in, row as row_in, level as level_in};
+ghost use Rattle.route_lattice.specs.Mesh.{column as column_in};
 ghost use Rattle.route_report.specs.Report.{stretch_line, goes_on as goes_on_in, stretches_from, stretch_lines};
 
 use crate::words::{put_counted, put_pair};
@@ -35,20 +35,6 @@ fn column(lat: &Lattice, node: u32) -> u64
     remainder(u64::from(node), lat.xs().len() as u64)
 }
 
-fn row(lat: &Lattice, node: u32) -> u64
-    ensures { result ≡ row_in lat.now node }
-{
-    let line = quotient(u64::from(node), lat.xs().len() as u64);
-    remainder(line, lat.ys().len() as u64)
-}
-
-fn level(lat: &Lattice, node: u32) -> u64
-    ensures { result ≡ level_in lat.now node }
-{
-    let line = quotient(u64::from(node), lat.xs().len() as u64);
-    quotient(line, lat.ys().len() as u64)
-}
-
 fn goes_on(lat: &Lattice, last: u32, node: u32) -> bool
     ensures { result ≡ goes_on_in lat.now last node }
 {
@@ -59,8 +45,10 @@ fn goes_on(lat: &Lattice, last: u32, node: u32) -> bool
 fn put_stretch(out: &mut Vec<u8>, lat: &Lattice, first: u32, last: u32) -> Result<(), AllocError>
     ensures { OnOk result (Appends out.old.items out.new.items (stretch_line lat.now first last)) }
 {
-    put_counted(out, b"run ", level(lat, first))?;
-    put_counted(out, b" ", row(lat, first))?;
+    let line = quotient(u64::from(first), lat.xs().len() as u64);
+    let rows = lat.ys().len() as u64;
+    put_counted(out, b"run ", quotient(line, rows))?;
+    put_counted(out, b" ", remainder(line, rows))?;
     put_pair(out, b" ", column(lat, first), b" ", column(lat, last))
 }
 

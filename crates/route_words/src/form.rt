@@ -1,12 +1,12 @@
 //! The forms of the words after a command, for `clap`, and what it finds in the words.
 //! A fault of `clap` other than want of memory is one of usage.
 
-ghost use Rattle.std.specs.Prelude.{◌≡◌, ◌∷◌, ◌++◌, [], IfOk, codes, false};
+ghost use Rattle.std.specs.Prelude.{◌≡◌, ◌∷◌, ◌++◌, [], IfOk, false};
 ghost use Rattle.clap.specs.Simple.{App, app_of};
 ghost use Rattle.clap.specs.Walk.{rule_of};
 ghost use Rattle.clap.specs.Values.{kind_of};
 ghost use Rattle.route_words.specs.Words.{texts};
-ghost use Rattle.route_words.specs.Forms.{route_app, gen_app, bare_app, named, valued, flag, fault_by, Reads};
+ghost use Rattle.route_words.specs.Forms.{bare_app, named, valued, fault_by, Reads};
 ghost use Rattle.route_words.specs.Forms.{route_args, Adds, Makes, IsPlainForm};
 ghost use Rattle.route_words.specs.Forms.{FindsRoute, FindsGen};
 
@@ -53,23 +53,6 @@ fn push_valued<'a>(alloc: Global, args: &mut Vec<Arg<'a>>, name: &'a str) -> Res
     push(args, valued_arg(alloc, name))
 }
 
-fn push_flag<'a>(alloc: Global, args: &mut Vec<Arg<'a>>, name: &'a str) -> Result<(), AllocError>
-    ensures { IfOk result (λ _. Adds (flag name.entry.now ∷ []) args.old.items args.new.items) }
-{
-    push(
-        args,
-        Arg::new(alloc, name).long(name).action(ArgAction::SetTrue),
-    )
-}
-
-fn push_counts<'a>(alloc: Global, args: &mut Vec<Arg<'a>>) -> Result<(), AllocError>
-    ensures { IfOk result (λ _. Adds (valued (codes "workers") ∷ valued (codes "passes") ∷ []) args.old.items
-        args.new.items) }
-{
-    push(args, valued_arg(alloc, "workers"))?;
-    push_valued(alloc, args, "passes")
-}
-
 // The arguments of the words after `route`.
 fn push_route<'a>(alloc: Global, args: &mut Vec<Arg<'a>>) -> Result<(), AllocError>
     ensures { IfOk result (λ _. Adds route_args args.old.items args.new.items) }
@@ -77,15 +60,15 @@ fn push_route<'a>(alloc: Global, args: &mut Vec<Arg<'a>>) -> Result<(), AllocErr
     push_name(alloc, args, "input")?;
     push_name(alloc, args, "output")?;
     push_valued(alloc, args, "grid")?;
-    push_counts(alloc, args)?;
+    push(args, valued_arg(alloc, "workers"))?;
+    push_valued(alloc, args, "passes")?;
     push_valued(alloc, args, "via-cost")?;
-    push_flag(alloc, args, "omit-fixed")
-}
-
-fn form_of<'a>(alloc: Global, args: Vec<Arg<'a>>) -> Result<Command<'a>, AllocError>
-    ensures { IfOk result (λ c. (app : App) → Makes args.entry.items app → app_of c ≡ app) }
-{
-    bare_form(alloc).args(args)
+    push(
+        args,
+        Arg::new(alloc, "omit-fixed")
+            .long("omit-fixed")
+            .action(ArgAction::SetTrue),
+    )
 }
 
 // What the words hold by the form with these arguments.
@@ -96,24 +79,8 @@ fn parse<'a>(
 ) -> Result<ArgMatches<'a>, Error>
     ensures { (app : App) → Makes args.entry.items app → IsPlainForm app → Reads app (texts words.entry.now) result }
 {
-    let form = form_of(alloc, args)?;
+    let form = bare_form(alloc).args(args)?;
     form.try_get_matches_from(words)
-}
-
-fn parse_route<'a>(alloc: Global, words: &'a [String]) -> Result<ArgMatches<'a>, Error>
-    ensures { Reads route_app (texts words.entry.now) result }
-{
-    let mut args = Vec::new(alloc);
-    push_route(alloc, &mut args)?;
-    parse(alloc, args, words)
-}
-
-fn parse_gen<'a>(alloc: Global, words: &'a [String]) -> Result<ArgMatches<'a>, Error>
-    ensures { Reads gen_app (texts words.entry.now) result }
-{
-    let mut args = Vec::new(alloc);
-    push_name(alloc, &mut args, "number")?;
-    parse(alloc, args, words)
 }
 
 fn fault_by(error: &Error) -> WordFault
@@ -132,7 +99,9 @@ pub(crate) fn find_route<'a>(
 ) -> Result<ArgMatches<'a>, WordFault>
     ensures { FindsRoute (texts words.entry.now) result }
 {
-    match parse_route(alloc, words) {
+    let mut args = Vec::new(alloc);
+    push_route(alloc, &mut args)?;
+    match parse(alloc, args, words) {
         Ok(found) => Ok(found),
         Err(error) => Err(fault_by(&error)),
     }
@@ -142,7 +111,9 @@ pub(crate) fn find_route<'a>(
 pub(crate) fn find_gen<'a>(alloc: Global, words: &'a [String]) -> Result<ArgMatches<'a>, WordFault>
     ensures { FindsGen (texts words.entry.now) result }
 {
-    match parse_gen(alloc, words) {
+    let mut args = Vec::new(alloc);
+    push_name(alloc, &mut args, "number")?;
+    match parse(alloc, args, words) {
         Ok(found) => Ok(found),
         Err(error) => Err(fault_by(&error)),
     }

@@ -1,10 +1,10 @@
 //! Numbers and knobs, by the values of the options.
 //! Lengths come in um and leave in nm.
 
-ghost use Rattle.std.specs.Prelude.{◌≡◌, ◌*◌, ◌≤◌, ◌<◌, ◌^◌, IfSome, length};
+ghost use Rattle.std.specs.Prelude.{◌≡◌, ◌*◌, ◌≤◌, length};
 ghost use Rattle.std.specs.List.{list_all};
 ghost use Rattle.std.specs.Option.{option_map};
-ghost use Rattle.route_words.specs.Words.{is_digit, number_in, is_short_number, is_between, number_between, number_or};
+ghost use Rattle.route_words.specs.Words.{is_digit, number_in, is_short_number, number_between, number_or};
 ghost use Rattle.route_words.specs.Words.{grid_in, knobs_in};
 
 use crate::Knobs;
@@ -12,17 +12,11 @@ use crate::limits::{
     LONGEST_GRID, MOST_PASSES, MOST_VIA_COST, MOST_WORKERS, PASSES, VIA_COST, WORKERS,
 };
 
-fn tests_digit(c: u8) -> bool
-    ensures { result ≡ is_digit c }
-{
-    b'0' <= c && c <= b'9'
-}
-
 fn are_digits(word: &[u8]) -> bool
     ensures { result ≡ list_all is_digit word.now }
 {
     for c in word {
-        if !tests_digit(*c) {
+        if !(b'0' <= *c && *c <= b'9') {
             return false;
         }
     }
@@ -47,12 +41,6 @@ fn number_of_digits(digits: &[u8]) -> u32
     value
 }
 
-fn tests_between(least: u32, most: u32, n: u32) -> bool
-    ensures { result ≡ is_between least most n }
-{
-    least <= n && n <= most
-}
-
 // The number from `least` to `most` that a word of one to seven digits spells.
 pub(crate) fn read_number(least: u32, most: u32, word: &str) -> Option<u32>
     ensures { result ≡ number_between least most word.now }
@@ -62,7 +50,7 @@ pub(crate) fn read_number(least: u32, most: u32, word: &str) -> Option<u32>
         return None;
     }
     let n = number_of_digits(digits);
-    if tests_between(least, most, n) {
+    if least <= n && n <= most {
         Some(n)
     } else {
         None

@@ -3,14 +3,13 @@
 
 ghost use Rattle.std.specs.Prelude.{◌≡◌, ◌<◌, ◌++◌, [], ℕ, OnOk, IfOk, All, filter, length, Vec};
 ghost use Rattle.std.specs.Global.{Global as Memory};
-ghost use Rattle.pcb_model.specs.declared.item.Metal.TheVariants.{Wire, Via};
 ghost use Rattle.ses_writer.specs.Words.{Appends, spelled};
 ghost use Rattle.ses_writer.specs.Passes.{AddsLine, TellsLines};
 ghost use Rattle.ses_writer.specs.Session.{padstack_word, metal_line, net_lines, is_printed, network_lines};
 
 use crate::library::{layer_name, prints};
 use crate::words::{put, put_chain, put_framed, put_placed, put_run};
-use geo_kernel::{List, Name, Point};
+use geo_kernel::Name;
 use pcb_model::{Design, Item, Metal};
 use std::alloc::{AllocError, Global};
 
@@ -25,40 +24,6 @@ fn padstack_name(d: &Design, padstack: u32) -> &[u8]
 }
 
 #[tactic(auto, unfolding(crate::specs::Session::metal_line))]
-fn put_wire(
-    out: &mut Vec<u8>,
-    d: &Design,
-    nm: u64,
-    layer: u8,
-    width: u64,
-    chain: &List<Point>,
-) -> Result<(), AllocError>
-    requires { 0 < nm }
-    ensures { OnOk result (Appends out.old.items out.new.items (metal_line d.now nm (Wire layer width chain.now))) }
-{
-    let name = layer_name(d, layer);
-    put_run(out, nm, b"        (wire (path ", name, width)?;
-    put_chain(out, nm, chain)?;
-    put(out, b"))\n")
-}
-
-#[tactic(auto, unfolding(crate::specs::Session::metal_line))]
-fn put_via(
-    out: &mut Vec<u8>,
-    d: &Design,
-    nm: u64,
-    padstack: u32,
-    at: &Point,
-) -> Result<(), AllocError>
-    requires { 0 < nm }
-    ensures { OnOk result (Appends out.old.items out.new.items (metal_line d.now nm (Via padstack at.now))) }
-{
-    let name = padstack_name(d, padstack);
-    put_placed(out, nm, b"        (via ", name, at)?;
-    put(out, b")\n")
-}
-
-#[tactic(auto, unfolding(crate::specs::Session::metal_line))]
 fn put_metal(out: &mut Vec<u8>, d: &Design, nm: u64, metal: &Metal) -> Result<(), AllocError>
     requires { 0 < nm }
     ensures { OnOk result (Appends out.old.items out.new.items (metal_line d.now nm metal.now)) }
@@ -68,8 +33,17 @@ fn put_metal(out: &mut Vec<u8>, d: &Design, nm: u64, metal: &Metal) -> Result<()
             layer,
             width,
             chain,
-        } => put_wire(out, d, nm, *layer, *width, chain),
-        Metal::Via { padstack, at } => put_via(out, d, nm, *padstack, at),
+        } => {
+            let name = layer_name(d, *layer);
+            put_run(out, nm, b"        (wire (path ", name, *width)?;
+            put_chain(out, nm, chain)?;
+            put(out, b"))\n")
+        }
+        Metal::Via { padstack, at } => {
+            let name = padstack_name(d, *padstack);
+            put_placed(out, nm, b"        (via ", name, at)?;
+            put(out, b")\n")
+        }
         Metal::Pad { .. } => Ok(()),
         Metal::Ban { .. } => Ok(()),
     }

@@ -3,7 +3,7 @@
 
 ghost use Rattle.std.specs.Prelude.{◌≡◌, ◌<◌, ◌++◌, OnOk, codes};
 ghost use Rattle.ses_writer.specs.Words.{Appends};
-ghost use Rattle.ses_writer.specs.Session.{unit_word, resolution_line, side_words, place_line, component_line};
+ghost use Rattle.ses_writer.specs.Session.{unit_word, resolution_line, side_words, place_line};
 ghost use Rattle.ses_writer.specs.Session.{image_change, places_after, component_lines};
 
 use crate::words::{put, put_degrees, put_framed, put_placed, put_whole};
@@ -56,12 +56,6 @@ fn put_place(out: &mut Vec<u8>, nm: u64, c: &Component) -> Result<(), AllocError
 }
 
 #[tactic(auto, unfolding(crate::specs::Session::component_line))]
-fn put_component_line(out: &mut Vec<u8>, c: &Component) -> Result<(), AllocError>
-    ensures { OnOk result (Appends out.old.items out.new.items (component_line c.now)) }
-{
-    put_framed(out, b"    (component ", c.image.as_slice(), b"\n")
-}
-
 fn put_image_change(out: &mut Vec<u8>, b: &Component, c: &Component) -> Result<(), AllocError>
     ensures { OnOk result (Appends out.old.items out.new.items (image_change b.now c.now)) }
 {
@@ -69,7 +63,7 @@ fn put_image_change(out: &mut Vec<u8>, b: &Component, c: &Component) -> Result<(
         return Ok(());
     }
     put(out, b"    )\n")?;
-    put_component_line(out, c)
+    put_framed(out, b"    (component ", c.image.as_slice(), b"\n")
 }
 
 fn put_places_after(
@@ -102,7 +96,7 @@ pub(crate) fn put_components(
     match components {
         [] => Ok(()),
         [first, others @ ..] => {
-            put_component_line(out, first)?;
+            put_framed(out, b"    (component ", first.image.as_slice(), b"\n")?;
             put_place(out, nm, first)?;
             put_places_after(out, nm, first, others)
         }

@@ -1,9 +1,9 @@
 //! The session of a design and of the items of its board.
 //! Source: SPECCTRA reference, session file descriptor.
 
-ghost use Rattle.std.specs.Prelude.{◌≡◌, ◌<◌, ◌++◌, OnOk, IfOk, codes, filter};
-ghost use Rattle.ses_writer.specs.Words.{Appends, spelled};
-ghost use Rattle.ses_writer.specs.Session.{resolution_line, is_printed, placement_part, parser_lines, routes_part};
+ghost use Rattle.std.specs.Prelude.{◌≡◌, ◌<◌, OnOk, IfOk, filter};
+ghost use Rattle.ses_writer.specs.Words.{Appends};
+ghost use Rattle.ses_writer.specs.Session.{is_printed, placement_part, parser_lines, routes_part};
 ghost use Rattle.ses_writer.specs.Session.{session_of, fronted_line};
 
 use crate::items::items_of;
@@ -26,21 +26,14 @@ fn put_host(out: &mut Vec<u8>, front: &[u8], host: &Option<Name>) -> Result<(), 
     }
 }
 
-// The session's head, with the name of the design twice.
-fn put_head(out: &mut Vec<u8>, name: &[u8]) -> Result<(), AllocError>
-    ensures { OnOk result (Appends out.old.items out.new.items (codes "(session " ++ spelled name.now
-        ++ codes "\n  (base_design " ++ spelled name.now ++ codes ")\n  (placement\n")) }
-{
-    put_framed(out, b"(session ", name, b"\n  (base_design ")?;
-    put_framed(out, b"", name, b")\n  (placement\n")
-}
-
 #[tactic(auto, unfolding(crate::specs::Session::placement_part))]
 fn put_placement(out: &mut Vec<u8>, d: &Design, scale: SesScale) -> Result<(), AllocError>
     requires { 0 < scale.nm }
     ensures { OnOk result (Appends out.old.items out.new.items (placement_part d.now scale)) }
 {
-    put_head(out, d.name.as_slice())?;
+    let name = d.name.as_slice();
+    put_framed(out, b"(session ", name, b"\n  (base_design ")?;
+    put_framed(out, b"", name, b")\n  (placement\n")?;
     put_resolution(out, scale)?;
     put_components(out, scale.nm, d.components.as_slice())?;
     put(out, b"  )\n  (was_is\n  )\n")
@@ -56,17 +49,6 @@ fn put_parser(out: &mut Vec<u8>, d: &Design) -> Result<(), AllocError>
     put(out, b"    )\n")
 }
 
-// The front of the routes, up to their library.
-fn put_routes_head(out: &mut Vec<u8>, d: &Design, scale: SesScale) -> Result<(), AllocError>
-    ensures { OnOk result (Appends out.old.items out.new.items
-        (codes "  (routes\n" ++ resolution_line scale ++ parser_lines d.now ++ codes "    (library_out\n")) }
-{
-    put(out, b"  (routes\n")?;
-    put_resolution(out, scale)?;
-    put_parser(out, d)?;
-    put(out, b"    (library_out\n")
-}
-
 #[tactic(auto, unfolding(crate::specs::Session::routes_part))]
 fn put_routes(
     out: &mut Vec<u8>,
@@ -80,7 +62,10 @@ fn put_routes(
     ensures { OnOk result
         (Appends out.old.items out.new.items (routes_part d.now scale (filter (is_printed omit_fixed) items.now))) }
 {
-    put_routes_head(out, d, scale)?;
+    put(out, b"  (routes\n")?;
+    put_resolution(out, scale)?;
+    put_parser(out, d)?;
+    put(out, b"    (library_out\n")?;
     put_library(out, alloc, d, scale.nm, items, omit_fixed)?;
     put(out, b"    )\n    (network_out\n")?;
     put_network(out, alloc, d, scale.nm, items, omit_fixed)?;

@@ -3,7 +3,7 @@
 
 ghost use Rattle.std.specs.Prelude.{◌≡◌, ◌<◌, ◌≤◌, ◌++◌, All, pos, OnOk, codes, decimal, flat_map, reverse};
 ghost use Rattle.std.specs.List.{list_all};
-ghost use Rattle.ses_writer.specs.Words.{Appends, is_bare_byte, is_bare, spelled, nearest, length_word, decimals};
+ghost use Rattle.ses_writer.specs.Words.{Appends, is_bare_byte, spelled, nearest, length_word, decimals};
 ghost use Rattle.ses_writer.specs.Words.{fraction, degrees, point_words, is_before, is_lesser, directed};
 ghost use Rattle.ses_writer.specs.Words.{chain_words, area_words};
 
@@ -18,27 +18,15 @@ pub fn put(out: &mut Vec<u8>, bytes: &[u8]) -> Result<(), AllocError>
     out.extend_from_slice(bytes)
 }
 
-fn needs_no_quotes(b: u8) -> bool
-    ensures { result ≡ is_bare_byte b }
-{
-    b.is_ascii_alphanumeric() || b"_.+/:[]~*".contains(&b)
-}
-
 fn need_no_quotes(bytes: &[u8]) -> bool
     ensures { result ≡ list_all is_bare_byte bytes.now }
 {
     for b in bytes {
-        if !needs_no_quotes(*b) {
+        if !(b.is_ascii_alphanumeric() || b"_.+/:[]~*".contains(b)) {
             return false;
         }
     }
     true
-}
-
-fn is_bare_name(name: &[u8]) -> bool
-    ensures { result ≡ is_bare name.now }
-{
-    !name.is_empty() && need_no_quotes(name)
 }
 
 /// Appends a name, between quotes where it needs them. The only error is want of memory.
@@ -46,7 +34,7 @@ fn is_bare_name(name: &[u8]) -> bool
 pub fn put_word(out: &mut Vec<u8>, name: &[u8]) -> Result<(), AllocError>
     ensures { OnOk result (Appends out.old.items out.new.items (spelled name.now)) }
 {
-    if is_bare_name(name) {
+    if !name.is_empty() && need_no_quotes(name) {
         return put(out, name);
     }
     put(out, b"\"")?;

@@ -6,21 +6,23 @@ use Rattle.pcb_model.specs.Pieces.{moved_piece}
 use Rattle.board_offers.proofs.Tested.{here, passed, failed_mapped, mapped_passed}
 use Rattle.board_offers.proofs.near.are_pieces_near_at.Goals as goal
 
-pub is_piece_near_at-requires-clause-fits : goal.is_piece_near_at-requires-clause-fits
-is_piece_near_at-requires-clause-fits c =
-    here IsFit c.args.ps.now c.loop-p.p-index c.p-item.result c.loop-p-test.true c.p-item.is c.requires.fit
+pub is_spine_near_at-requires-clause-within : goal.is_spine_near_at-requires-clause-within
+is_spine_near_at-requires-clause-within c =
+    let fits = here IsFit c.args.ps.now c.loop-p.p-index c.p-item.result c.loop-p-test.true c.p-item.is c.requires.fit
+    in
+    fits.within
 
 pub loop-p-preserved : goal.loop-p-preserved
 loop-p-preserved c =
     passed (λ (p : Piece). IsSpineWithin (2 ^ 29) (moved_piece c.args.at p).spine) c.args.ps.now c.loop-p.p-index
-    c.p-item.result c.is_piece_near_at.result c.loop-p-test.true c.p-item.is c.loop-p.invariant
-    c.is_piece_near_at.ensures c.if-not-is_piece_near_at.false
+    c.p-item.result c.is_spine_near_at.result c.loop-p-test.true c.p-item.is c.loop-p.invariant
+    c.is_spine_near_at.ensures c.if-not-is_spine_near_at.false
 
-pub returns-then-not-is_piece_near_at : goal.returns-then-not-is_piece_near_at
-returns-then-not-is_piece_near_at c =
+pub returns-then-not-is_spine_near_at : goal.returns-then-not-is_spine_near_at
+returns-then-not-is_spine_near_at c =
     failed_mapped (λ (p : Piece). IsSpineWithin (2 ^ 29) p.spine) (moved_piece c.args.at) c.args.ps.now c.loop-p.p-index
-    c.p-item.result c.is_piece_near_at.result c.loop-p-test.true c.p-item.is c.is_piece_near_at.ensures
-    c.if-not-is_piece_near_at.true
+    c.p-item.result c.is_spine_near_at.result c.loop-p-test.true c.p-item.is c.is_spine_near_at.ensures
+    c.if-not-is_spine_near_at.true
 
 pub returns : goal.returns
 returns c =

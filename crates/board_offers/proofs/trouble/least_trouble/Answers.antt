@@ -1,4 +1,4 @@
-use Rattle.std.proofs.Common.{ℕ, ◌+◌, All, List, length, sym, ◌∙◌, ap, subst, arith, length-append}
+use Rattle.std.proofs.Common.{ℕ, ◌+◌, ◌++◌, All, List, length, sym, ◌∙◌, ap, ap₂, subst, arith, length-append}
 use Rattle.std.proofs.lemmas.List.Elements.{All-drop, All-weaker}
 use Rattle.pcb_model.specs.declared.item.Item.{Item}
 use Rattle.pcb_model.specs.Bounds.{IsItemFit}
@@ -20,16 +20,18 @@ returns g c =
     let o = c.args.offer.now in
     let missing : FailsLeast (IsThere items o) c.least_missing-missing.result =
     subst (λ (ids : List ℕ). FailsLeast (IsNamedThere items ids) c.least_missing-missing.result)
-    (c.as_slice.ensures.value ∙ c.in_ok-wanted.ensures) c.least_missing-missing.ensures in
+    (c.as_slice-2.ensures.value ∙ c.in_ok-extend_from_slice.ensures.items
+    ∙ ap₂ (λ (xs ys : List ℕ). xs ++ ys) c.in_ok-wanted.ensures.items (c.as_slice.ensures.value ∙ c.in_ok-gone.ensures))
+    c.least_missing-missing.ensures in
     let clash : FailsLeast (AgreesWithNew d given items o) c.least_clash-clash.result =
     subst (λ (ns : List Item). FailsLeast (AgreesWithAll d items (gone o) ns) c.least_clash-clash.result) c.requires.new
     (subst (λ (ids : List ℕ). FailsLeast (AgreesWithAll d items ids c.args.new.now) c.least_clash-clash.result)
-    (c.as_slice-2.ensures.value ∙ c.in_ok-gone.ensures) c.least_clash-clash.ensures) in
+    (c.as_slice-3.ensures.value ∙ c.in_ok-gone.ensures) c.least_clash-clash.ensures) in
     let parted = joined_least d given items o c.least_parted-parted.result c.requires.given c.requires.stand
     (subst (λ (rs : List Item). FailsLeast (StaysWithAll given o.shoves rs items o.shoves) c.least_parted-parted.result)
     (c.behind-replaced.ensures ∙ behind_added d given o c.args.new.now c.len.result c.requires.new c.len.ensures)
     (subst (λ (ss : List Shoved). FailsLeast (StaysWithAll given ss c.behind-replaced.result.now items ss)
-    c.least_parted-parted.result) c.as_slice-3.ensures
+    c.least_parted-parted.result) c.as_slice-4.ensures
     c.least_parted-parted.ensures)) in
     subst (FailsLeast (IsClear d given items o))
     (sym (c.earlier-2.ensures ∙ ap (least_of c.least_missing-missing.result) c.earlier.ensures))
@@ -53,7 +55,7 @@ least_parted-parted-requires-clause-paired g c =
     let e = ap length
     (c.behind-replaced.ensures ∙ behind_added d given o c.args.new.now c.len.result c.requires.new c.len.ensures) in
     let r = replaced_length d given (length given + length o.add) o.shoves in
-    let s = ap length c.as_slice-3.ensures in
+    let s = ap length c.as_slice-4.ensures in
     omega (arith, e, r, s)
 
 pub least_parted-parted-requires-clause-fit : goal.least_parted-parted-requires-clause-fit

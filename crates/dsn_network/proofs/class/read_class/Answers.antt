@@ -1,8 +1,10 @@
 use Rattle.std.proofs.Common.{◌≡◌, ◌∙◌, ap, ℕ, List, [], ◌∷◌, Option}
+use Rattle.std.specs.Prelude.{codes}
 use Rattle.pcb_model.specs.declared.design.RuleSet.{RuleSet}
 use Rattle.dsn_tree.specs.declared.tree.Tree.{Tree}
 use Rattle.dsn_shapes.specs.declared.parts.ReadClass.{ReadClass}
 use Rattle.dsn_shapes.specs.declared.refusal.Refusal.{Refusal}
+use Rattle.dsn_shapes.specs.Lists.{lists}
 use Rattle.dsn_shapes.specs.Refusals.{noted}
 use Rattle.dsn_shapes.specs.Rules.{rule_refusals, rule_set}
 use Rattle.dsn_shapes.proofs.Looped.{then_noted}
@@ -32,14 +34,16 @@ class_made nm stacks t lists vias set e p s =
 
 pub returns-in-Ok-rules_of-clause-noted : goal.returns-in-Ok-rules_of-clause-noted
 returns-in-Ok-rules_of-clause-noted c =
+    let are = c.in_ok-lists.ensures ∙ ap (lists (codes "use_via" ∷ [])) c.in_ok-in_list.ensures in
     class_noted c.args.scale.nm c.args.stacks.now c.args.tree.now c.in_ok-lists.lists c.args.first.now
-    c.vias_of.new.first c.rules_of.new.first c.in_ok-lists.ensures c.in-Ok.ensures.noted
+    c.vias_of.new.first c.rules_of.new.first are c.in-Ok.ensures.noted
     c.in-Ok-rules_of.ensures.noted
 
 pub returns-in-Ok-rules_of-clause-class : goal.returns-in-Ok-rules_of-clause-class
 returns-in-Ok-rules_of-clause-class c =
+    let are = c.in_ok-lists.ensures ∙ ap (lists (codes "use_via" ∷ [])) c.in_ok-in_list.ensures in
     class_made c.args.scale.nm c.args.stacks.now c.args.tree.now c.in_ok-lists.lists c.in-Ok.vias
-    c.in-Ok-rules_of.field-0.set c.in_ok-lists.ensures c.in-Ok.ensures.value c.in-Ok-rules_of.ensures.set
+    c.in-Ok-rules_of.field-0.set are c.in-Ok.ensures.value c.in-Ok-rules_of.ensures.set
 
 pub returns-in-Ok-rules_of-clause-notes : goal.returns-in-Ok-rules_of-clause-notes
 returns-in-Ok-rules_of-clause-notes c = c.in-Ok-rules_of.ensures.notes

@@ -1,6 +1,0 @@
-use Rattle.std.proofs.lemmas.Map.Text.{btree_map_updates_str}
-use Rattle.dsn_network.proofs.classes.keep_last.Goals as goal
-
-pub returns : goal.returns
-returns c = λ q. btree_map_updates_str c.args.name.now c.args.map.now c.insert.new.self _ c.in_ok-insert.ensures.updates
-    q

@@ -41,14 +41,6 @@ pub(crate) fn count_worker(workers: u64, worker: u32) -> u64
     }
 }
 
-fn take_out(tiles: &mut Tiles, id: u64) -> Result<(), AllocError>
-    ensures { OnOk result (tiles.new ≡ holding tiles.old (without (id ∷ []) tiles.old.items)) }
-{
-    tiles.in_order();
-    tiles.remove(id)?;
-    Ok(())
-}
-
 /// Puts an equal item into tiles.
 pub(crate) fn add_copy(alloc: Global, tiles: &mut Tiles, item: &Item) -> Result<(), AllocError>
     requires above { All (λ (a : OneItem). a.id < item.now.id) tiles.old.items }
@@ -86,7 +78,8 @@ fn change_tiles(
     ensures { OnOk result (tiles.new ≡ holding tiles.old (without gone.now tiles.old.items ++ come.now)) }
 {
     for id in gone {
-        take_out(tiles, *id)?;
+        tiles.in_order();
+        tiles.remove(*id)?;
     }
     for item in come {
         add_copy(alloc, tiles, item)?;

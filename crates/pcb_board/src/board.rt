@@ -31,7 +31,6 @@ use std::marker::Model;
 
 /// A board. Contracts see its design, its start list, how many entries of workers may stand, its history and its
 /// items.
-#[derive(Drop)]
 pub struct Board {
     alloc: Global,
     design: Shared<Design>,
@@ -46,6 +45,23 @@ pub struct Board {
     // for each id the last entry that placed or removed it
     changed: Vec<u64>,
     tiles: Tiles,
+}
+
+// Let go by a call, where a derived `Drop` would let go field by field in each function that owns a board.
+impl Drop for Board {
+    fn drop(self) {
+        let Board {
+            alloc: _,
+            design: _,
+            cap: _,
+            history: _,
+            workers: _,
+            given: _,
+            started: _,
+            changed: _,
+            tiles: _,
+        } = self;
+    }
 }
 
 impl Model for Board {

@@ -31,7 +31,6 @@ use std::marker::Model;
 
 /// A board. Contracts see its design, its start list, how many entries of workers may stand, its history and its
 /// items.
-#[derive(Drop)]
 pub struct Board {
     alloc: Global,
     design: Shared<Design>,
@@ -48,6 +47,23 @@ pub struct Board {
     tiles: Tiles,
 }
 
+// Let go by a call, where a derived `Drop` would let go field by field in each function that owns a board.
+impl Drop for Board {
+    fn drop(self) {
+        let Board {
+            alloc: _,
+            design: _,
+            cap: _,
+            history: _,
+            workers: _,
+            given: _,
+            started: _,
+            changed: _,
+            tiles: _,
+        } = self;
+    }
+}
+
 impl Model for Board {
     ghost use Rattle.std.specs.Prelude.{take};
     ghost use Rattle.pcb_board.specs.Boards.{BoardOf};
@@ -61,16 +77,6 @@ impl Model for Board {
     ghost invariant = { IsIndexed };
 }
 
-// For each of so many items, that no entry changed it.
-fn unchanged(alloc: Global, count: usize) -> Result<Vec<u64>, AllocError>
-    ensures size { IfOk result (λ v. length v.items ≡ count) }
-    ensures zeros { IfOk result (λ v. (x k : ℕ) → x < count → slice_index_or v.items x k ≡ 0) }
-{
-    let mut changed = Vec::new(alloc);
-    changed.resize(count, 0)?;
-    Ok(changed)
-}
-
 // A design's items, and for each that no entry changed it.
 fn beginning(alloc: Global, d: &Design) -> Result<(Loaded, Vec<u64>), AllocError>
     requires { IsSound d.now }
@@ -79,10 +85,11 @@ fn beginning(alloc: Global, d: &Design) -> Result<(Loaded, Vec<u64>), AllocError
     ensures zeros { IfOk result (λ r. (x k : ℕ) → x < length r.1.items → slice_index_or r.1.items x k ≡ 0) }
 {
     let loaded = load(alloc, d)?;
-    match unchanged(alloc, loaded.given.len()) {
-        Ok(changed) => Ok((loaded, changed)),
+    let mut changed = Vec::new(alloc);
+    match changed.resize(loaded.given.len(), 0) {
+        Ok(()) => Ok((loaded, changed)),
         Err(error) => {
-            drop(loaded);
+            drop((loaded, changed));
             Err(error)
         }
     }

@@ -1,7 +1,7 @@
 //! Copies of what a board keeps.
 //! Want of memory is the only refusal.
 
-ghost use Rattle.std.specs.Prelude.{◌≡◌, ◌++◌, ◌∷◌, [], IfOk, OnOk};
+ghost use Rattle.std.specs.Prelude.{◌≡◌, ◌++◌, IfOk, OnOk};
 
 use crate::answer::Entry;
 use board_offers::copy_offer;
@@ -26,15 +26,6 @@ fn copy_entry(alloc: Global, entry: &Entry) -> Result<Entry, AllocError>
     }
 }
 
-// Appends an equal entry.
-fn push_entry(alloc: Global, copies: &mut List<Entry>, entry: &Entry) -> Result<(), AllocError>
-    ensures { OnOk result (copies.new ≡ copies.old ++ entry.now ∷ []) }
-{
-    let copy = copy_entry(alloc, entry)?;
-    copies.push(copy)?;
-    Ok(())
-}
-
 // Appends equal entries.
 fn push_entries(
     alloc: Global,
@@ -44,7 +35,7 @@ fn push_entries(
     ensures { OnOk result (copies.new ≡ copies.old ++ history.now) }
 {
     for entry in history {
-        push_entry(alloc, copies, entry)?;
+        copies.push(copy_entry(alloc, entry)?)?;
     }
     Ok(())
 }

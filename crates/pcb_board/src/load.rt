@@ -86,30 +86,6 @@ fn keep(alloc: Global, loaded: &mut Loaded, item: Item) -> Result<(), AllocError
     }
 }
 
-// What is loaded before any item is.
-fn nothing_loaded(alloc: Global, d: &Design) -> Result<Loaded, AllocError>
-    requires { IsSound d.now }
-    ensures { IfOk result (AreFixed d.now 0) }
-{
-    Ok(Loaded {
-        tiles: empty_tiles(alloc, d)?,
-        given: Vec::new(alloc),
-        dropped: List::new(alloc),
-    })
-}
-
-// Puts the design's fixed items to what is loaded, which is nothing.
-fn load_fixed(alloc: Global, d: &Design, loaded: &mut Loaded) -> Result<(), AllocError>
-    requires sound { IsSound d.now }
-    requires nothing { AreFixed d.now 0 loaded.old }
-    ensures { OnOk result (AreLoaded d.now d.now.free loaded.new) }
-{
-    for item in d.fixed.as_slice() {
-        keep(alloc, loaded, copy_item(alloc, item)?)?;
-    }
-    Ok(())
-}
-
 fn is_agreed_by<L: Ledger>(d: &Design, tiles: &Tiles, item: &Item, blank: Blank) -> bool
     requires name { blank.name ≡ L.name }
     requires parts { blank.parts ≡ L.parts }
@@ -187,13 +163,15 @@ fn load_free(alloc: Global, d: &Design, loaded: &mut Loaded) -> Result<(), Alloc
     Ok(())
 }
 
-// Puts the design's items to what is loaded, which is nothing.
+// Puts the design's items to what is loaded, which is nothing: the fixed ones first.
 fn load_all(alloc: Global, d: &Design, loaded: &mut Loaded) -> Result<(), AllocError>
     requires sound { IsSound d.now }
     requires nothing { AreFixed d.now 0 loaded.old }
     ensures { OnOk result (AreLoaded d.now [] loaded.new) }
 {
-    load_fixed(alloc, d, loaded)?;
+    for item in d.fixed.as_slice() {
+        keep(alloc, loaded, copy_item(alloc, item)?)?;
+    }
     load_free(alloc, d, loaded)
 }
 
@@ -202,7 +180,11 @@ pub(crate) fn load(alloc: Global, d: &Design) -> Result<Loaded, AllocError>
     requires { IsSound d.now }
     ensures { IfOk result (AreLoaded d.now []) }
 {
-    let mut loaded = nothing_loaded(alloc, d)?;
+    let mut loaded = Loaded {
+        tiles: empty_tiles(alloc, d)?,
+        given: Vec::new(alloc),
+        dropped: List::new(alloc),
+    };
     match load_all(alloc, d, &mut loaded) {
         Ok(()) => Ok(loaded),
         Err(error) => {

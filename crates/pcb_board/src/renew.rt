@@ -41,14 +41,6 @@ pub(crate) fn count_worker(workers: u64, worker: u32) -> u64
     }
 }
 
-fn take_out(tiles: &mut Tiles, id: u64) -> Result<(), AllocError>
-    ensures { OnOk result (tiles.new ≡ holding tiles.old (without (id ∷ []) tiles.old.items)) }
-{
-    tiles.in_order();
-    tiles.remove(id)?;
-    Ok(())
-}
-
 /// Puts an equal item into tiles.
 pub(crate) fn add_copy(alloc: Global, tiles: &mut Tiles, item: &Item) -> Result<(), AllocError>
     requires above { All (λ (a : OneItem). a.id < item.now.id) tiles.old.items }
@@ -86,35 +78,13 @@ fn change_tiles(
     ensures { OnOk result (tiles.new ≡ holding tiles.old (without gone.now tiles.old.items ++ come.now)) }
 {
     for id in gone {
-        take_out(tiles, *id)?;
+        tiles.in_order();
+        tiles.remove(*id)?;
     }
     for item in come {
         add_copy(alloc, tiles, item)?;
     }
     Ok(())
-}
-
-// Tiles in which some items go, and others with the next ids come.
-fn joined_tiles(
-    alloc: Global,
-    tiles: &Tiles,
-    gone: &[u64],
-    first: u64,
-    come: &[Item],
-) -> Result<Tiles, AllocError>
-    requires fit { All IsItemFit come.now }
-    requires below { All (λ (a : OneItem). a.id < first) tiles.now.items }
-    requires numbered { (j : ℕ) (a : OneItem) → slice_get come.now j ≡ Some a → a.id ≡ first + j }
-    ensures { IfOk result (λ t. t ≡ holding tiles.now (without gone.now tiles.now.items ++ come.now)) }
-{
-    let mut next = tiles.share()?;
-    match change_tiles(alloc, &mut next, gone, first, come) {
-        Ok(()) => Ok(next),
-        Err(error) => {
-            drop(next);
-            Err(error)
-        }
-    }
 }
 
 // The ids that an offer takes from the tiles, and the tiles afterwards.
@@ -133,32 +103,13 @@ fn changes(
         (without (gone offer.now) tiles.now.items ++ come.now)) }
 {
     let gone = gone_ids(alloc, offer)?;
-    let tiles = joined_tiles(alloc, tiles, gone.as_slice(), first, come)?;
-    Ok((gone, tiles))
-}
-
-// A history with the entry of an offer, with so many new items.
-fn push_join(
-    history: &mut List<Entry>,
-    offer: Offer,
-    first: usize,
-    count: usize,
-) -> Result<(), OfferBack>
-    requires { first + count < 2 ^ 64 }
-    ensures ok { OnOk result (history.new ≡ history.old ++ Entry.Join offer first (first + count) ∷ []) }
-    ensures err { IfErr result (λ e. (e.offer ≡ offer) × (history.new ≡ history.old)) }
-{
-    let entry = Entry::Join {
-        offer,
-        first: first as u64,
-        after: (first + count) as u64,
-    };
-    match history.push(entry) {
-        Ok(()) => Ok(()),
-        Err(AllocFailed { value }) => Err(OfferBack {
-            offer: offer_of(value),
-            cause: AllocError,
-        }),
+    let mut next = tiles.share()?;
+    match change_tiles(alloc, &mut next, gone.as_slice(), first, come) {
+        Ok(()) => Ok((gone, next)),
+        Err(error) => {
+            drop((gone, next));
+            Err(error)
+        }
     }
 }
 
@@ -199,24 +150,21 @@ fn enter(
         Ok(changes) => changes,
         Err(cause) => return Err(OfferBack { offer, cause }),
     };
-    match push_join(history, offer, first, come.len()) {
+    let entry = Entry::Join {
+        offer,
+        first: first as u64,
+        after: (first + come.len()) as u64,
+    };
+    match history.push(entry) {
         Ok(()) => Ok((gone, tiles)),
-        Err(back) => {
+        Err(AllocFailed { value }) => {
             drop((gone, tiles));
-            Err(back)
+            Err(OfferBack {
+                offer: offer_of(value),
+                cause: AllocError,
+            })
         }
     }
-}
-
-// Makes room for so many more items and ids.
-fn make_room(given: &mut Vec<Item>, changed: &mut Vec<u64>, count: usize) -> Result<(), AllocError>
-    ensures given { given.new.items ≡ given.old.items }
-    ensures changed { changed.new.items ≡ changed.old.items }
-    ensures given_room { OnOk result (vec_len given.old + count ≤ vec_capacity given.new) }
-    ensures changed_room { OnOk result (vec_len changed.old + count ≤ vec_capacity changed.new) }
-{
-    given.reserve(count)?;
-    changed.reserve(count)
 }
 
 /// Makes room for an offer's new items and enters it, and gives what entering it gives.
@@ -245,7 +193,10 @@ pub(crate) fn admit(
     ensures err { IfErr result (λ e. (e.offer ≡ offer) × (history.new ≡ history.old)) }
 {
     let first = given.len();
-    if let Err(cause) = make_room(given, changed, come.len()) {
+    if let Err(cause) = given.reserve(come.len()) {
+        return Err(OfferBack { offer, cause });
+    }
+    if let Err(cause) = changed.reserve(come.len()) {
         return Err(OfferBack { offer, cause });
     }
     enter(alloc, history, tiles, offer, first, come)

@@ -32,12 +32,23 @@ pub(crate) fn shares(
 }
 
 /// The items of a board after a number of entries, and its design.
-#[derive(Drop)]
 pub struct Snap {
     pub(crate) alloc: Global,
     pub(crate) design: Shared<Design>,
     pub(crate) tiles: Tiles,
     pub(crate) number: u64,
+}
+
+// Let go by a call, as a board is.
+impl Drop for Snap {
+    fn drop(self) {
+        let Snap {
+            alloc: _,
+            design: _,
+            tiles: _,
+            number: _,
+        } = self;
+    }
 }
 
 impl Model for Snap {

@@ -33,15 +33,22 @@ fn is_full_answer(answer: Answer) -> bool
 fn is_log_full(log: &WorkerLog) -> bool
     ensures { IsTrue result ↔ Any (λ (note : OneNote). IsFullAnswer note.answer) log.now.notes }
 {
-    log.notes
-        .as_slice()
-        .iter()
-        .any(|note| is_full_answer(note.answer))
+    for note in log.notes.as_slice() {
+        if is_full_answer(note.answer) {
+            return true;
+        }
+    }
+    false
 }
 
 /// Whether some offer of these logs met a full board.
 pub fn is_full(logs: &[WorkerLog]) -> bool
     ensures { IsTrue result ↔ MetFull logs.now }
 {
-    logs.iter().any(is_log_full)
+    for log in logs {
+        if is_log_full(log) {
+            return true;
+        }
+    }
+    false
 }

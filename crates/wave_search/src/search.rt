@@ -16,9 +16,15 @@ use std::alloc::{AllocError, Global};
 use std::marker::Model;
 
 /// Memory for searches over a number of nodes, 16 bytes a node; contracts see it as that number.
-#[derive(Drop)]
 pub struct Search {
     labels: Labels,
+}
+
+// Let go by a call, where a derived `Drop` would let go field by field in each function that owns it.
+impl Drop for Search {
+    fn drop(self) {
+        let Search { labels: _ } = self;
+    }
 }
 
 impl Model for Search {

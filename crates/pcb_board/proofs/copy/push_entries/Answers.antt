@@ -9,7 +9,8 @@ loop-entry-init c = sym (append-nil c.args.copies.now)
 pub loop-entry-preserved : goal.loop-entry-preserved
 loop-entry-preserved c =
     let front = take c.loop-entry.entry-index c.args.history.now in
-    c.in_ok-push_entry.ensures
+    c.in_ok-push.ensures.ok
+    ∙ ap (λ (e : Entry). c.loop-entry.copies ++ e ∷ []) c.in_ok-copy_entry.ensures
     ∙ ap (λ (xs : List Entry). xs ++ c.entry-item.result ∷ []) c.loop-entry.invariant
     ∙ append_assoc c.args.copies.now front (c.entry-item.result ∷ [])
     ∙ ap (λ (xs : List Entry). c.args.copies.now ++ xs)

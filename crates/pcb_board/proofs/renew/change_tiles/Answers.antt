@@ -7,7 +7,7 @@ use Rattle.pcb_model.specs.declared.item.Item.{Item}
 use Rattle.pcb_model.specs.Bounds.{IsItemFit}
 use Rattle.pcb_tiles.specs.Spread.{Spread, holding}
 use Rattle.board_offers.specs.Items.{without}
-use Rattle.pcb_board.proofs.Taking.{without_more, without_none, below_next}
+use Rattle.pcb_board.proofs.Taking.{taken_out, without_more, without_none, below_next}
 use Rattle.pcb_board.proofs.renew.change_tiles.Goals as goal
 
 pub loop-id-init : goal.loop-id-init
@@ -18,7 +18,8 @@ loop-id-preserved c =
     let ids = c.args.gone.now in
     let id = get_or c.args.gone.now c.loop-id.id-index 0 in
     let items = c.args.tiles.now.items in
-    c.in_ok-take_out.ensures
+    taken_out c.loop-id.tiles c.remove.new.self id c.in_ok-remove.field-0 c.in_order.ensures.ascends
+    c.in_ok-remove.ensures.ok
     ∙ ap (λ (t : Spread). holding t (without (id ∷ []) t.items)) c.loop-id.invariant
     ∙ ap (holding c.args.tiles.now) (without_more (take c.loop-id.id-index ids) id items)
     ∙ ap (λ (xs : List ℕ). holding c.args.tiles.now (without xs items))

@@ -1,15 +1,23 @@
-use Rattle.std.proofs.Common.{rules, tests, Any}
-use Rattle.std.proofs.lemmas.Iterator.{cases_from_any, YieldsList-from_slice}
-use Rattle.pcb_model.proofs.Answered.{any_answered}
+use Rattle.std.proofs.Common.{Any}
+use Rattle.pcb_model.proofs.Answered.{found_here, missed_here, all_missed}
 use Rattle.searcher_pool.specs.Passes.{IsFullAnswer}
 use Rattle.searcher_pool.specs.declared.log.WorkerLog.{WorkerLog}
 use Rattle.searcher_pool.specs.declared.log.OfferNote.{OfferNote}
 use Rattle.searcher_pool.proofs.log.is_full.Goals as goal
 
+pub loop-log-preserved : goal.loop-log-preserved
+loop-log-preserved c =
+    missed_here (λ (w : WorkerLog). Any (λ (n : OfferNote). IsFullAnswer n.answer) w.notes) c.args.logs.now
+    c.loop-log.log-index c.log-item.result c.is_log_full.result c.loop-log-test.true c.log-item.is
+    c.is_log_full.ensures c.if-is_log_full.false c.loop-log.invariant
+
+pub returns-then-is_log_full : goal.returns-then-is_log_full
+returns-then-is_log_full c =
+    found_here (λ (w : WorkerLog). Any (λ (n : OfferNote). IsFullAnswer n.answer) w.notes) c.args.logs.now
+    c.loop-log.log-index c.log-item.result c.loop-log-test.true c.log-item.is
+    (c.is_log_full.ensures.0 c.if-is_log_full.true)
+
 pub returns : goal.returns
 returns c =
-    let xs = c.args.logs.now in
-    let P : WorkerLog → Type 0 = λ log. Any (λ (note : OfferNote). IsFullAnswer note.answer) log.notes in
-    any_answered P c.any.result xs
-    (cases_from_any _ _ _ P (λ x. ¬ (P x)) c.any.ensures.ran (YieldsList-from_slice xs cc)
-    (λ x q k. search (rules, tests)) (λ x q k. search (rules, tests)))
+    all_missed (λ (w : WorkerLog). Any (λ (n : OfferNote). IsFullAnswer n.answer) w.notes) c.args.logs.now
+    c.loop-log.log-index c.loop-log-test.false c.loop-log.invariant

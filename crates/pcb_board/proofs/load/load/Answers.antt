@@ -1,8 +1,8 @@
 use Rattle.std.proofs.Common.{rules}
-use Rattle.pcb_board.proofs.load.nothing_loaded.Goals as goal
+use Rattle.pcb_board.proofs.load.load.Goals as goal
 
-pub returns : goal.returns
-returns c = record {
+pub load_all-requires-clause-nothing : goal.load_all-requires-clause-nothing
+load_all-requires-clause-nothing c = record {
   tiles = c.in_ok-empty_tiles.ensures.empty;
   given = search rules;
   dropped = c.new-2.ensures;

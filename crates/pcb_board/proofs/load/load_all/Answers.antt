@@ -8,7 +8,7 @@ use Rattle.pcb_tiles.specs.Tiling.{IsArea}
 use Rattle.pcb_tiles.specs.Spread.{Spread}
 use Rattle.pcb_board.proofs.Loading.{fixed_all}
 use Rattle.pcb_board.proofs.Opening.{fixed_below, fixed_more}
-use Rattle.pcb_board.proofs.load.load_fixed.Goals as goal
+use Rattle.pcb_board.proofs.load.load_all.Goals as goal
 
 pub keep-requires-clause-above : goal.keep-requires-clause-above
 keep-requires-clause-above c =
@@ -51,8 +51,8 @@ loop-item-preserved c =
       reach = subst (λ (t : Spread). HasClearancesWithin t.reach c.args.d.now) (sym is) c.loop-item.invariant.reach;
     }
 
-pub returns : goal.returns
-returns c =
+pub load_free-requires-clause-fixed : goal.load_free-requires-clause-fixed
+load_free-requires-clause-fixed c =
     let all : take c.loop-item.item-index c.args.d.now.fixed ≡ c.args.d.now.fixed =
     take_all c.loop-item.item-index c.args.d.now.fixed
     (let e = ap length c.as_slice-item-items.ensures in omega (arith, e, c.loop-item-test.false)) in

@@ -1,5 +1,5 @@
 use Rattle.pcb_board.specs.Loading.{AreFixed}
-use Rattle.pcb_board.proofs.load.load_fixed.Given as goal
+use Rattle.pcb_board.proofs.load.load_all.Given as goal
 
 abbrev pub invariant-loop-item : goal.invariant-loop-item
 invariant-loop-item l = AreFixed l.d l.item-index l.loaded

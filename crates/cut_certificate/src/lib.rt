@@ -1,6 +1,6 @@
 //! Cuts: why no legal walk leads from an island of a net to another one.
-//! A cut is made by a flood that closed: a stack and a table of marks, which find all nodes that open moves reach, without
-//! prices and in no order. It can be checked without one.
+//! A cut is made by a flood that closed: a stack and a table of marks, which find all nodes that open moves reach,
+//! without prices and in no order. It can be checked without one.
 #![tactic(auto)]
 
 mod border;

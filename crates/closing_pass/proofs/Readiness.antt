@@ -2,7 +2,7 @@
 use Rattle.std.proofs.Common.{◌≡◌, ℕ, sym, subst}
 use Rattle.route_lattice.specs.Mesh.{Mesh}
 use Rattle.pcb_board.specs.Boards.{BoardOf}
-use Rattle.board_sight.proofs.Seeing.{still_seen}
+use Rattle.route_plan.proofs.Seeing.{still_seen}
 use Rattle.closing_pass.specs.declared.join.Means.{Means}
 use Rattle.closing_pass.specs.Closing.{JoinsBy}
 use Rattle.closing_pass.specs.Steps.{AreReady}

@@ -10,7 +10,7 @@ use Rattle.route_lattice.specs.Mesh.{Mesh, node_count}
 use Rattle.route_lattice.specs.Fits.{FitsDesign}
 use Rattle.cut_certificate.specs.Cuts.{LeadsOn}
 use Rattle.pcb_board.specs.Boards.{BoardOf, SnapOf}
-use Rattle.board_sight.specs.Sights.{IsSeenOn}
+use Rattle.route_plan.specs.Sights.{IsSeenOn}
 use Rattle.closing_pass.specs.declared.join.Means.{Means}
 use Rattle.closing_pass.specs.Closing.{Closes}
 

@@ -5,17 +5,17 @@ ghost use Rattle.std.specs.Prelude.{◌≤◌, ◌<◌, ◌^◌, ℕ, length, If
 ghost use Rattle.route_lattice.specs.Fits.{FitsDesign};
 ghost use Rattle.closing_pass.specs.Closing.{Closes, IsClosedOut, AreEnds};
 ghost use Rattle.move_maps.specs.Maps.{AreMapsOf};
-ghost use Rattle.board_sight.specs.Sights.{IsSeenOn};
+ghost use Rattle.route_plan.specs.Sights.{IsSeenOn};
 ghost use Rattle.closing_pass.specs.Steps.{CanClose, CanCut, IsClosed, IsClosedOn};
 
 use crate::ends::Shut;
 use crate::join::{Means, Task};
-use board_sight::{Sight, see};
 use cut_certificate::Cut;
 use geo_kernel::List;
 use move_maps::MoveMaps;
 use pcb_board::{Board, PassBack, Snap, boards_serve, ids_stay};
 use route_lattice::Lattice;
+use route_plan::{Sight, see};
 use std::alloc::{AllocError, Global};
 use wave_search::Search;
 

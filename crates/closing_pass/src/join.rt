@@ -8,12 +8,11 @@ ghost use Rattle.least_offer.specs.Least.{MayBeMade};
 ghost use Rattle.route_plan.specs.Plans.{StandsAt, LeadsFrom};
 ghost use Rattle.closing_pass.specs.Steps.{CanClose, AreReady, Tries, HasFewer, JoinsNet};
 
-use board_sight::{Sight, see};
 use geo_kernel::List;
 use pcb_board::{Board, CLOSER, Offer, boards_serve, ids_stay};
 use pcb_islands::{Island, islands_are_one, joining_falls};
 use route_lattice::Lattice;
-use route_plan::{Led, offer_by_maps};
+use route_plan::{Led, Sight, offer_by_maps, see};
 use std::alloc::{AllocError, Global};
 use wave_search::Search;
 

@@ -1,3 +1,4 @@
+pub mod Seeing
 pub mod Fitting
 pub mod Standing
 pub mod Moving

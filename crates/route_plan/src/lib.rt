@@ -1,6 +1,7 @@
 //! Plans: what a worker offers to lay for a net on a snapshot of a board.
 //! An offer lays the copper of a least walk from the net's first island to another. What is in its way is shoved where
-//! each item has a shove that fits and all of them stand together, and else ripped.
+//! each item has a shove that fits and all of them stand together, and else ripped. What was seen last of a board has maps
+//! of the moves on it, which follow the board from one snapshot to the next.
 #![tactic(auto)]
 
 mod added;
@@ -12,6 +13,7 @@ mod passing;
 mod plans;
 mod route;
 mod searches;
+mod sight;
 mod way;
 
 pub use laws::rip_bound_sound;
@@ -20,3 +22,4 @@ pub use searches::{
     offer_by_maps, offer_from, plan, plan_by_maps, plan_in, plan_legal_in, plan_passing_in,
     plan_with,
 };
+pub use sight::{Sight, look, see};

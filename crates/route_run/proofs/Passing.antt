@@ -9,8 +9,8 @@ use Rattle.std.proofs.lemmas.List.Elements.{All-contains}
 use Rattle.std.proofs.lemmas.List.Sums.{sum_by_push}
 use Rattle.std.proofs.lemmas.Option.{slice_get_within}
 use Rattle.pcb_islands.proofs.Elements.{look_cases as look_last}
-use Rattle.board_sight.specs.declared.sight.Sight.{Sight}
-use Rattle.board_sight.specs.Sights.{IsSeenOn}
+use Rattle.route_plan.specs.declared.sight.Sight.{Sight}
+use Rattle.route_plan.specs.Sights.{IsSeenOn}
 use Rattle.board_offers.specs.declared.offer.Offer.{Offer}
 use Rattle.board_offers.proofs.Lists.{look_cases, in_from}
 use Rattle.pcb_board.specs.declared.answer.Entry.{Entry}

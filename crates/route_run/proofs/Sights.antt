@@ -5,8 +5,8 @@ use Rattle.std.specs.Borrow.{Bor}
 use Rattle.std.specs.Option.{option_copied}
 use Rattle.route_lattice.specs.Mesh.{Mesh}
 use Rattle.pcb_board.specs.Boards.{BoardOf}
-use Rattle.board_sight.specs.declared.sight.Sight.{Sight}
-use Rattle.board_sight.specs.Sights.{IsSeenOn}
+use Rattle.route_plan.specs.declared.sight.Sight.{Sight}
+use Rattle.route_plan.specs.Sights.{IsSeenOn}
 
 -- what is lent of it is that
 pub lent_seen : (m : Mesh) (b : BoardOf) (lent : Option (Bor Sight)) (o : Option Sight) → option_copied lent ≡ o

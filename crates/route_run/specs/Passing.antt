@@ -8,8 +8,8 @@ use Rattle.pcb_islands.specs.declared.net.Island.{Island}
 use Rattle.pcb_islands.specs.Islands.{AreIslands}
 use Rattle.route_lattice.specs.Mesh.{Mesh, node_count}
 use Rattle.route_lattice.specs.Fits.{FitsDesign}
-use Rattle.board_sight.specs.declared.sight.Sight.{Sight}
-use Rattle.board_sight.specs.Sights.{IsSeenOn}
+use Rattle.route_plan.specs.declared.sight.Sight.{Sight}
+use Rattle.route_plan.specs.Sights.{IsSeenOn}
 use Rattle.board_offers.specs.declared.offer.Offer.{Offer}
 use Rattle.pcb_board.specs.declared.answer.Entry.TheVariants.{Join}
 use Rattle.pcb_board.specs.Boards.{BoardOf, board_at}

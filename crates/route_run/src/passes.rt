@@ -2,7 +2,7 @@
 //! They end where nothing is open, where a pass above the first made no entry, or where the board takes no more.
 
 ghost use Rattle.std.specs.Prelude.{◌≡◌, ◌+◌, ◌<◌, ◌≤◌, [], IfOk, IfSome, IsTrue, not, length};
-ghost use Rattle.board_sight.specs.Sights.{IsSeenOn};
+ghost use Rattle.route_plan.specs.Sights.{IsSeenOn};
 ghost use Rattle.route_lattice.specs.Fits.{FitsDesign};
 ghost use Rattle.route_lattice.specs.Mesh.{Mesh};
 ghost use Rattle.route_run.specs.Runs.{run_from, pass_at, penalty_of as penalty_at, HaveEnded};
@@ -12,11 +12,11 @@ ghost use Rattle.route_run.specs.Passing.{IsMadeAfter, IsOneMore, IsReady, Stand
 ghost use Rattle.board_offers.specs.declared.offer.TheConstants.{CLOSER};
 
 use crate::connections::{OpenNets, look_over};
-use board_sight::{Sight, look};
 use desk_io::Gate;
 use geo_kernel::List;
 use pcb_board::Board;
 use route_lattice::Lattice;
+use route_plan::{Sight, look};
 use route_report::PassLine;
 use searcher_pool::{full_passes_are_spent, is_full, passes_are_least, run_pass_from};
 use std::alloc::{AllocError, Global};

@@ -7,9 +7,9 @@ use Rattle.move_maps.specs.Maps.{AreMapsOf}
 use Rattle.pcb_board.specs.Boards.{BoardOf, SnapOf}
 use Rattle.pcb_board.specs.Answers.{snap_of}
 use Rattle.pcb_board.specs.Keeping.{IsBoard}
-use Rattle.board_sight.specs.declared.sight.Sight.{Sight}
-use Rattle.board_sight.specs.Sights.{IsSightOf, IsLater, IsSeenOn}
-use Rattle.board_sight.proofs.Seeing.{BoardsServe, IdsStay, some_later, seen_now, still_seen}
+use Rattle.route_plan.specs.declared.sight.Sight.{Sight}
+use Rattle.route_plan.specs.Sights.{IsSightOf, IsLater, IsSeenOn}
+use Rattle.route_plan.proofs.Seeing.{BoardsServe, IdsStay, some_later, seen_now, still_seen}
 use Rattle.route_plan.specs.declared.plans.Planned.{Planned}
 use Rattle.route_plan.specs.Plans.{CanPlan, IsSnapOf, Plans}
 use Rattle.board_turn.specs.declared.Event.{Event}

@@ -11,8 +11,8 @@ use Rattle.pcb_board.specs.declared.answer.Answer.TheVariants.{Committed, Stale}
 use Rattle.pcb_board.specs.Boards.{BoardOf, is_worker, worker_entries}
 use Rattle.pcb_board.specs.Keeping.{IsBoard}
 use Rattle.board_offers.specs.declared.offer.Offer.{Offer}
-use Rattle.board_sight.specs.declared.sight.Sight.{Sight}
-use Rattle.board_sight.specs.Sights.{IsSeenOn}
+use Rattle.route_plan.specs.declared.sight.Sight.{Sight}
+use Rattle.route_plan.specs.Sights.{IsSeenOn}
 use Rattle.route_plan.specs.Plans.{IsOfferOf}
 use Rattle.board_turn.specs.Claims.{CounterOf}
 use Rattle.board_turn.specs.declared.Deed.{Deed}

@@ -6,7 +6,7 @@ ghost use Rattle.std.specs.Prelude.{vec_capacity, vec_len};
 ghost use Rattle.crossbeam_utils.specs.Padded.{padded_value};
 ghost use Rattle.route_lattice.specs.Mesh.{node_count};
 ghost use Rattle.board_turn.specs.Claims.{hand, times};
-ghost use Rattle.board_sight.specs.Sights.{IsSeenOn};
+ghost use Rattle.route_plan.specs.Sights.{IsSeenOn};
 ghost use Rattle.board_turn.specs.Turns.{passes_of, opening};
 ghost use Rattle.searcher_pool.specs.Passes.{claimed};
 ghost use Rattle.searcher_pool.specs.Working.{pass_of, IsTurnOf, HasFixed, MayWork, Worked};

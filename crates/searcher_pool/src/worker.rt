@@ -3,7 +3,7 @@
 ghost use Rattle.std.specs.Prelude.{◌≡◌, ◌<◌, ◌≤◌, ◌^◌, IfOk, IfSome, OnOk, length};
 ghost use Rattle.route_lattice.specs.Mesh.{node_count};
 ghost use Rattle.pcb_board.specs.Boards.{BoardOf};
-ghost use Rattle.board_sight.specs.Sights.{IsLater, IsSeenOn, IsSightOf};
+ghost use Rattle.route_plan.specs.Sights.{IsLater, IsSeenOn, IsSightOf};
 ghost use Rattle.route_plan.specs.Plans.{CanPlan, IsSnapOf, Plans};
 ghost use Rattle.board_turn.specs.Turns.{opening};
 ghost use Rattle.searcher_pool.specs.Working.{pass_of, IsTurnOf, IsReady, IsDrawn, IsPlanned, IsAfter, Attempts};
@@ -12,14 +12,13 @@ ghost use Rattle.searcher_pool.specs.Working.{HasSeen, HasFixed};
 ghost use Rattle.board_offers.specs.declared.offer.TheConstants.{CLOSER};
 
 use crate::log::OfferNote;
-use board_sight::{Sight, see};
 use board_turn::{Claimer, Counter, Pass, Turn, events_keep};
 use desk_io::Gate;
 use least_offer::late_offers_are_fair;
 use move_maps::MoveMaps;
 use pcb_board::{Answer, Offer, Snap, boards_serve, copy_offer, ids_stay};
 use route_lattice::Lattice;
-use route_plan::{Planned, plan_by_maps};
+use route_plan::{Planned, Sight, plan_by_maps, see};
 use std::alloc::{AllocError, Global};
 use std::sync::Wait;
 use wave_search::Search;

@@ -2,9 +2,9 @@ use Rattle.std.proofs.Common.{ℕ, ◌<◌, ◌∙◌, Option, Some, length, ref
 use Rattle.std.specs.Prelude.{IfSome, IfOk}
 use Rattle.move_maps.specs.Maps.{AreMapsOf}
 use Rattle.pcb_board.specs.Boards.{SnapOf}
-use Rattle.board_sight.specs.declared.sight.Sight.{Sight}
-use Rattle.board_sight.specs.Sights.{IsSeenOn}
-use Rattle.board_sight.proofs.Seeing.{can_see, some_later}
+use Rattle.route_plan.specs.declared.sight.Sight.{Sight}
+use Rattle.route_plan.specs.Sights.{IsSeenOn}
+use Rattle.route_plan.proofs.Seeing.{can_see, some_later}
 use Rattle.closing_pass.specs.Closing.{AreEnds}
 use Rattle.closing_pass.specs.Steps.{CanCut, IsClosedOn}
 use Rattle.closing_pass.proofs.closed.ends_of.Goals as goal

@@ -1,6 +1,6 @@
 use Rattle.std.proofs.Common.{Bool, rules}
 use Rattle.std.proofs.lemmas.Result.{IfOk-weaker}
-use Rattle.board_sight.proofs.Seeing.{still_seen}
+use Rattle.route_plan.proofs.Seeing.{still_seen}
 use Rattle.route_run.specs.declared.passes.Stand.{Stand}
 use Rattle.route_run.specs.Runs.{pass_at}
 use Rattle.route_run.specs.Passing.{IsOneMore, StandsAfter}

@@ -11,7 +11,7 @@ use Rattle.move_maps.specs.Maps.{AreMapsOf}
 use Rattle.pcb_board.specs.Boards.{BoardOf}
 use Rattle.pcb_board.specs.Keeping.{IsBoard}
 use Rattle.board_offers.specs.declared.offer.TheConstants.{CLOSER}
-use Rattle.board_sight.specs.Sights.{IsSeenOn}
+use Rattle.route_plan.specs.Sights.{IsSeenOn}
 use Rattle.board_turn.specs.Turns.{TurnOf, count_of, opening, passes_of}
 use Rattle.searcher_pool.specs.declared.log.WorkerLog.{WorkerLog}
 use Rattle.searcher_pool.specs.Passes.{Grows, IsPassed}

@@ -4,7 +4,7 @@ use Rattle.route_lattice.specs.Fits.{FitsDesign}
 use Rattle.pcb_board.specs.Boards.{BoardOf, SnapOf}
 use Rattle.pcb_board.specs.Answers.{snap_of}
 use Rattle.pcb_board.specs.Keeping.{IsBoard}
-use Rattle.board_sight.proofs.Seeing.{BoardsServe}
+use Rattle.route_plan.proofs.Seeing.{BoardsServe}
 use Rattle.route_plan.specs.Plans.{CanPlan, Plans}
 use Rattle.board_turn.specs.declared.event.Event.{Event}
 use Rattle.board_turn.specs.Events.{Reaches}

@@ -3,9 +3,9 @@ use Rattle.std.specs.Prelude.{IfSome}
 use Rattle.pcb_model.specs.declared.design.Design.{Design}
 use Rattle.move_maps.specs.Maps.{AreMapsOf}
 use Rattle.pcb_board.specs.Boards.{SnapOf}
-use Rattle.board_sight.specs.declared.sight.Sight.{Sight}
-use Rattle.board_sight.specs.Sights.{IsSeenOn}
-use Rattle.board_sight.proofs.Seeing.{can_see, some_later, seen_now}
+use Rattle.route_plan.specs.declared.sight.Sight.{Sight}
+use Rattle.route_plan.specs.Sights.{IsSeenOn}
+use Rattle.route_plan.proofs.Seeing.{can_see, some_later, seen_now}
 use Rattle.closing_pass.proofs.Joining.{can_plan, leads_there}
 use Rattle.closing_pass.proofs.join.Task.led_at.Goals as goal
 

@@ -4,7 +4,7 @@
 ghost use Rattle.std.specs.Prelude.{◌≡◌, IfOk, IfSome, OnOk};
 ghost use Rattle.move_maps.specs.Maps.{AreMapsOf};
 ghost use Rattle.route_lattice.specs.Fits.{FitsDesign};
-ghost use Rattle.board_sight.specs.Sights.{CanSee, IsLater, IsSeenOn, IsSightOf};
+ghost use Rattle.route_plan.specs.Sights.{CanSee, IsLater, IsSeenOn, IsSightOf};
 
 use copper_change::differences_are_changes;
 use move_maps::MoveMaps;

@@ -2,7 +2,7 @@ use Rattle.std.proofs.Common.{All, sym, subst}
 use Rattle.pcb_model.specs.declared.design.Design.{Design}
 use Rattle.pcb_model.specs.Sound.{IsItemOf}
 use Rattle.move_maps.specs.Maps.{AreMapsOf}
-use Rattle.board_sight.proofs.sight.follow.Goals as goal
+use Rattle.route_plan.proofs.sight.follow.Goals as goal
 
 pub follow-requires-clause-follows : goal.follow-requires-clause-follows
 follow-requires-clause-follows c =

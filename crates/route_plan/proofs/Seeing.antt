@@ -14,8 +14,8 @@ use Rattle.pcb_board.specs.declared.answer.Entry.{Entry}
 use Rattle.pcb_board.specs.Boards.{BoardOf, SnapOf, replay}
 use Rattle.pcb_board.specs.Answers.{snap_of}
 use Rattle.pcb_board.specs.Keeping.{IsBoard, Grows}
-use Rattle.board_sight.specs.declared.sight.Sight.{Sight}
-use Rattle.board_sight.specs.Sights.{CanSee, IsSightOf, IsLater, IsSeenOn}
+use Rattle.route_plan.specs.declared.sight.Sight.{Sight}
+use Rattle.route_plan.specs.Sights.{CanSee, IsSightOf, IsLater, IsSeenOn}
 
 -- ---- boards
 -- what the laws of boards say

@@ -1,7 +1,7 @@
 use Rattle.std.proofs.lemmas.Result.{IfOk-weaker}
-use Rattle.board_sight.specs.Sights.{IsSightOf, IsSeenOn}
-use Rattle.board_sight.proofs.Seeing.{can_see, some_later, seen_now}
-use Rattle.board_sight.proofs.sight.look.Goals as goal
+use Rattle.route_plan.specs.Sights.{IsSightOf, IsSeenOn}
+use Rattle.route_plan.proofs.Seeing.{can_see, some_later, seen_now}
+use Rattle.route_plan.proofs.sight.look.Goals as goal
 
 pub see-requires-clause-see : goal.see-requires-clause-see
 see-requires-clause-see c = can_see c.args.lat.now c.args.board.now c.in_ok-snap.snap c.keeps.ensures c.requires.fits

@@ -8,7 +8,7 @@ use Rattle.move_maps.specs.Maps.{AreMapsOf}
 use Rattle.pcb_board.specs.Boards.{BoardOf, SnapOf}
 use Rattle.pcb_board.specs.Keeping.{IsBoard, Grows}
 use Rattle.pcb_board.specs.Answers.{snap_of}
-use Rattle.board_sight.specs.declared.sight.Sight.{Sight}
+use Rattle.route_plan.specs.declared.sight.Sight.{Sight}
 
 -- the snapshot is one of a sound design, which the lattice fits
 pub record CanSee (m : Mesh) (s : SnapOf) : Type 0 where

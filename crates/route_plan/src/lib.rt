@@ -1,7 +1,7 @@
 //! Plans: what a worker offers to lay for a net on a snapshot of a board.
 //! An offer lays the copper of a least walk from the net's first island to another. What is in its way is shoved where
-//! each item has a shove that fits and all of them stand together, and else ripped. What was seen last of a board has maps
-//! of the moves on it, which follow the board from one snapshot to the next.
+//! each item has a shove that fits and all of them stand together, and else ripped. What was seen last of a board has
+//! maps of the moves on it, which follow the board from one snapshot to the next.
 #![tactic(auto)]
 
 mod added;

@@ -48,8 +48,6 @@ impl<'a, 'b> Part<Image> for Images<'a, 'b> {
     }
 }
 
-// The pins of one image.
-#[tactic(auto, unfolding(crate::specs::Images::pins_refusals, dsn_shapes::specs::Names::same_names))]
 fn read_pins(
     alloc: Global,
     first: &mut Option<Refusal>,
@@ -62,9 +60,24 @@ fn read_pins(
     ensures value { IfOk result (λ v. v ≡ map (pin_of scale.nm stacks.now) (pins_in (tree.now ∷ []))) }
 {
     let pins = Trees::in_list(alloc, tree, b"pin")?;
-    let names = NameIndex::new(alloc, &pins, 2)?;
-    names.refuse_same(first, &pins, 2);
-    read_each(alloc, &Pins { scale, stacks }, first, &pins)
+    note_pins(alloc, first, &pins, scale, stacks)
+}
+
+// The pins of one image.
+#[tactic(auto, unfolding(crate::specs::Images::pins_refusals, dsn_shapes::specs::Names::same_names))]
+fn note_pins(
+    alloc: Global,
+    first: &mut Option<Refusal>,
+    pins: &Trees,
+    scale: Scale,
+    stacks: &NameIndex,
+) -> Result<List<ImagePin>, AllocError>
+    ensures noted { OnOk result (first.new ≡ noted first.old (pins_refusals scale.nm stacks.now pins.now)) }
+    ensures value { IfOk result (λ v. v ≡ map (pin_of scale.nm stacks.now) pins.now) }
+{
+    let names = NameIndex::new(alloc, pins, 2)?;
+    names.refuse_same(first, pins, 2);
+    read_each(alloc, &Pins { scale, stacks }, first, pins)
 }
 
 fn read_bans(

@@ -125,22 +125,6 @@ fn read_nets(
     Ok(found)
 }
 
-// The items of all nets of a `network_out`, by an index of the design's names.
-fn note_nets(
-    alloc: Global,
-    first: &mut Option<Refusal>,
-    index: &DesignIndex,
-    network: &Tree,
-    m: Measure,
-) -> Result<List<SesItem>, AllocError>
-    requires { 1 ≤ m.per }
-    ensures noted { OnOk result (first.new ≡ noted first.old (network_refusals index.now m network.now)) }
-    ensures value { IfOk result (λ v. v ≡ network_items index.now m network.now) }
-{
-    let nets = Trees::in_list(alloc, network, b"net")?;
-    read_nets(alloc, first, index, nets.as_slice(), m)
-}
-
 /// The items of all nets of a `network_out`.
 pub(crate) fn note_network(
     alloc: Global,
@@ -153,8 +137,15 @@ pub(crate) fn note_network(
     ensures noted { OnOk result (first.new ≡ noted first.old (network_refusals d.now m network.now)) }
     ensures value { IfOk result (λ v. v ≡ network_items d.now m network.now) }
 {
-    let index = DesignIndex::of(alloc, d)?;
-    let items = note_nets(alloc, first, &index, network, m);
-    drop(index);
+    let nets = Trees::in_list(alloc, network, b"net")?;
+    let index = match DesignIndex::of(alloc, d) {
+        Ok(index) => index,
+        Err(error) => {
+            drop(nets);
+            return Err(error);
+        }
+    };
+    let items = read_nets(alloc, first, &index, nets.as_slice(), m);
+    drop((index, nets));
     items
 }

@@ -5,3 +5,4 @@ mod Unread
 mod Dues
 mod Written
 mod Wording
+mod Joined

@@ -147,28 +147,8 @@ fn read_resolution(
     })
 }
 
-#[tactic(auto, unfolding(crate::specs::Header::host_of, crate::specs::Header::host_refusal))]
-fn first_host(
-    alloc: Global,
-    first: &mut Option<Refusal>,
-    hosts: &Trees,
-) -> Result<Option<Name>, AllocError>
-    ensures noted { OnOk result (first.new ≡ noted first.old (host_refusal hosts.now)) }
-    ensures value { IfOk result (λ n. n ≡ host_of hosts.now) }
-{
-    match hosts.get(0) {
-        Some(tree) => {
-            refuse_quoted_name(first, tree, 1);
-            match nth_word(tree, 1) {
-                Some(word) => Ok(Some(List::from_slice(alloc, text_of(word))?)),
-                None => Ok(None),
-            }
-        }
-        None => Ok(None),
-    }
-}
-
 // The tool that wrote the design, or its version.
+#[tactic(auto, unfolding(crate::specs::Header::host_of, crate::specs::Header::host_refusal))]
 fn read_host(
     alloc: Global,
     first: &mut Option<Refusal>,
@@ -180,7 +160,16 @@ fn read_host(
 {
     let parsers = Trees::in_list(alloc, pcb, b"parser")?;
     let hosts = headed_in(alloc, parsers, head)?;
-    first_host(alloc, first, &hosts)
+    match hosts.get(0) {
+        Some(tree) => {
+            refuse_quoted_name(first, tree, 1);
+            match nth_word(tree, 1) {
+                Some(word) => Ok(Some(List::from_slice(alloc, text_of(word))?)),
+                None => Ok(None),
+            }
+        }
+        None => Ok(None),
+    }
 }
 
 fn pass_over_header(

@@ -4,7 +4,7 @@
 ghost use Rattle.std.specs.Prelude.{◌≡◌, ◌<◌, ◌≤◌, ◌++◌, All, pos, OnOk, codes, decimal, flat_map, reverse};
 ghost use Rattle.std.specs.List.{list_all};
 ghost use Rattle.ses_writer.specs.Words.{Appends, is_bare_byte, spelled, nearest, length_word, decimals};
-ghost use Rattle.ses_writer.specs.Words.{fraction, degrees, point_words, is_before, is_lesser, directed};
+ghost use Rattle.ses_writer.specs.Words.{degrees, point_words, is_before, is_lesser, directed};
 ghost use Rattle.ses_writer.specs.Words.{chain_words, area_words};
 
 use geo_kernel::{List, Point};
@@ -113,23 +113,17 @@ fn put_decimals(out: &mut Vec<u8>, microdegrees: u32, places: &[u32]) -> Result<
     Ok(())
 }
 
-fn put_fraction(out: &mut Vec<u8>, microdegrees: u32) -> Result<(), AllocError>
-    ensures { OnOk result (Appends out.old.items out.new.items (fraction microdegrees)) }
-{
-    if microdegrees % 1_000_000 == 0 {
-        return Ok(());
-    }
-    put(out, b".")?;
-    put_decimals(out, microdegrees, &[100_000, 10_000, 1_000, 100, 10, 1])
-}
-
 // An angle in degrees.
 #[tactic(auto, unfolding(crate::specs::Words::degrees))]
 pub(crate) fn put_degrees(out: &mut Vec<u8>, microdegrees: u32) -> Result<(), AllocError>
     ensures { OnOk result (Appends out.old.items out.new.items (degrees microdegrees)) }
 {
     put_whole(out, u64::from(microdegrees / 1_000_000))?;
-    put_fraction(out, microdegrees)
+    if microdegrees % 1_000_000 == 0 {
+        return Ok(());
+    }
+    put(out, b".")?;
+    put_decimals(out, microdegrees, &[100_000, 10_000, 1_000, 100, 10, 1])
 }
 
 fn put_point(out: &mut Vec<u8>, nm: u64, p: &Point) -> Result<(), AllocError>

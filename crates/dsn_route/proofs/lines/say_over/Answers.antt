@@ -1,0 +1,11 @@
+use Rattle.std.proofs.Common.{◌∙◌, ℕ, List, subst}
+use Rattle.std.specs.Prelude.{codes}
+use Rattle.desk_io.specs.Answers.{PutGives}
+use Rattle.dsn_route.proofs.Joined.{five}
+use Rattle.dsn_route.proofs.lines.say_over.Goals as goal
+
+pub returns : goal.returns
+returns g c =
+    subst (λ (line : List ℕ). PutGives (g.R.Sink.state c.args.report.now) (g.R.Sink.state c.say.new.report) line
+    c.say.result) (five (codes "limit ") c.what_word.result.now (codes " ") c.as_bytes-digits.result.now
+    (codes "\n") _ _ c.what_word.ensures (c.as_bytes-digits.ensures.value ∙ c.format.ensures.text)) c.say.ensures

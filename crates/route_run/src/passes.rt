@@ -319,13 +319,6 @@ fn begin(alloc: Global, board: Board) -> Result<Stand, AllocError>
     })
 }
 
-// The board alone.
-fn board_of(stand: Stand) -> Board
-    ensures { result ≡ stand.board }
-{
-    stand.board
-}
-
 /// Makes passes over the nets of a new board until they end, at most as many as `passes`, each of so many workers.
 /// A via costs `via_cost` nm.
 pub(crate) fn make_passes<R: Threads + Wait + Sync, G: Gate + Sync>(
@@ -352,5 +345,10 @@ pub(crate) fn make_passes<R: Threads + Wait + Sync, G: Gate + Sync>(
     let end = pass_on(
         rt, alloc, lat, via_cost, workers, passes, stand, &mut lines, gate,
     )?;
-    Ok((board_of(end), lines))
+    let Stand {
+        board,
+        open_nets: _,
+        last: _,
+    } = end;
+    Ok((board, lines))
 }

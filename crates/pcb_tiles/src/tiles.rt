@@ -23,13 +23,25 @@ use std::sync::ledger::Ledger;
 /// Copper in square tiles of 2,000,000 nm.
 /// Contracts see its area, its reach and the list of its items in order of id.
 /// A share of it costs the same however much it holds, and a change makes only what it touches anew.
-#[derive(Drop)]
 pub struct Tiles {
     alloc: Global,
     area: Rect4,
     reach: u64,
     shelf: Shelf,
     grid: Grid,
+}
+
+// Let go by a call, where a derived `Drop` would let go field by field in each function that owns tiles.
+impl Drop for Tiles {
+    fn drop(self) {
+        let Tiles {
+            alloc: _,
+            area: _,
+            reach: _,
+            shelf: _,
+            grid: _,
+        } = self;
+    }
 }
 
 impl Model for Tiles {

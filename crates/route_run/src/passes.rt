@@ -1,14 +1,14 @@
 //! Passes one after another: each works off the nets that have several islands when it starts.
 //! They end where nothing is open, where a pass above the first made no entry, or where the board takes no more.
 
-ghost use Rattle.std.specs.Prelude.{◌≡◌, ◌+◌, ◌<◌, ◌≤◌, [], IfOk, IfSome, IsTrue, not, length};
+ghost use Rattle.std.specs.Prelude.{◌≡◌, ◌+◌, ◌<◌, ◌≤◌, [], IfOk, IfSome, IsTrue, not};
 ghost use Rattle.route_plan.specs.Sights.{IsSeenOn};
 ghost use Rattle.route_lattice.specs.Fits.{FitsDesign};
 ghost use Rattle.route_lattice.specs.Mesh.{Mesh};
 ghost use Rattle.route_run.specs.Runs.{run_from, pass_at, penalty_of as penalty_at, HaveEnded};
 ghost use Rattle.route_run.specs.Passing.{IsTask, AreOpenOn, AreWorkedOff, IsMade, EndsBy, HasPassed, Stays};
 ghost use Rattle.pcb_board.specs.Keeping.{IsBoard};
-ghost use Rattle.route_run.specs.Passing.{IsMadeAfter, IsOneMore, IsReady, StandsAfter};
+ghost use Rattle.route_run.specs.Passing.{IsOneMore, IsReady, StandsAfter};
 ghost use Rattle.board_offers.specs.declared.offer.TheConstants.{CLOSER};
 
 use crate::connections::{OpenNets, look_over};
@@ -120,24 +120,6 @@ fn work_off<R: Threads + Wait + Sync, G: Gate + Sync>(
     }
 }
 
-// What a pass leaves that was worked off, from its board and how many entries stood before it.
-fn made_after(alloc: Global, board: Board, full: bool, before: u64) -> Result<Made, AllocError>
-    requires { before ≤ length board.history }
-    ensures { IfOk result (IsMadeAfter board full before) }
-{
-    let open_nets = look_over(alloc, &board)?;
-    let line = PassLine {
-        commits: board.history().len() as u64 - before,
-        parted: open_nets.count,
-    };
-    Ok(Made {
-        board,
-        line,
-        open_nets,
-        full,
-    })
-}
-
 // Makes the pass of a number over the open nets.
 fn one_pass<R: Threads + Wait + Sync, G: Gate + Sync>(
     rt: &R,
@@ -164,7 +146,17 @@ fn one_pass<R: Threads + Wait + Sync, G: Gate + Sync>(
     let (board, full) = work_off(
         rt, alloc, lat, via_cost, workers, number, board, open_nets, base, gate,
     )?;
-    made_after(alloc, board, full, before)
+    let open_nets = look_over(alloc, &board)?;
+    let line = PassLine {
+        commits: board.history().len() as u64 - before,
+        parted: open_nets.count,
+    };
+    Ok(Made {
+        board,
+        line,
+        open_nets,
+        full,
+    })
 }
 
 // Whether a pass may follow the one of this number.
@@ -319,13 +311,6 @@ fn begin(alloc: Global, board: Board) -> Result<Stand, AllocError>
     })
 }
 
-// The board alone.
-fn board_of(stand: Stand) -> Board
-    ensures { result ≡ stand.board }
-{
-    stand.board
-}
-
 /// Makes passes over the nets of a new board until they end, at most as many as `passes`, each of so many workers.
 /// A via costs `via_cost` nm.
 pub(crate) fn make_passes<R: Threads + Wait + Sync, G: Gate + Sync>(
@@ -352,5 +337,10 @@ pub(crate) fn make_passes<R: Threads + Wait + Sync, G: Gate + Sync>(
     let end = pass_on(
         rt, alloc, lat, via_cost, workers, passes, stand, &mut lines, gate,
     )?;
-    Ok((board_of(end), lines))
+    let Stand {
+        board,
+        open_nets: _,
+        last: _,
+    } = end;
+    Ok((board, lines))
 }

@@ -1,6 +1,6 @@
 use Rattle.std.proofs.Common.{rules, sym, subst}
 use Rattle.pcb_board.specs.Boards.{BoardOf}
-use Rattle.route_run.specs.Runs.{HaveEnded, run_from}
+use Rattle.route_run.specs.Runs.{run_from}
 use Rattle.route_run.specs.Passing.{HasPassed, IsTask, Stays}
 use Rattle.route_run.proofs.Passing.{passed_none}
 use Rattle.route_run.proofs.passes.make_passes.Goals as goal
@@ -25,17 +25,11 @@ pass_on-requires-clause-stand g c =
     let h = c.in_ok-stand.ensures.ready c.args.lat.now in search (rules, h)
 
 pub returns-clause-passed : goal.returns-clause-passed
-returns-clause-passed g c =
-    let r = run_from c.args.via_cost c.args.workers c.args.passes in
-    subst (λ (b : BoardOf). HasPassed c.args.lat.now r b c.pass_on.new.lines) (sym c.board_of.ensures)
-    c.in_ok-end.ensures.passed
+returns-clause-passed g c = c.in_ok-end.ensures.passed
 
 pub returns-clause-ended : goal.returns-clause-ended
-returns-clause-ended g c =
-    let r = run_from c.args.via_cost c.args.workers c.args.passes in
-    subst (λ (b : BoardOf). HaveEnded r b c.pass_on.new.lines) (sym c.board_of.ensures) c.in_ok-end.ensures.ended
+returns-clause-ended g c = c.in_ok-end.ensures.ended
 
 pub returns-clause-same : goal.returns-clause-same
 returns-clause-same g c =
-    subst (λ (b : BoardOf). Stays b c.board_of.result) c.in_ok-stand.ensures.board
-    (subst (λ (b : BoardOf). Stays c.in_ok-stand.stand.board b) (sym c.board_of.ensures) c.in_ok-end.ensures.same)
+    subst (λ (b : BoardOf). Stays b c.in_ok-end.end.board) c.in_ok-stand.ensures.board c.in_ok-end.ensures.same

@@ -35,7 +35,8 @@ loop-image_pin-preserved c =
     ap (λ (xs : List Pin). xs
     ++ pins_at parts stacks number component place c.saturating_add-next.result (drop (i + 1) pins))
     (c.in_ok-push.ensures.ok ∙ ap (λ (p : Pin). c.loop-image_pin.pins ++ p ∷ []) is)
-    ∙ ap (λ m. (c.loop-image_pin.pins ++ made ∷ []) ++ pins_at parts stacks number component place m (drop (i + 1) pins))
+    ∙ ap (λ m. (c.loop-image_pin.pins ++ made ∷ []) ++ pins_at parts stacks number component place m
+      (drop (i + 1) pins))
     c.saturating_add-next.ensures
     ∙ one_left (pins_at parts stacks number component place n) pins i pin c.loop-image_pin.pins made
     (pins_at parts stacks number component place (plus n 1) (drop (i + 1) pins))

@@ -3,7 +3,7 @@
 ghost use Rattle.std.specs.Prelude.{◌≡◌, ◌++◌, [], false, OnOk, IfOk, codes, filter, flat_map};
 ghost use Rattle.ses_writer.specs.Words.{Appends};
 ghost use Rattle.route_report.specs.Report.{component_name as component_name_of, name_of_pin, pin_name, pin_word};
-ghost use Rattle.route_report.specs.Report.{cut_line, kind_word, is_outside as is_outside_by};
+ghost use Rattle.route_report.specs.Report.{cut_line, kind_word};
 ghost use Rattle.route_report.specs.Report.{has_outside as has_outside_in, by_line, outside_line, by_lines};
 ghost use Rattle.route_report.specs.Report.{detail_lines, cut_lines};
 ghost use Rattle.route_report.specs.Naming.{has_id, is_among, AreNamed, AreNamedOnce, AreAscending};
@@ -138,20 +138,11 @@ fn blocking_ids(alloc: Global, blocked: &[Block]) -> Result<Vec<u64>, AllocError
     Ok(ids)
 }
 
-fn is_outside(b: &Block) -> bool
-    ensures { result ≡ is_outside_by b.now.by }
-{
-    match b.by {
-        Blocker::Item(_) => false,
-        Blocker::Outside => true,
-    }
-}
-
 fn has_outside(blocked: &[Block]) -> bool
     ensures { result ≡ has_outside_in blocked.now }
 {
     for b in blocked {
-        if is_outside(b) {
+        if let Blocker::Outside = b.by {
             return true;
         }
     }

@@ -135,7 +135,8 @@ pub islands_out-requires-clause-in_order : goal.islands_out-requires-clause-in_o
 islands_out-requires-clause-in_order g c = c.in_order.ensures.ascends
 
 pub islands_out-requires-clause-nodes : goal.islands_out-requires-clause-nodes
-islands_out-requires-clause-nodes g c = subst (λ (n : ℕ). All (λ v. v < n) c.as_slice-nodes.result.now) c.count.ensures.nodes
+islands_out-requires-clause-nodes g c =
+    subst (λ (n : ℕ). All (λ v. v < n) c.as_slice-nodes.result.now) c.count.ensures.nodes
     (c.all_below.ensures.0 c.if-not-all_below.false)
 
 pub has_border-requires-clause-sound : goal.has_border-requires-clause-sound
@@ -154,5 +155,6 @@ pub has_border-requires-clause-ascends : goal.has_border-requires-clause-ascends
 has_border-requires-clause-ascends g c = c.ascends.ensures.0 c.if-not-ascends.false
 
 pub has_border-requires-clause-nodes : goal.has_border-requires-clause-nodes
-has_border-requires-clause-nodes g c = subst (λ (n : ℕ). All (λ v. v < n) c.as_slice-nodes.result.now) c.count.ensures.nodes
+has_border-requires-clause-nodes g c =
+    subst (λ (n : ℕ). All (λ v. v < n) c.as_slice-nodes.result.now) c.count.ensures.nodes
     (c.all_below.ensures.0 c.if-not-all_below.false)

@@ -9,7 +9,7 @@ use Rattle.pcb_tiles.proofs.least.with_more.Goals as goal
 pub with_held-requires-clause-absent : goal.with_held-requires-clause-absent
 with_held-requires-clause-absent c =
     subst (λ (x : Item). All (λ (b : Item). b.id ≡ x.id → ⊥) (flat c.args.shelf.now))
-      (sym (c.in_ok-held.ensures.ok ∙ c.in_ok-copy_item.ensures))
+    (sym (c.in_ok-held.ensures.ok ∙ c.in_ok-copy_item.ensures))
     c.requires.absent
 
 pub with_held-requires-clause-fits : goal.with_held-requires-clause-fits

@@ -21,6 +21,6 @@ returns-clause-items c =
 
 pub returns-clause-chunks : goal.returns-clause-chunks
 returns-clause-chunks c =
-    IfOk-weaker _ _ _ (λ all is. chunks_all c.args.chunks.now c.as_slice.result.now all c.room_of-k.result
-      c.requires.chunks
+    IfOk-weaker _ _ _ (λ all is.
+    chunks_all c.args.chunks.now c.as_slice.result.now all c.room_of-k.result c.requires.chunks
     (subst (All IsChunk) (sym c.as_slice.ensures) c.in_ok-changed.ensures.chunks) is) c.replaced.ensures

@@ -12,7 +12,7 @@ loop-v-preserved c = elim c.if-is_some.branch [
   | then-is_some+in_ok-push w ↦
       one_more c.args.self.now c.loop-v.v c.loop-v.nodes.items c.if-is_some.nodes.items c.loop-v.invariant
       (sym (c.is_some.ensures ∙ ap is_some c.get.ensures) ∙ w.if-is_some.true)
-        (ap (λ x. x.items) w.nodes-is ∙ w.in_ok-push.ensures.items)
+      (ap (λ x. x.items) w.nodes-is ∙ w.in_ok-push.ensures.items)
   | else-is_some w ↦
       let none = sym (c.is_some.ensures ∙ ap is_some c.get.ensures) ∙ w.if-is_some.false in
       subst (λ (xs : List ℕ). AreBelow c.args.self.now (c.loop-v.v + 1) xs) (sym (ap (λ x. x.items) w.nodes-is))

@@ -12,7 +12,7 @@ loop-way-init g c = record {
   small = c.in-Some.ensures.3;
   passed = begun (g.M.Moves.graph c.args.self.now.m.now) c.args.self.now.starts.now c.args.table.now c.requires.roots
       c.args.start.node c.in-Some.here c.in-Some.ensures.0
-        (none_of c.in-Some.here.origin (sym c.is_some.ensures ∙ c.if-is_some.false)) c.push.new.self.items
+      (none_of c.in-Some.here.origin (sym c.is_some.ensures ∙ c.if-is_some.false)) c.push.new.self.items
       c.args.moves.now.items
       (c.in_ok-push.ensures.items ∙ ap (λ (xs : List ℕ). xs ++ c.args.start.node ∷ []) c.requires.no_nodes)
       c.requires.no_moves;

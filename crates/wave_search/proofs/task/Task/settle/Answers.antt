@@ -76,8 +76,8 @@ settle-preserved g c = record {
     c.in-Some-waiting.found.price + g.B.Bound.low_of c.args.self.now.b.now c.in-Some.entry.node,
     whole (g.M.Moves.graph c.args.self.now.m.now) c.args.self.now.starts.now c.args.self.now.goals.now
         (g.B.Bound.low_of c.args.self.now.b.now) c.requires.sound c.requires.bound c.relax-in-Some.new.table
-        c.relax-in-Some.new.front (c.in-Some-waiting.found.price + g.B.Bound.low_of c.args.self.now.b.now
-          c.in-Some.entry.node)
+        c.relax-in-Some.new.front
+        (c.in-Some-waiting.found.price + g.B.Bound.low_of c.args.self.now.b.now c.in-Some.entry.node)
         (c.settle.finished + 1) c.in-Some.entry.node 0 c.in_ok-relax-2.ensures.state,
   );
 }

@@ -2,7 +2,6 @@
 //! States, shuffles and sites were worked out by hand.
 
 use board_gen::design_text;
-use std::alloc::Global;
 
 // The state becomes 1103527590, so the entries 0 and 1 change places; the square has two sites a side.
 const FIRST: &str = "(pcb gen
@@ -29,14 +28,8 @@ const FIRST: &str = "(pcb gen
 (wiring))
 ";
 
-fn is_first(alloc: Global) -> bool {
-    match design_text(alloc, 1) {
-        Ok(text) => text.as_slice() == FIRST.as_bytes(),
-        Err(_) => false,
-    }
-}
-
 #[test]
 fn gives_the_first_board(rt: HostRuntime) {
-    assert!(rt; is_first(rt.alloc()));
+    let text = design_text(rt.alloc(), 1).expect(&rt, "no board");
+    assert!(rt; text.as_slice() == FIRST.as_bytes());
 }

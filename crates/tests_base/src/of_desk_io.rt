@@ -4,8 +4,9 @@
 use desk_io::{
     CalmDesk, Desk, DeskFail, Gate, HostDesk, HostSink, MemDesk, MemSink, NoGate, Sink, SinkFail,
 };
-use std::alloc::{AllocError, Global};
+use std::alloc::Global;
 use std::fmt::Display;
+use std::process::Abort;
 use std::rt::Files;
 use std::{fs, io};
 
@@ -50,21 +51,10 @@ fn keeps_and_reads(desk: &mut CalmDesk) -> bool {
         && desk.faults() == 1
 }
 
-fn calm_keeps_and_reads(alloc: Global) -> bool {
-    match CalmDesk::new(alloc, Vec::new(alloc)) {
-        Ok(mut desk) => keeps_and_reads(&mut desk),
-        Err(_) => false,
-    }
-}
-
 #[test]
 fn a_calm_desk_reads_what_is_written(rt: HostRuntime) {
-    assert!(rt; calm_keeps_and_reads(rt.alloc()));
-}
-
-/// A desk that holds no file, and whose call of this number fails.
-fn desk_failing_at(alloc: Global, number: u64) -> Result<MemDesk, AllocError> {
-    MemDesk::new(alloc, Vec::new(alloc), vec![in alloc; number]?)
+    let mut desk = CalmDesk::new(rt.alloc(), Vec::new(rt.alloc())).expect(&rt, "no desk");
+    assert!(rt; keeps_and_reads(&mut desk));
 }
 
 /// Whether the first call, a write, leaves `left`, and the second, a read, gives that, where neither is the call of
@@ -75,17 +65,20 @@ fn fails_once(desk: &mut MemDesk, number: u64, left: &str) -> bool {
         && gives(desk, "b", 5, left) == (number != 2)
 }
 
-fn fails_at(alloc: Global, number: u64, left: &str, faults: u64) -> bool {
-    match desk_failing_at(alloc, number) {
-        Ok(mut desk) => fails_once(&mut desk, number, left) && desk.faults() == faults,
-        Err(_) => false,
-    }
+/// Whether that is so of a desk that holds no file, and which has so many faults then.
+fn fails_at<R: Abort>(rt: &R, alloc: Global, number: u64, left: &str, faults: u64) -> bool {
+    let fail = vec![in alloc; number].expect(rt, "no list");
+    let mut desk = MemDesk::new(alloc, Vec::new(alloc), fail).expect(rt, "no desk");
+    fails_once(&mut desk, number, left) && desk.faults() == faults
 }
 
 #[test]
 fn a_listed_call_of_a_desk_fails_and_no_other(rt: HostRuntime) {
     for &(number, left, faults) in &[(1, "12", 1), (2, "12345", 1), (3, "12345", 0)] {
-        assert!(rt; fails_at(rt.alloc(), number, left, faults), "at {number}");
+        assert!(rt;
+            fails_at(&rt, rt.alloc(), number, left, faults),
+            "at {number}"
+        );
     }
 }
 
@@ -105,16 +98,10 @@ fn keeps_a_prefix(sink: &mut MemSink) -> bool {
         && sink.faults() == 1
 }
 
-fn failing_keeps_a_prefix(alloc: Global) -> bool {
-    match vec![in alloc; 2] {
-        Ok(fail) => keeps_a_prefix(&mut MemSink::new(alloc, fail)),
-        Err(_) => false,
-    }
-}
-
 #[test]
 fn a_put_that_fails_leaves_a_prefix(rt: HostRuntime) {
-    assert!(rt; failing_keeps_a_prefix(rt.alloc()));
+    let fail = vec![in rt.alloc(); 2].expect(&rt, "no list");
+    assert!(rt; keeps_a_prefix(&mut MemSink::new(rt.alloc(), fail)));
 }
 
 // ---- the host's files and its standard output
@@ -147,17 +134,11 @@ fn host_keeps_and_fails<R: Files + AllocGlobal>(rt: &R, long: &str) -> bool {
         && desk.faults() == 4
 }
 
-/// The text is longer than the pieces that a file is read in.
-fn host_keeps_long_texts_and_fails<R: Files + AllocGlobal>(rt: &R) -> bool {
-    match "seven..".repeat(rt.alloc(), 10000) {
-        Ok(text) => host_keeps_and_fails(rt, text.as_str()),
-        Err(_) => false,
-    }
-}
-
 #[test]
 fn the_host_reads_what_was_written_last_and_fails_where_it_cannot(rt: HostRuntime) {
-    assert!(rt; host_keeps_long_texts_and_fails(&rt));
+    // The text is longer than the pieces that a file is read in.
+    let text = "seven..".repeat(rt.alloc(), 10000).expect(&rt, "no text");
+    assert!(rt; host_keeps_and_fails(&rt, text.as_str()));
 }
 
 #[test]

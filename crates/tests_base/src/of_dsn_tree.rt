@@ -2,7 +2,7 @@
 //! The contracts cover all other texts.
 
 use dsn_tree::{Tree, TreeFault, child, children, is_headed, items, read_tree, word};
-use std::alloc::{AllocError, Global};
+use std::alloc::Global;
 
 /// The tree of a text, with no contract, so that the proofs of its callers are short.
 fn read(alloc: Global, text: &[u8]) -> Result<Tree, TreeFault> {
@@ -44,49 +44,44 @@ fn is_word(tree: &Tree, i: usize, text: &str, place: u64) -> bool {
     }
 }
 
-/// Whether the tree is a group at that place, and has so many items.
-fn is_group(tree: &Tree, place: u64, count: usize) -> bool {
-    place_of(tree) == place && items(tree).len() == count
-}
-
 /// A text, the place of its group and how many items that has, and one of them: which, the word, and its place.
 type Row = (&'static str, u64, usize, usize, &'static str, u64);
 
 fn is_read(alloc: Global, row: &Row) -> bool {
     let (text, place, count, i, word, at) = *row;
     match read(alloc, text.as_bytes()) {
-        Ok(tree) => is_group(&tree, place, count) && is_word(&tree, i, word, at),
+        Ok(tree) => {
+            place_of(&tree) == place && items(&tree).len() == count && is_word(&tree, i, word, at)
+        }
         Err(_) => false,
     }
 }
 
+static ROWS: [Row; 7] = [
+    ("(a \"b c\"d)", 0, 2, 0, "a", 1),
+    ("(a \"b c\"d)", 0, 2, 1, "b cd", 3),
+    ("# (\n(a)", 4, 1, 0, "a", 5),
+    ("((a) string_quote % string_quote\"\" %)", 0, 5, 4, "%", 35),
+    ("(p (string_quote ') 'J-1'-2 \"x\")", 0, 4, 2, "J-1-2", 20),
+    ("(p (string_quote ') 'J-1'-2 \"x\")", 0, 4, 3, "\"x\"", 28),
+    (BOARD, 0, 10, 1, "T", 5),
+];
+
 #[test]
 fn a_text_is_one_group_whose_words_have_their_places_and_lose_the_quoting_byte(rt: HostRuntime) {
-    for row in &[
-        ("(a \"b c\"d)", 0, 2, 0, "a", 1),
-        ("(a \"b c\"d)", 0, 2, 1, "b cd", 3),
-        ("# (\n(a)", 4, 1, 0, "a", 5),
-        ("((a) string_quote % string_quote\"\" %)", 0, 5, 4, "%", 35),
-        ("(p (string_quote ') 'J-1'-2 \"x\")", 0, 4, 2, "J-1-2", 20),
-        ("(p (string_quote ') 'J-1'-2 \"x\")", 0, 4, 3, "\"x\"", 28),
-        (BOARD, 0, 10, 1, "T", 5),
-    ] {
+    for row in &ROWS {
         assert!(rt; is_read(rt.alloc(), row));
     }
 }
 
-/// The sentence of the text's fault, or that it has none.
-fn fault(alloc: Global, text: &[u8]) -> Result<String, AllocError> {
-    match read(alloc, text) {
-        Ok(_) => String::from_str(alloc, "a tree"),
-        Err(fault) => format!(in alloc; "{fault}"),
-    }
-}
-
+/// Whether the text has no tree, but a fault with that sentence.
 fn tells(alloc: Global, text: &[u8], sentence: &str) -> bool {
-    match fault(alloc, text) {
-        Ok(told) => told.as_str() == sentence,
-        Err(_) => false,
+    match read(alloc, text) {
+        Ok(_) => false,
+        Err(fault) => match format!(in alloc; "{fault}") {
+            Ok(told) => told.as_str() == sentence,
+            Err(_) => false,
+        },
     }
 }
 
@@ -95,36 +90,38 @@ const DEEPEST: &str = "(((((((((((((((((((((((((((((((((((((((((((((((((((((((((
 
 const DEEPER: &str = "(((((((((((((((((((((((((((((((((((((((((((((((((((((((((((((((((";
 
+static FAULTS: [(&str, &str); 14] = [
+    ("a (b)", "the token at byte 0 stands outside the group"),
+    ("(a) (b)", "the token at byte 4 stands outside the group"),
+    ("(a) b", "the token at byte 4 stands outside the group"),
+    (")", "the token at byte 0 stands outside the group"),
+    ("(a))", "the token at byte 3 stands outside the group"),
+    (
+        "(pcb \"K board.dsn\" (string_quote \") (host_cad \"KiCad's",
+        "the quoted text opened at byte 46 has no end",
+    ),
+    ("(a) b\"c", "the quoted text opened at byte 5 has no end"),
+    ("a\"", "the quoted text opened at byte 1 has no end"),
+    (
+        "(string_quote %)",
+        "the byte at 14 can't become the quoting byte",
+    ),
+    (
+        "(String_Quote \n # \"",
+        "the byte at 16 can't become the quoting byte",
+    ),
+    (
+        "(string_quote(",
+        "the byte at 13 can't become the quoting byte",
+    ),
+    (" # (a)", "there is no token"),
+    (DEEPEST, "the bracket at byte 63 is not closed"),
+    (DEEPER, "the bracket at byte 64 is too deep"),
+];
+
 #[test]
 fn each_fault_tells_where_it_is_met_first(rt: HostRuntime) {
-    for &(text, sentence) in &[
-        ("a (b)", "the token at byte 0 stands outside the group"),
-        ("(a) (b)", "the token at byte 4 stands outside the group"),
-        ("(a) b", "the token at byte 4 stands outside the group"),
-        (")", "the token at byte 0 stands outside the group"),
-        ("(a))", "the token at byte 3 stands outside the group"),
-        (
-            "(pcb \"K board.dsn\" (string_quote \") (host_cad \"KiCad's",
-            "the quoted text opened at byte 46 has no end",
-        ),
-        ("(a) b\"c", "the quoted text opened at byte 5 has no end"),
-        ("a\"", "the quoted text opened at byte 1 has no end"),
-        (
-            "(string_quote %)",
-            "the byte at 14 can't become the quoting byte",
-        ),
-        (
-            "(String_Quote \n # \"",
-            "the byte at 16 can't become the quoting byte",
-        ),
-        (
-            "(string_quote(",
-            "the byte at 13 can't become the quoting byte",
-        ),
-        (" # (a)", "there is no token"),
-        (DEEPEST, "the bracket at byte 63 is not closed"),
-        (DEEPER, "the bracket at byte 64 is too deep"),
-    ] {
+    for &(text, sentence) in &FAULTS {
         assert!(rt; tells(rt.alloc(), text.as_bytes(), sentence), "{text}");
     }
 }
@@ -142,15 +139,11 @@ fn has_both(tree: &Tree) -> bool {
     }
 }
 
-fn finds_both(alloc: Global, text: &str) -> bool {
-    match read(alloc, text.as_bytes()) {
-        Ok(tree) => has_both(&tree),
-        Err(_) => false,
-    }
-}
-
 #[test]
 fn a_group_is_found_by_its_head_in_any_case(rt: HostRuntime) {
     let text = "(pcb x (STRUCTURE 1) (parser (string_quote $)) (structure 2 $a b$))";
-    assert!(rt; finds_both(rt.alloc(), text));
+    let tree = read(rt.alloc(), text.as_bytes())
+        .ok()
+        .expect(&rt, "no tree");
+    assert!(rt; has_both(&tree));
 }

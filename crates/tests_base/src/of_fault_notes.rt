@@ -3,34 +3,31 @@
 
 use fault_notes::{Counted, Fault, Place, Said, note_text, place_of};
 use route_words::USAGE;
-use std::alloc::{AllocError, Global};
+use std::alloc::Global;
 
 const DESIGN: &[u8] = b"(pcb b\n\n (unit nm)\n)";
 
+static PLACES: [(u64, u64, u64); 7] = [
+    (0, 1, 1),
+    (6, 1, 7),
+    (7, 2, 1),
+    (8, 3, 1),
+    (15, 3, 8),
+    (20, 4, 2),
+    (99, 4, 2),
+];
+
 #[test]
 fn places_bytes(rt: HostRuntime) {
-    for &(at, line, column) in &[
-        (0, 1, 1),
-        (6, 1, 7),
-        (7, 2, 1),
-        (8, 3, 1),
-        (15, 3, 8),
-        (20, 4, 2),
-        (99, 4, 2),
-    ] {
+    for &(at, line, column) in &PLACES {
         assert!(rt; place_of(DESIGN, at) == Place { line, column }, "{at}");
     }
     assert!(rt; place_of(b"", 5) == Place { line: 1, column: 1 });
 }
 
-/// The note of a fault, with no contract, so that the proofs of its callers are short.
-fn note_of(alloc: Global, fault: Fault, text: Option<&[u8]>) -> Result<String, AllocError> {
-    note_text(alloc, fault, "a.dsn", "a.ses", text)
-}
-
 /// Whether that is the note of a fault.
 fn is_noted(alloc: Global, fault: Fault, text: Option<&[u8]>, note: &str) -> bool {
-    match note_of(alloc, fault, text) {
+    match note_text(alloc, fault, "a.dsn", "a.ses", text) {
         Ok(told) => told.as_str() == note,
         Err(_) => false,
     }
@@ -48,38 +45,27 @@ const FINE: Fault = Fault::Told(Said::Limit {
     number: 20_000_000,
 });
 
-/// Whether the note of words without a command ends with the usage.
-fn shows_usage(alloc: Global) -> bool {
-    match format!(in alloc; "dsnroute: there is no command\n{USAGE}") {
-        Ok(usage) => is_noted(
-            alloc,
-            Fault::Told(Said::Usage { number: 1 }),
-            None,
-            usage.as_str(),
-        ),
-        Err(_) => false,
-    }
-}
+static NOTES: [(Fault, &str); 6] = [
+    (
+        REFUSED,
+        "a.dsn: refused at byte 15: the unit isn't inch, mil, cm, mm or um (refusal 11)\n",
+    ),
+    (UNREAD, "a.dsn: the file can't be read\n"),
+    (
+        FINE,
+        "a.dsn: too large: 20000000 nodes in the lattice, where 16777216 are the most: give a coarser --grid\n",
+    ),
+    (Fault::Session, "a.ses: the file can't be written\n"),
+    (
+        Fault::Report,
+        "dsnroute: standard output can't be written\n",
+    ),
+    (Fault::Memory, "dsnroute: memory was wanting\n"),
+];
 
 #[test]
 fn tells_faults(rt: HostRuntime) {
-    for &(fault, note) in &[
-        (
-            REFUSED,
-            "a.dsn: refused at byte 15: the unit isn't inch, mil, cm, mm or um (refusal 11)\n",
-        ),
-        (UNREAD, "a.dsn: the file can't be read\n"),
-        (
-            FINE,
-            "a.dsn: too large: 20000000 nodes in the lattice, where 16777216 are the most: give a coarser --grid\n",
-        ),
-        (Fault::Session, "a.ses: the file can't be written\n"),
-        (
-            Fault::Report,
-            "dsnroute: standard output can't be written\n",
-        ),
-        (Fault::Memory, "dsnroute: memory was wanting\n"),
-    ] {
+    for &(fault, note) in &NOTES {
         assert!(rt; is_noted(rt.alloc(), fault, None, note), "{note}");
     }
 }
@@ -87,5 +73,10 @@ fn tells_faults(rt: HostRuntime) {
 #[test]
 fn tells_the_line_of_a_refusal_and_the_usage(rt: HostRuntime) {
     let note = "a.dsn:3:8: refused: the unit isn't inch, mil, cm, mm or um (refusal 11)\n";
-    assert!(rt; is_noted(rt.alloc(), REFUSED, Some(DESIGN), note) && shows_usage(rt.alloc()));
+    assert!(rt; is_noted(rt.alloc(), REFUSED, Some(DESIGN), note));
+    let fault = Fault::Told(Said::Usage { number: 1 });
+    let usage = format!(in rt.alloc(); "dsnroute: there is no command\n{USAGE}").expect(
+        &rt, "no text",
+    );
+    assert!(rt; is_noted(rt.alloc(), fault, None, usage.as_str()));
 }

@@ -50,16 +50,18 @@ fn diagonal_keeps_from_corner() -> bool {
     seg_keeps(low, high, corner, corner, 1073741824)
 }
 
+static SEGMENTS: [(End, End, End, End, u16, bool, bool); 6] = [
+    ((0, 0), (10, 10), (0, 10), (10, 0), 0, true, true),
+    ((0, 0), (10, 10), (0, 10), (10, 0), 1, false, true),
+    ((0, 0), (4, 3), (3, -4), (3, -4), 9, true, false),
+    ((0, 0), (4, 3), (3, -4), (3, -4), 10, true, true),
+    ((0, 0), (4, 3), (3, -4), (3, -4), 11, false, true),
+    ((0, 0), (10, 0), (5, 0), (20, 0), 1, false, true),
+];
+
 #[test]
 fn segments_keep_and_touch_by_worked_distances(rt: HostRuntime) {
-    for &(a, b, c, d, k, keeps, touches) in &[
-        ((0, 0), (10, 10), (0, 10), (10, 0), 0, true, true),
-        ((0, 0), (10, 10), (0, 10), (10, 0), 1, false, true),
-        ((0, 0), (4, 3), (3, -4), (3, -4), 9, true, false),
-        ((0, 0), (4, 3), (3, -4), (3, -4), 10, true, true),
-        ((0, 0), (4, 3), (3, -4), (3, -4), 11, false, true),
-        ((0, 0), (10, 0), (5, 0), (20, 0), 1, false, true),
-    ] {
+    for &(a, b, c, d, k, keeps, touches) in &SEGMENTS {
         assert!(rt; is_so(Pair { a, b, c, d }, k, keeps, touches), "at {k}");
     }
     assert!(rt; diagonal_keeps_from_corner());
@@ -202,39 +204,18 @@ fn has_its_hole(ring: &Figure) -> bool {
     }
 }
 
-fn ring_is_so(alloc: Global) -> bool {
-    match area(alloc, true) {
-        Ok(ring) => {
-            has_its_hole(&ring)
-                && line_keeps_and_touches(alloc, &ring)
-                && dot_keeps_and_touches(alloc, &ring)
-        }
-        Err(_) => false,
-    }
-}
-
 #[test]
 fn a_line_and_a_point_keep_from_a_ring_and_touch_it_by_their_distances(rt: HostRuntime) {
-    assert!(rt; ring_is_so(rt.alloc()));
-}
-
-fn dot_is_in(alloc: Global, square: &Figure) -> bool {
-    match dot(alloc) {
-        Ok(dot) => !dot_keeps(&dot, square, 1),
-        Err(_) => false,
-    }
-}
-
-fn square_is_so(alloc: Global) -> bool {
-    match area(alloc, false) {
-        Ok(square) => dot_is_in(alloc, &square),
-        Err(_) => false,
-    }
+    let ring = area(rt.alloc(), true).expect(&rt, "no ring");
+    assert!(rt; has_its_hole(&ring) && line_keeps_and_touches(rt.alloc(), &ring));
+    assert!(rt; dot_keeps_and_touches(rt.alloc(), &ring));
 }
 
 #[test]
 fn a_point_in_a_square_keeps_nothing_from_it(rt: HostRuntime) {
-    assert!(rt; square_is_so(rt.alloc()));
+    let square = area(rt.alloc(), false).expect(&rt, "no square");
+    let dot = dot(rt.alloc()).expect(&rt, "no point");
+    assert!(rt; !dot_keeps(&dot, &square, 1));
 }
 
 #[test]
@@ -246,10 +227,6 @@ fn boxes_are_parted_by_up_to_twice_their_gap(rt: HostRuntime) {
 
 // ---- lists
 
-fn letters(alloc: Global, text: &str) -> Result<List<u8>, AllocError> {
-    Ok(List::from_vec(text.as_bytes().to_vec(alloc)?))
-}
-
 /// Whether the list of these four letters gives the second, the last and the third.
 fn gives_back(list: &mut List<u8>) -> bool {
     list.len() == 4
@@ -259,14 +236,13 @@ fn gives_back(list: &mut List<u8>) -> bool {
         && !list.is_empty()
 }
 
-fn letters_come_back(alloc: Global) -> bool {
-    match letters(alloc, "abcd") {
-        Ok(mut list) => gives_back(&mut list) && list.into_vec().as_slice() == "ac".as_bytes(),
-        Err(_) => false,
-    }
-}
-
 #[test]
 fn a_list_gives_back_what_was_put_in(rt: HostRuntime) {
-    assert!(rt; letters_come_back(rt.alloc()));
+    let letters = "abcd"
+        .as_bytes()
+        .to_vec(rt.alloc())
+        .expect(&rt, "no letters");
+    let mut list = List::from_vec(letters);
+    assert!(rt; gives_back(&mut list));
+    assert!(rt; list.into_vec().as_slice() == "ac".as_bytes());
 }

@@ -12,6 +12,13 @@ use std::alloc::Global;
 
 const ORIGIN: Point = Point { x: 0, y: 0 };
 
+static SIDES: [(bool, bool, i64, i64); 4] = [
+    (false, false, 8_660_254, 5_000_000),
+    (false, true, 8_660_254, 5_000_000),
+    (true, false, -8_660_254, -5_000_000),
+    (true, true, -8_660_254, 5_000_000),
+];
+
 #[test]
 fn points_are_placed_on_both_sides(rt: HostRuntime) {
     let p = Point {
@@ -21,12 +28,7 @@ fn points_are_placed_on_both_sides(rt: HostRuntime) {
     let a = Angle {
         microdegrees: 30_000_000,
     };
-    for &(back, flip_last, x, y) in &[
-        (false, false, 8_660_254, 5_000_000),
-        (false, true, 8_660_254, 5_000_000),
-        (true, false, -8_660_254, -5_000_000),
-        (true, true, -8_660_254, 5_000_000),
-    ] {
+    for &(back, flip_last, x, y) in &SIDES {
         let placed = place_point(p, back, flip_last, a, ORIGIN);
         assert!(rt; placed == Some(Point { x, y }));
     }
@@ -61,15 +63,17 @@ fn turned_over(count: u8, layers: u32) -> u32 {
     turn_over(u32::from(count), layers)
 }
 
+static SETS: [(u8, u32, u32); 5] = [
+    (2, 0b01, 0b10),
+    (4, 0b0011, 0b1100),
+    (3, 0b111_010, 0b010),
+    (32, 1, 0x8000_0000),
+    (0, 7, 0),
+];
+
 #[test]
 fn sets_of_layers_are_turned_over(rt: HostRuntime) {
-    for &(count, layers, wanted) in &[
-        (2, 0b01, 0b10),
-        (4, 0b0011, 0b1100),
-        (3, 0b111_010, 0b010),
-        (32, 1, 0x8000_0000),
-        (0, 7, 0),
-    ] {
+    for &(count, layers, wanted) in &SETS {
         assert!(rt; turned_over(count, layers) == wanted);
     }
 }

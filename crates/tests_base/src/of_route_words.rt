@@ -28,23 +28,17 @@ fn read(alloc: Global, line: &str) -> Result<Command, WordFault> {
     read_words(alloc, words.as_slice())
 }
 
-/// Whether a command routes these files with these knobs.
-fn is_route(command: &Command, input: &str, output: &str, knobs: Knobs) -> bool {
-    match command {
-        Command::Route {
-            input: from,
-            output: to,
-            knobs: given,
-        } => from.as_str() == input && to.as_str() == output && *given == knobs,
-        Command::Gen { n: _ } => false,
-    }
-}
-
 /// Whether the words of a line ask to route these files with these knobs.
 fn routes(alloc: Global, line: &str, input: &str, output: &str, knobs: Knobs) -> bool {
     match read(alloc, line) {
-        Ok(command) => is_route(&command, input, output, knobs),
-        Err(_) => false,
+        Ok(
+            Command::Route {
+                input: from,
+                output: to,
+                knobs: given,
+            },
+        ) => from.as_str() == input && to.as_str() == output && given == knobs,
+        _ => false,
     }
 }
 
@@ -88,21 +82,23 @@ const LONG: Knobs = Knobs {
     omit_fixed: false,
 };
 
+static ROUTES: [(&str, &str, &str, Knobs); 6] = [
+    ("route|t.dsn|t.ses", "t.dsn", "t.ses", DEFAULTS),
+    ("route|--|-a|-b", "-a", "-b", DEFAULTS),
+    ("route|a|--|--grid", "a", "--grid", DEFAULTS),
+    ("route|-|--omit-fixed|b=c", "-", "b=c", OMITS),
+    (
+        "route|--workers|16|a|--grid=1|b|--passes|0099|--omit-fixed|--via-cost=0",
+        "a",
+        "b",
+        GIVEN,
+    ),
+    ("route|a|b|--grid|100000|--via-cost|1000000", "a", "b", LONG),
+];
+
 #[test]
 fn reads_what_to_route(rt: HostRuntime) {
-    for &(line, input, output, knobs) in &[
-        ("route|t.dsn|t.ses", "t.dsn", "t.ses", DEFAULTS),
-        ("route|--|-a|-b", "-a", "-b", DEFAULTS),
-        ("route|a|--|--grid", "a", "--grid", DEFAULTS),
-        ("route|-|--omit-fixed|b=c", "-", "b=c", OMITS),
-        (
-            "route|--workers|16|a|--grid=1|b|--passes|0099|--omit-fixed|--via-cost=0",
-            "a",
-            "b",
-            GIVEN,
-        ),
-        ("route|a|b|--grid|100000|--via-cost|1000000", "a", "b", LONG),
-    ] {
+    for &(line, input, output, knobs) in &ROUTES {
         assert!(rt; routes(rt.alloc(), line, input, output, knobs), "{line}");
     }
 }
@@ -113,13 +109,9 @@ fn reads_numbers_of_boards(rt: HostRuntime) {
     assert!(rt; generates(rt.alloc(), "gen|--|0000400", 400));
 }
 
-fn refuses_no_word(alloc: Global) -> bool {
-    matches!(read_words(alloc, &[]), Err(WordFault::NoCommand))
-}
-
 #[test]
 fn refuses_commands(rt: HostRuntime) {
-    assert!(rt; refuses_no_word(rt.alloc()));
+    assert!(rt; matches!(read_words(rt.alloc(), &[]), Err(WordFault::NoCommand)));
     for &command in &["draw", "", "--", "Route", "--grid"] {
         assert!(rt;
             refuses(rt.alloc(), command, WordFault::UnknownCommand),

@@ -2,17 +2,18 @@
 //! They stand on the layers of the board of `sections`: F.Cu, the power layer GND, and B.Cu.
 
 use crate::sections::UM;
-use dsn_shapes::{Layer, LayerShape, read_shape};
+use dsn_shapes::{Layer, read_shape};
 use dsn_tree::read_tree;
 use geo_kernel::{List, Point, Spine};
 use std::alloc::Global;
+use std::process::Abort;
 
 /// A form, its layers and its width, whether it is a chain, and its vertices.
 type Form = (&'static str, u32, u64, bool, &'static [Point]);
 
 const ORIGIN: Point = Point { x: 0, y: 0 };
 
-const FORMS: [Form; 9] = [
+static FORMS: [Form; 9] = [
     ("(circle F.Cu 1000)", 0b001, 1_000_000, true, &[ORIGIN]),
     ("(Circle PCB 1000)", 0b111, 1_000_000, true, &[ORIGIN]),
     ("(circle signal 1000)", 0b101, 1_000_000, true, &[ORIGIN]),
@@ -69,26 +70,17 @@ fn is_spine(spine: &Spine, is_chain: bool, vertices: &[Point]) -> bool {
     }
 }
 
-fn shape(alloc: Global, text: &str, layers: &List<Layer>) -> Option<LayerShape> {
-    let tree = read_tree(alloc, text.as_bytes()).ok()?;
-    read_shape(alloc, &tree, UM, layers).ok()
-}
-
-fn has_form(alloc: Global, on: &List<Layer>, form: Form) -> bool {
+fn has_form<R: Abort>(rt: &R, alloc: Global, on: &List<Layer>, form: Form) -> bool {
     let (text, layers, width, is_chain, vertices) = form;
-    match shape(alloc, text, on) {
-        Some(shape) => {
-            (shape.layers, shape.width) == (layers, width)
-                && is_spine(&shape.spine, is_chain, vertices)
-        }
-        None => false,
-    }
+    let tree = read_tree(alloc, text.as_bytes()).ok().expect(rt, "no tree");
+    let shape = read_shape(alloc, &tree, UM, on).ok().expect(rt, "no shape");
+    (shape.layers, shape.width) == (layers, width) && is_spine(&shape.spine, is_chain, vertices)
 }
 
 /// Whether each form is read as it is listed, on the layers of the board.
-pub(crate) fn has_forms(alloc: Global, layers: &List<Layer>) -> bool {
+pub(crate) fn has_forms<R: Abort>(rt: &R, alloc: Global, layers: &List<Layer>) -> bool {
     for &form in &FORMS {
-        if !has_form(alloc, layers, form) {
+        if !has_form(rt, alloc, layers, form) {
             return false;
         }
     }

@@ -15,6 +15,7 @@ use dsn_units::Scale;
 use dsn_wiring::read_wiring;
 use geo_kernel::List;
 use std::alloc::Global;
+use std::process::Abort;
 
 /// The numbers of the board are micrometres.
 pub(crate) const UM: Scale = Scale { nm: 1_000 };
@@ -90,16 +91,18 @@ fn is_split(
     }
 }
 
+static SPLITS: [(&str, Split); 6] = [
+    ("R1-2", Split::One(PinRef { place: 0, pin: 1 })),
+    ("J-1-1", Split::One(PinRef { place: 5, pin: 0 })),
+    ("K-1-2", Split::One(PinRef { place: 4, pin: 0 })),
+    ("J-1-2", Split::Many),
+    ("J-2", Split::Unknown),
+    ("R1", Split::Unknown),
+];
+
 /// Whether each reference is split at each of its hyphens.
 fn are_split(alloc: Global, library: &Library, placing: &Placing) -> bool {
-    for &(text, wanted) in &[
-        ("R1-2", Split::One(PinRef { place: 0, pin: 1 })),
-        ("J-1-1", Split::One(PinRef { place: 5, pin: 0 })),
-        ("K-1-2", Split::One(PinRef { place: 4, pin: 0 })),
-        ("J-1-2", Split::Many),
-        ("J-2", Split::Unknown),
-        ("R1", Split::Unknown),
-    ] {
+    for &(text, wanted) in &SPLITS {
         if !is_split(alloc, library, placing, text, wanted) {
             return false;
         }
@@ -109,82 +112,41 @@ fn are_split(alloc: Global, library: &Library, placing: &Placing) -> bool {
 
 // ---- the readers, each over what those before it hold
 
-fn reads_wiring(
+/// Whether so it is of the components, nets and wiring of the board.
+fn holds_the_rest<R: Abort>(
+    rt: &R,
     alloc: Global,
     tree: &Tree,
     structure: &Structure,
     library: &Library,
-    placing: &Placing,
-    network: &Network,
-) -> bool {
-    match read_wiring(alloc, tree, UM, structure, library, placing, network) {
-        Ok(wiring) => is_wiring(&wiring),
-        Err(_) => false,
-    }
-}
-
-fn reads_network(
-    alloc: Global,
-    tree: &Tree,
-    structure: &Structure,
-    library: &Library,
-    placing: &Placing,
-) -> bool {
-    match read_network(alloc, tree, UM, library, placing) {
-        Ok(network) => {
-            is_network(&network) && reads_wiring(alloc, tree, structure, library, placing, &network)
-        }
-        Err(_) => false,
-    }
-}
-
-fn reads_placement(alloc: Global, tree: &Tree, structure: &Structure, library: &Library) -> bool
+) -> bool
     requires { IsLibraryWithin library.now }
 {
-    match read_placement(alloc, tree, UM, structure, library) {
-        Ok(placing) => {
-            is_placing(&placing)
-                && are_split(alloc, library, &placing)
-                && reads_network(alloc, tree, structure, library, &placing)
-        }
-        Err(_) => false,
-    }
-}
-
-fn reads_library(alloc: Global, tree: &Tree, structure: &Structure) -> bool {
-    match read_library(alloc, tree, UM, &structure.layers) {
-        Ok(library) => {
-            let is_so = is_library(&library)
-                && has_copper(alloc, &library)
-                && reads_placement(alloc, tree, structure, &library);
-            drop(library);
-            is_so
-        }
-        Err(_) => false,
-    }
-}
-
-fn reads_structure(alloc: Global, tree: &Tree) -> bool {
-    match read_structure(alloc, tree, UM) {
-        Ok(structure) => {
-            let is_so = is_structure(&structure)
-                && has_forms(alloc, &structure.layers)
-                && reads_library(alloc, tree, &structure);
-            drop(structure);
-            is_so
-        }
-        Err(_) => false,
-    }
-}
-
-fn reads_board(alloc: Global) -> bool {
-    match read_tree(alloc, BOARD.as_bytes()) {
-        Ok(tree) => reads_structure(alloc, &tree),
-        Err(_) => false,
-    }
+    let placing = read_placement(alloc, tree, UM, structure, library).ok();
+    let placing = placing.expect(rt, "no placement");
+    let network = read_network(alloc, tree, UM, library, &placing).ok();
+    let network = network.expect(rt, "no network");
+    let wiring = read_wiring(alloc, tree, UM, structure, library, &placing, &network).ok();
+    let wiring = wiring.expect(rt, "no wiring");
+    is_placing(&placing)
+        && are_split(alloc, library, &placing)
+        && is_network(&network)
+        && is_wiring(&wiring)
 }
 
 #[test]
 fn each_reader_holds_what_stands_in_all_its_sections_of_the_board(rt: HostRuntime) {
-    assert!(rt; reads_board(rt.alloc()));
+    let alloc = rt.alloc();
+    let tree = read_tree(alloc, BOARD.as_bytes())
+        .ok()
+        .expect(&rt, "no tree");
+    let structure = read_structure(alloc, &tree, UM)
+        .ok()
+        .expect(&rt, "no structure");
+    let Ok(library) = read_library(alloc, &tree, UM, &structure.layers) else {
+        panic!(rt; "no library");
+    };
+    assert!(rt; is_structure(&structure) && has_forms(&rt, alloc, &structure.layers));
+    assert!(rt; is_library(&library) && has_copper(alloc, &library));
+    assert!(rt; holds_the_rest(&rt, alloc, &tree, &structure, &library));
 }

@@ -4,35 +4,28 @@
 use crate::board::{opened, start};
 use crate::offer_board::{CROSS, Join, across, along, answers, offer_of, stand, takes_first};
 use geo_kernel::List;
-use pcb_board::{Answer, BackFault, Board, Offer, Snap, run_offers};
+use pcb_board::{Answer, BackFault, Board, run_offers};
 use pcb_model::Item;
-use std::alloc::{AllocError, Global};
+use std::alloc::Global;
+use std::process::Abort;
 
-/// The first net's wire and that of the second net, both planned on the board without entries.
-fn both(alloc: Global) -> Result<Vec<Offer>, AllocError> {
+/// Whether a board takes the first net's wire, and then says that the second net's is stale, where both were planned on
+/// the board without entries.
+fn takes_the_first_alone<R: Abort>(rt: &R, alloc: Global, board: &mut Board) -> bool {
     let mut offers = Vec::new(alloc);
     for join in &[along(0), across(0, &[])] {
-        offers.push(offer_of(alloc, join)?)?;
+        let offer = offer_of(alloc, join).expect(rt, "no offer");
+        offers.push(offer).expect(rt, "no room");
     }
-    Ok(offers)
-}
-
-/// Whether a board takes the first net's wire, and then says that the second net's is stale.
-fn takes_the_first_alone(alloc: Global, board: &mut Board) -> bool {
-    let Ok(offers) = both(alloc) else {
-        return false;
-    };
-    match run_offers(alloc, board, offers) {
-        Ok(answers) => {
-            answers.as_slice()
-                == [
-                    Answer::Committed { number: 1 },
-                    Answer::Stale { item: 5, commit: 1 },
-                ]
-                .as_slice()
-        }
-        Err(_) => false,
-    }
+    let answers = run_offers(alloc, board, offers)
+        .ok()
+        .expect(rt, "no answers");
+    answers.as_slice()
+        == [
+            Answer::Committed { number: 1 },
+            Answer::Stale { item: 5, commit: 1 },
+        ]
+        .as_slice()
 }
 
 /// Whether a board takes the second net's wire over the first's only where it rips that one.
@@ -48,8 +41,11 @@ fn takes_the_second(alloc: Global, board: &mut Board) -> bool {
 fn offers_are_answered_one_after_another(rt: HostRuntime) {
     let alloc = rt.alloc();
     let (mut board, dropped) = start(alloc, CROSS, 524_288).expect(&rt, "no board");
-    assert!(rt; dropped.is_empty());
-    assert!(rt; takes_the_first_alone(alloc, &mut board) && takes_the_second(alloc, &mut board));
+    assert!(rt;
+        dropped.is_empty()
+            && takes_the_first_alone(&rt, alloc, &mut board)
+            && takes_the_second(alloc, &mut board)
+    );
 }
 
 /// Whether the one item of a list has this id.
@@ -60,28 +56,13 @@ fn is_only(items: &List<Item>, id: u64) -> bool {
     }
 }
 
-/// Whether the first net's wire went since a snapshot, and the second net's came.
-fn tells_since(new: &Snap, old: &Snap) -> bool {
-    match new.since(old) {
-        Ok(since) => is_only(&since.gone, 5) && is_only(&since.come, 6),
-        Err(_) => false,
-    }
-}
-
-/// Whether a board tells so.
-fn tells(board: &Board, old: &Snap) -> bool {
-    match board.snap() {
-        Ok(new) => tells_since(&new, old),
-        Err(_) => false,
-    }
-}
-
-/// Whether a board takes the second net's wire over the first's, and tells what went and what came.
-fn changes(alloc: Global, board: &mut Board) -> bool {
-    match board.snap() {
-        Ok(old) => takes_the_second(alloc, board) && tells(board, &old),
-        Err(_) => false,
-    }
+/// Whether a board takes the second net's wire over the first's, and tells that this one went since and that one came.
+fn changes<R: Abort>(rt: &R, alloc: Global, board: &mut Board) -> bool {
+    let old = board.snap().ok().expect(rt, "no snapshot");
+    let taken = takes_the_second(alloc, board);
+    let new = board.snap().ok().expect(rt, "no snapshot");
+    let since = new.since(&old).ok().expect(rt, "no change");
+    taken && is_only(&since.gone, 5) && is_only(&since.come, 6)
 }
 
 /// Whether a board goes back to what it was after so many entries, and these ids stand then.
@@ -112,8 +93,11 @@ fn goes_back_twice(alloc: Global, board: &mut Board) -> bool {
 fn a_board_tells_what_changed_goes_back_and_is_copied(rt: HostRuntime) {
     let alloc = rt.alloc();
     let mut board = opened(alloc, CROSS).expect(&rt, "no board");
-    assert!(rt; takes_first(alloc, &mut board) && changes(alloc, &mut board));
-    assert!(rt; goes_back_twice(alloc, &mut board));
+    assert!(rt;
+        takes_first(alloc, &mut board)
+            && changes(&rt, alloc, &mut board)
+            && goes_back_twice(alloc, &mut board)
+    );
 }
 
 /// The closing pass's offer of the second net's wire from its first pin to another point.

@@ -9,6 +9,7 @@ use crate::cells::{Cells, cells_sound};
 use geo_kernel::List;
 use route_lattice::{Found, Move, Moves};
 use std::alloc::{AllocError, Global};
+use std::process::Abort;
 use wave_search::{Bound, Heading, NoBound, Search, Ties, guided_walk, heading_of, least_walk};
 
 /// A least walk from a cell to one of the goals, or all that is reached; from no start where there is no such cell.
@@ -78,23 +79,17 @@ fn is_found(found: Result<Found, AllocError>, walks: &Walks) -> bool {
     }
 }
 
-/// Whether that is found among cells, and by a bound too where there is one goal.
-fn are_found(alloc: Global, cells: &Cells, walks: &Walks) -> bool {
-    is_found(search(alloc, cells, walks.2, walks.3), walks)
+/// Whether that is found on its map, and by a bound too where there is one goal.
+fn are_found<R: Abort>(rt: &R, alloc: Global, walks: &Walks) -> bool {
+    let cells = Cells::drawn(alloc, walks.0, walks.1).expect(rt, "no map");
+    is_found(search(alloc, &cells, walks.2, walks.3), walks)
         && match walks.3 {
-            [goal] => is_found(guided(alloc, cells, walks.2, *goal), walks),
+            [goal] => is_found(guided(alloc, &cells, walks.2, *goal), walks),
             _ => true,
         }
 }
 
-fn are_found_on_map(alloc: Global, walks: &Walks) -> bool {
-    match Cells::drawn(alloc, walks.0, walks.1) {
-        Ok(cells) => are_found(alloc, &cells, walks),
-        Err(_) => false,
-    }
-}
-
-const WALKS: [Walks; 6] = [
+static WALKS: [Walks; 6] = [
     Walks(5, HOOK, 6, &[8], 6, &[6, 11, 16, 17, 18, 13, 8]),
     Walks(5, CLOSED, 11, &[8], 0, &[6, 11]),
     Walks(3, ONE, 4, &[4], 0, &[4]),
@@ -106,7 +101,7 @@ const WALKS: [Walks; 6] = [
 #[test]
 fn a_least_walk_goes_round_walls_or_all_that_is_reached_is_told(rt: HostRuntime) {
     for walks in &WALKS {
-        assert!(rt; are_found_on_map(rt.alloc(), walks), "in {}", walks.1);
+        assert!(rt; are_found(&rt, rt.alloc(), walks), "in {}", walks.1);
     }
 }
 
@@ -171,30 +166,17 @@ fn is_as_cheap(
     }
 }
 
-/// Whether both are so, by one memory.
-fn are_straight(
-    alloc: Global,
-    search: &mut Search,
-    cells: &Cells,
-    straight: &Straight,
-) -> Result<bool, AllocError>
-    requires { search.old ≡ length cells.now.prices }
-{
-    let starts = cells.only(alloc, 7)?;
-    let goals = List::from_slice(alloc, straight.1)?;
-    Ok(
-        is_straight(alloc, search, cells, &starts, &goals, straight)
-            && is_as_cheap(alloc, search, cells, &starts, &goals, straight.2),
-    )
+/// Whether both are so on its map, by one memory.
+fn goes_straight<R: Abort>(rt: &R, alloc: Global, straight: &Straight) -> bool {
+    let cells = Cells::drawn(alloc, 6, straight.0).expect(rt, "no map");
+    let mut search = Search::new(alloc, cells.count()).expect(rt, "no memory");
+    let starts = cells.only(alloc, 7).expect(rt, "no start");
+    let goals = List::from_slice(alloc, straight.1).expect(rt, "no goals");
+    is_straight(alloc, &mut search, &cells, &starts, &goals, straight)
+        && is_as_cheap(alloc, &mut search, &cells, &starts, &goals, straight.2)
 }
 
-fn goes_straight(alloc: Global, straight: &Straight) -> Result<bool, AllocError> {
-    let cells = Cells::drawn(alloc, 6, straight.0)?;
-    let mut search = Search::new(alloc, cells.count())?;
-    are_straight(alloc, &mut search, &cells, straight)
-}
-
-const STRAIGHT: [Straight; 2] = [
+static STRAIGHT: [Straight; 2] = [
     Straight(
         ".......111...1111..1111..1111.......",
         &[28, 35],
@@ -213,8 +195,8 @@ const STRAIGHT: [Straight; 2] = [
 fn of_equally_cheap_walks_and_goals_the_straightest_is_taken(rt: HostRuntime) {
     for straight in &STRAIGHT {
         assert!(rt;
-            goes_straight(rt.alloc(), straight) == Ok(true),
-            "{}",
+            goes_straight(&rt, rt.alloc(), straight),
+            "in {}",
             straight.0
         );
     }

@@ -42,17 +42,14 @@ impl Says for Rule {
     }
 }
 
-/// A class comes before the structure.
-const OF_STRUCTURE_AND_CLASS: [Rule; 5] = [
+static OF_RULES: [Rule; 20] = [
+    // A class comes before the structure.
     Rule::Clearance(Some(0), Kind::Smd, Some(0), Kind::Smd, 50_000),
     Rule::Clearance(Some(0), Kind::Smd, Some(0), Kind::Wire, 250_000),
     Rule::Clearance(Some(0), Kind::Wire, Some(0), Kind::Wire, 200_100),
     Rule::Clearance(Some(1), Kind::Smd, Some(1), Kind::Smd, 120_000),
     Rule::Clearance(Some(1), Kind::Wire, Some(1), Kind::Wire, 120_000),
-];
-
-/// An exact pair comes before any kind and counts in either order, and of like clearances the last read counts.
-const OF_PAIRS: [Rule; 8] = [
+    // An exact pair comes before any kind and counts in either order, and of like clearances the last read counts.
     Rule::Clearance(Some(2), Kind::Smd, Some(2), Kind::Smd, 50_000),
     Rule::Clearance(Some(3), Kind::Smd, Some(3), Kind::Smd, 50_000),
     Rule::Clearance(Some(3), Kind::Smd, Some(3), Kind::Area, 300_000),
@@ -61,17 +58,11 @@ const OF_PAIRS: [Rule; 8] = [
     Rule::Clearance(Some(4), Kind::Smd, Some(4), Kind::Via, 70_000),
     Rule::Clearance(Some(5), Kind::Pin, Some(5), Kind::Smd, 40_000),
     Rule::Clearance(Some(6), Kind::Pin, Some(6), Kind::Smd, 300_000),
-];
-
-/// Two nets keep the greater of their clearances.
-const OF_TWO_NETS: [Rule; 3] = [
+    // Two nets keep the greater of their clearances.
     Rule::Clearance(Some(0), Kind::Smd, Some(1), Kind::Smd, 120_000),
     Rule::Clearance(Some(1), Kind::Smd, Some(0), Kind::Smd, 120_000),
     Rule::Clearance(Some(0), Kind::Smd, None, Kind::Smd, 50_000),
-];
-
-/// A net has its own width or its class's.
-const WIDTHS_AND_REACH: [Rule; 4] = [
+    // A net has its own width or its class's.
     Rule::Width(0, 200_000),
     Rule::Width(1, 400_000),
     Rule::Width(6, 150_000),
@@ -80,8 +71,5 @@ const WIDTHS_AND_REACH: [Rule; 4] = [
 
 #[test]
 fn of_several_clearances_and_widths_one_counts(rt: HostRuntime) {
-    assert_eq!(rt; held(rt.alloc(), RULES, &OF_STRUCTURE_AND_CLASS), 5);
-    assert_eq!(rt; held(rt.alloc(), RULES, &OF_PAIRS), 8);
-    assert_eq!(rt; held(rt.alloc(), RULES, &OF_TWO_NETS), 3);
-    assert_eq!(rt; held(rt.alloc(), RULES, &WIDTHS_AND_REACH), 4);
+    assert_eq!(rt; held(rt.alloc(), RULES, &OF_RULES), 20);
 }

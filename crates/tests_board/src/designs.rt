@@ -1,7 +1,7 @@
 //! The designs of the examples, and their edits.
 //! An edit replaces a piece of a text, which must stand in it.
 
-use std::alloc::{AllocError, Global};
+use std::alloc::Global;
 
 /// Two pairs of pins that must cross, on one layer: the boundary is item 0, the pins are 1 and 2 of net 0, 3 and 4 of
 /// net 1.
@@ -91,30 +91,12 @@ pub(crate) const KICAD: &str = "(pcb \"K board.dsn\"
 /// Pads on the front alone.
 pub(crate) const ON_FRONT: (&str, &str) = (" (shape (circle B.Cu 1000))", "");
 
-fn put_all(text: &mut String, parts: &[&str]) -> Result<(), AllocError> {
-    for part in parts {
-        text.push_str(part)?;
-    }
-    Ok(())
-}
-
-fn joined(alloc: Global, parts: &[&str]) -> Result<String, AllocError> {
-    let mut text = String::new(alloc);
-    put_all(&mut text, parts)?;
-    Ok(text)
-}
-
-/// The text with its first old piece replaced by the new one, or None where it is missing or memory is wanting.
-fn swapped_once(alloc: Global, text: &str, old: &str, new: &str) -> Option<String> {
-    let (before, after) = text.split_once(old)?;
-    joined(alloc, &[before, new, after]).ok()
-}
-
 /// The text with each old piece replaced by the new one, in order, or None where one is missing or memory is wanting.
 pub(crate) fn swapped(alloc: Global, text: &str, pairs: &[(&str, &str)]) -> Option<String> {
     let mut now = String::from_str(alloc, text).ok()?;
     for &(old, new) in pairs {
-        now = swapped_once(alloc, now.as_str(), old, new)?;
+        let (before, after) = now.as_str().split_once(old)?;
+        now = format!(in alloc; "{before}{new}{after}").ok()?;
     }
     Some(now)
 }

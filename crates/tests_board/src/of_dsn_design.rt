@@ -117,17 +117,6 @@ fn bans(item: &Item) -> Option<(bool, bool)> {
     }
 }
 
-fn has_counts(d: &Design, counts: &[u64; 5]) -> bool {
-    *counts
-        == [
-            d.notes,
-            d.components.len() as u64,
-            d.pins.len() as u64,
-            d.fixed.len() as u64,
-            d.free.len() as u64,
-        ]
-}
-
 /// Of free wiring the layer or the padstack, the width of a wire, and the first vertex.
 fn metal_of(metal: &Metal) -> Option<(u32, u64, Point)> {
     match metal {
@@ -144,7 +133,16 @@ fn metal_of(metal: &Metal) -> Option<(u32, u64, Point)> {
 impl Says for Told {
     fn holds(&self, _alloc: Global, d: &Design) -> bool {
         match self {
-            Told::Counts(counts) => has_counts(d, counts),
+            Told::Counts(counts) => {
+                *counts
+                    == [
+                        d.notes,
+                        d.components.len() as u64,
+                        d.pins.len() as u64,
+                        d.fixed.len() as u64,
+                        d.free.len() as u64,
+                    ]
+            }
             Told::Pin(at, net, smd, centre) => match d.pins.get(*at) {
                 Some(pin) => pin.net == *net && pin.smd == *smd && pin.centre == *centre,
                 None => false,
@@ -172,7 +170,7 @@ impl Says for Told {
     }
 }
 
-const OF_KICAD: [Told; 7] = [
+static OF_KICAD: [Told; 7] = [
     Told::Counts([1, 4, 8, 10, 0]),
     Told::Pin(
         0,
@@ -220,7 +218,7 @@ fn a_board_of_kicad(rt: HostRuntime) {
 }
 
 /// The fixed items are in the order of their ids, and a net has the vias of its last class.
-const OF_SMALL: [Told; 16] = [
+static OF_SMALL: [Told; 16] = [
     Told::Net(0, &[0, 3], &[2, 2]),
     Told::Net(1, &[], &[]),
     Told::Fixed(0, Kind::Area, None, Some((true, true)), (123_123, 2_000, 4)),

@@ -76,8 +76,12 @@ fn is_at(at: Point, x: i64, y: i64) -> bool {
 /// A text, a grid, what its lattice is, and that it is so, or the exact number of nodes where these are too many.
 struct Row(&'static str, u32, Told, Result<bool, u128>);
 
-/// A node is a crossing of two lines on a signal layer.
-const SIZES: [Row; 8] = [
+const FIRST: [i64; 4] = [1_000, 2_000, 3_000, 4_000];
+
+const SOME: [i64; 3] = [1_000, 3_000, 4_000];
+
+static ROWS: [Row; 16] = [
+    // A node is a crossing of two lines on a signal layer.
     Row(
         TEN_MM,
         1_000_000,
@@ -106,23 +110,13 @@ const SIZES: [Row; 8] = [
     Row(LARGE_WITH_POWER, 1_000, Told::Nothing, Err(39_999_600_001)),
     Row(TEN_MM, 1_000, Told::Nothing, Err(199_960_002)),
     Row(SMALL, 1_000, Told::Nothing, Err(1_404_394_002)),
-];
-
-/// Nodes are numbered by rows and then by layers.
-const NODES: [Row; 5] = [
+    // Nodes are numbered by rows and then by layers.
     Row(TEN_MM, 1_000_000, Told::Node(0, 1, 1, 0), Ok(true)),
     Row(TEN_MM, 1_000_000, Told::Node(21, 4, 3, 0), Ok(true)),
     Row(TEN_MM, 1_000_000, Told::Node(80, 9, 9, 0), Ok(true)),
     Row(TEN_MM, 1_000_000, Told::Node(81, 1, 1, 1), Ok(true)),
     Row(TEN_MM, 1_000_000, Told::Node(161, 9, 9, 1), Ok(true)),
-];
-
-const FIRST: [i64; 4] = [1_000, 2_000, 3_000, 4_000];
-
-const SOME: [i64; 3] = [1_000, 3_000, 4_000];
-
-/// Lines are multiples of the grid rounded down to the unit, and anchors of pins with a net, rounded half upwards.
-const LINES: [Row; 3] = [
+    // Lines are multiples of the grid rounded down to the unit, and anchors of pins with a net, rounded half upwards.
     Row(FIVE_UM, 300, Told::Lines(&FIRST, &FIRST), Ok(true)),
     Row(FIVE_UM, 1_500, Told::Lines(&SOME, &SOME), Ok(true)),
     Row(
@@ -146,7 +140,5 @@ fn count(alloc: Global, rows: &[Row]) -> usize {
 
 #[test]
 fn lattices_have_these_nodes_and_lines(rt: HostRuntime) {
-    assert_eq!(rt; count(rt.alloc(), &SIZES), 8);
-    assert_eq!(rt; count(rt.alloc(), &NODES), 5);
-    assert_eq!(rt; count(rt.alloc(), &LINES), 3);
+    assert_eq!(rt; count(rt.alloc(), &ROWS), 16);
 }

@@ -2,7 +2,7 @@
 //! those past routed items; once the maps are made, once they followed to copper of which an item went while another
 //! came, and once they are back.
 
-ghost use Rattle.std.specs.Prelude.{◌≡◌, ◌<◌, ◌≤◌, ◌∷◌, [], length, IfOk, IsTrue, OnOk};
+ghost use Rattle.std.specs.Prelude.{◌≡◌, ◌<◌, ◌≤◌, ◌∷◌, [], length, IfOk, OnOk};
 ghost use Rattle.pcb_model.specs.Sound.{IsSound, Serves};
 ghost use Rattle.route_lattice.specs.Fits.{FitsDesign};
 ghost use Rattle.route_lattice.specs.Legal.{CanMove};
@@ -19,6 +19,7 @@ use pcb_model::{Design, Item, PlainCopper, copy_item};
 use ripup::{RipMoves, fixed_maps, rips_of};
 use route_lattice::{Lattice, LegalMoves, Moves};
 use std::alloc::{AllocError, Global};
+use std::process::Abort;
 
 /// How many moves of a net were compared, how many of them are open, and how many the map opens by itself.
 type Seen = (u32, u32, u32);
@@ -199,35 +200,10 @@ fn exchange(
     maps.follow(lat, d, &new.copper, &gone, &come)
 }
 
-/// Whether that is seen of the two nets once the maps followed.
-fn is_seen_after(
-    alloc: Global,
-    maps: &mut MoveMaps,
-    fixed: &MoveMaps,
-    lat: &Lattice,
-    d: &Design,
-    old: &Routed,
-    new: &Routed,
-    want: Views,
-) -> bool
-    requires sound { IsSound d.now }
-    requires fits { FitsDesign d.now lat.now }
-    requires two { 2 ≤ length d.now.nets }
-    requires before { IsLaidOn d.now old.now.item old.now.copper }
-    requires after { IsLaidOn d.now new.now.item new.now.copper }
-    requires maps { AreMapsOf d.now lat.now old.now.copper maps.old }
-    requires fixed { AreMapsOf d.now lat.now d.now.fixed fixed.now }
-    ensures { IsTrue result → AreMapsOf d.now lat.now new.now.copper maps.new }
-{
-    match exchange(alloc, maps, lat, d, old, new) {
-        Ok(()) => is_seen(alloc, maps, fixed, lat, d, &new.copper, want),
-        Err(_) => false,
-    }
-}
-
 /// Whether the one is seen on the copper with the first item, the other on that with the second in its place, and the
 /// one again on the first copper.
-fn are_seen_in_turn(
+fn are_seen_in_turn<R: Abort>(
+    rt: &R,
     alloc: Global,
     fixed: &MoveMaps,
     lat: &Lattice,
@@ -244,90 +220,23 @@ fn are_seen_in_turn(
     requires second { IsLaidOn d.now second.now.item second.now.copper }
     requires fixed { AreMapsOf d.now lat.now d.now.fixed fixed.now }
 {
-    match MoveMaps::of(alloc, lat, d, &first.copper) {
-        Ok(made) => {
-            let mut maps = made;
-            is_seen(alloc, &maps, fixed, lat, d, &first.copper, one)
-                && is_seen_after(alloc, &mut maps, fixed, lat, d, first, second, other)
-                && is_seen_after(alloc, &mut maps, fixed, lat, d, second, first, one)
-        }
-        Err(_) => false,
-    }
-}
-
-/// The same from the copper with the first item on, by maps of the fixed items.
-fn are_seen_from(
-    alloc: Global,
-    fixed: &MoveMaps,
-    lat: &Lattice,
-    d: &Design,
-    first: &Routed,
-    one: Views,
-    other: Views,
-) -> bool
-    requires sound { IsSound d.now }
-    requires fits { FitsDesign d.now lat.now }
-    requires two { 2 ≤ length d.now.nets }
-    requires first { IsLaidOn d.now first.now.item first.now.copper }
-    requires fixed { AreMapsOf d.now lat.now d.now.fixed fixed.now }
-{
-    match laid(alloc, d, 1) {
-        Some(second) => are_seen_in_turn(alloc, fixed, lat, d, first, &second, one, other),
-        None => false,
-    }
-}
-
-/// The same, where the first item is still to be laid.
-fn are_seen_with(
-    alloc: Global,
-    fixed: &MoveMaps,
-    lat: &Lattice,
-    d: &Design,
-    one: Views,
-    other: Views,
-) -> bool
-    requires sound { IsSound d.now }
-    requires fits { FitsDesign d.now lat.now }
-    requires two { 2 ≤ length d.now.nets }
-    requires fixed { AreMapsOf d.now lat.now d.now.fixed fixed.now }
-{
-    match laid(alloc, d, 0) {
-        Some(first) => are_seen_from(alloc, fixed, lat, d, &first, one, other),
-        None => false,
-    }
-}
-
-/// The same on the lattice of a board.
-fn are_seen_along(alloc: Global, lat: &Lattice, d: &Design, one: Views, other: Views) -> bool
-    requires sound { IsSound d.now }
-    requires fits { FitsDesign d.now lat.now }
-    requires two { 2 ≤ length d.now.nets }
-{
-    match fixed_maps(alloc, lat, d) {
-        Ok(fixed) => are_seen_with(alloc, &fixed, lat, d, one, other),
-        Err(_) => false,
-    }
-}
-
-/// The same on a board, which has two nets.
-fn are_seen_on(alloc: Global, d: &Design, one: Views, other: Views) -> bool
-    requires { IsSound d.now }
-{
-    if d.nets.len() != 2 {
-        return false;
-    }
-    match lattice_of(alloc, d) {
-        Some(lat) => are_seen_along(alloc, &lat, d, one, other),
-        None => false,
-    }
+    let mut maps = MoveMaps::of(alloc, lat, d, &first.copper).expect(rt, "no maps");
+    let before = is_seen(alloc, &maps, fixed, lat, d, &first.copper, one);
+    exchange(alloc, &mut maps, lat, d, first, second).expect(rt, "no exchange");
+    let between = is_seen(alloc, &maps, fixed, lat, d, &second.copper, other);
+    exchange(alloc, &mut maps, lat, d, second, first).expect(rt, "no exchange");
+    before && between && is_seen(alloc, &maps, fixed, lat, d, &first.copper, one)
 }
 
 /// Whether both are seen on a board of two nets, whose free wiring is laid in turn.
-fn are_seen(alloc: Global, text: &str, one: Views, other: Views) -> bool {
-    match board(alloc, text) {
-        Some(d) => are_seen_on(alloc, &d, one, other),
-        None => false,
-    }
+fn are_seen<R: Abort>(rt: &R, alloc: Global, text: &str, one: Views, other: Views) -> bool {
+    let d = board(alloc, text).expect(rt, "no board");
+    assert!(rt; d.nets.len() == 2);
+    let lat = lattice_of(alloc, &d).expect(rt, "no lattice");
+    let fixed = fixed_maps(alloc, &lat, &d).expect(rt, "no maps");
+    let first = laid(alloc, &d, 0).expect(rt, "no first item");
+    let second = laid(alloc, &d, 1).expect(rt, "no second item");
+    are_seen_in_turn(rt, alloc, &fixed, &lat, &d, &first, &second, one, other)
 }
 
 // Each layer has 81 nodes, and each node 4 numbers of steps and 2 of vias: 576 steps and 162 vias are there. The wall
@@ -347,7 +256,7 @@ fn maps_tell_the_moves_beside_a_wall(rt: HostRuntime) {
         second: (972, 562, 342),
         ..wire
     };
-    assert!(rt; are_seen(rt.alloc(), WALL, wire, via));
+    assert!(rt; are_seen(&rt, rt.alloc(), WALL, wire, via));
 }
 
 // Of 288 steps the pads of the first net shut 6 each, and its wire 40 more; those of the second net 8 each, and its
@@ -365,5 +274,5 @@ fn maps_tell_the_moves_around_crossing_wires(rt: HostRuntime) {
         second: (324, 276, 152),
         ..along
     };
-    assert!(rt; are_seen(rt.alloc(), CROSS, along, across));
+    assert!(rt; are_seen(&rt, rt.alloc(), CROSS, along, across));
 }

@@ -38,10 +38,6 @@ fn is_island(found: &List<Island>, at: usize, pins: &[u32], items: &[u64]) -> bo
     }
 }
 
-fn are_two_islands(found: &List<Island>) -> bool {
-    found.len() == 2 && is_island(found, 0, &[0, 2], &[1, 3, 4]) && is_island(found, 1, &[1], &[2])
-}
-
 fn has_islands(alloc: Global, d: &Design, copper: &PlainCopper) -> bool
     requires sound { IsSound d.now }
     requires serves { Serves copper.now d.now }
@@ -50,7 +46,12 @@ fn has_islands(alloc: Global, d: &Design, copper: &PlainCopper) -> bool
         return false;
     }
     match islands(alloc, d, copper, 0) {
-        Ok(found) => are_two_islands(&found) && !is_whole(&found),
+        Ok(found) => {
+            found.len() == 2
+                && is_island(&found, 0, &[0, 2], &[1, 3, 4])
+                && is_island(&found, 1, &[1], &[2])
+                && !is_whole(&found)
+        }
         Err(_) => false,
     }
 }

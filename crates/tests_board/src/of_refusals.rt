@@ -1,9 +1,13 @@
 //! Calls that stop before they route, and the one line that they put.
 //! No session is written then.
 
-use crate::calls::{Left, Says, leaves, routes};
+use crate::calls::{Wanted, leaves};
 use crate::designs::{CROSSING, ON_FRONT, TWO_LAYERS};
 use dsn_route::Status;
+use std::alloc::Global;
+use std::process::Abort;
+use std::sync::Wait;
+use std::thread::Threads;
 
 /// A text that ends within quotes.
 const CUT_IN_QUOTES: &str =
@@ -31,38 +35,51 @@ const MANY_LAYERS: &str =
     (layer L18)(layer L19)(layer L20)(layer L21)(layer L22)(layer L23)(layer L24)(layer L25)(layer L26)\
     (layer L27)(layer L28)(layer L29)(layer L30) (boundary";
 
-/// The call ends so, puts this line, writes no session and routes nothing.
-#[derive(Clone, Copy)]
-struct Stops(Status, &'static str);
-
-impl Says for Stops {
-    fn holds(&self, left: &Left) -> bool {
-        left.stopped(self.0, self.1)
-    }
+/// Whether a call over a text with these edits ends so, puts this line, writes no session and routes nothing.
+fn stops<T: Threads + Wait + Sync + Abort>(
+    rt: &T,
+    alloc: Global,
+    text: &str,
+    edits: &[(&str, &str)],
+    words: &str,
+    end: (Status, &'static str),
+) -> bool {
+    let wanted = Wanted {
+        status: end.0,
+        report: &[end.1],
+        session: None,
+        made: None,
+    };
+    leaves(rt, alloc, text, edits, words, &wanted)
 }
+
+static TEXTS: [(&str, &str); 9] = [
+    ("", "refused 6 at 0\n"),
+    (")", "refused 4 at 0\n"),
+    (DEEP, "refused 5 at 64\n"),
+    (CUT_IN_QUOTES, "refused 1 at 88\n"),
+    ("(", "refused 3 at 0\n"),
+    ("(pcb ", "refused 3 at 0\n"),
+    (
+        "(pcb T\n  (parser (string_quote \") (host_",
+        "refused 3 at 34\n",
+    ),
+    (CUT_IN_PLACEMENT, "refused 3 at 284\n"),
+    ("(pcb T\n  (parser (string_quote %", "refused 2 at 31\n"),
+];
 
 #[test]
 fn texts_without_a_design_are_refused(rt: HostRuntime) {
-    for &(text, line) in &[
-        ("", "refused 6 at 0\n"),
-        (")", "refused 4 at 0\n"),
-        (DEEP, "refused 5 at 64\n"),
-        (CUT_IN_QUOTES, "refused 1 at 88\n"),
-        ("(", "refused 3 at 0\n"),
-        ("(pcb ", "refused 3 at 0\n"),
-        (
-            "(pcb T\n  (parser (string_quote \") (host_",
-            "refused 3 at 34\n",
-        ),
-        (CUT_IN_PLACEMENT, "refused 3 at 284\n"),
-        ("(pcb T\n  (parser (string_quote %", "refused 2 at 31\n"),
-    ] {
-        let stops = Stops(Status::Refused, line);
-        assert!(rt; routes(&rt, rt.alloc(), text, &[], &stops), "{line}");
+    for &(text, line) in &TEXTS {
+        let end = (Status::Refused, line);
+        assert!(rt;
+            stops(&rt, rt.alloc(), text, &[], "route u.dsn u.ses", end),
+            "{line}"
+        );
     }
 }
 
-const BROKEN: [(&[(&str, &str)], Status, &str); 5] = [
+static BROKEN: [(&[(&str, &str)], Status, &str); 5] = [
     (
         &[("(wiring))\n", "(wiring")],
         Status::Refused,
@@ -109,56 +126,36 @@ const BROKEN: [(&[(&str, &str)], Status, &str); 5] = [
 #[test]
 fn designs_that_break_a_rule_are_refused_and_a_passed_limit_is_said(rt: HostRuntime) {
     for &(edits, status, line) in &BROKEN {
-        let stops = Stops(status, line);
+        let end = (status, line);
         assert!(rt;
-            routes(&rt, rt.alloc(), TWO_LAYERS, edits, &stops),
+            stops(&rt, rt.alloc(), TWO_LAYERS, edits, "route u.dsn u.ses", end),
             "{line}"
         );
     }
 }
 
-const WIDE: [(&str, &str); 1] = [("0 0 10000 10000", "0 0 200000 200000")];
+static WIDE: [(&str, &str); 1] = [("0 0 10000 10000", "0 0 200000 200000")];
 
-const STOPPED: [(&[&str], Status, &str); 14] = [
-    (&[], Status::Usage, "usage 1\n"),
-    (&["draw"], Status::Usage, "usage 2\n"),
-    (&["gen", "401"], Status::Usage, "usage 3\n"),
-    (&["route", "u.dsn"], Status::Usage, "usage 3\n"),
-    (&["route", "a", "-b"], Status::Usage, "usage 3\n"),
-    (&["route", "a", "b", "--grid"], Status::Usage, "usage 3\n"),
-    (&["route", "a", "b", "--grid=0"], Status::Usage, "usage 3\n"),
+static CALLS: [(&str, Status, &str); 14] = [
+    ("", Status::Usage, "usage 1\n"),
+    ("draw", Status::Usage, "usage 2\n"),
+    ("gen 401", Status::Usage, "usage 3\n"),
+    ("route u.dsn", Status::Usage, "usage 3\n"),
+    ("route a -b", Status::Usage, "usage 3\n"),
+    ("route a b --grid", Status::Usage, "usage 3\n"),
+    ("route a b --grid=0", Status::Usage, "usage 3\n"),
+    ("route a b --grid 5 --grid 5", Status::Usage, "usage 3\n"),
+    ("route a b --grid 100001", Status::Usage, "usage 3\n"),
+    ("route a b --omit-fixed=1", Status::Usage, "usage 3\n"),
+    ("route a b --passes 100", Status::Usage, "usage 3\n"),
+    ("route -- -a -b", Status::ReadFault, "read fault\n"),
     (
-        &["route", "a", "b", "--grid", "5", "--grid", "5"],
-        Status::Usage,
-        "usage 3\n",
-    ),
-    (
-        &["route", "a", "b", "--grid", "100001"],
-        Status::Usage,
-        "usage 3\n",
-    ),
-    (
-        &["route", "a", "b", "--omit-fixed=1"],
-        Status::Usage,
-        "usage 3\n",
-    ),
-    (
-        &["route", "a", "b", "--passes", "100"],
-        Status::Usage,
-        "usage 3\n",
-    ),
-    (
-        &["route", "--", "-a", "-b"],
+        "route v.dsn u.ses --grid 100000",
         Status::ReadFault,
         "read fault\n",
     ),
     (
-        &["route", "v.dsn", "u.ses", "--grid", "100000"],
-        Status::ReadFault,
-        "read fault\n",
-    ),
-    (
-        &["route", "u.dsn", "u.ses", "--grid", "1"],
+        "route u.dsn u.ses --grid 1",
         Status::Limit,
         "limit nodes 39999600001\n",
     ),
@@ -166,10 +163,10 @@ const STOPPED: [(&[&str], Status, &str); 14] = [
 
 #[test]
 fn calls_that_stop_say_why(rt: HostRuntime) {
-    for &(words, status, line) in &STOPPED {
-        let stops = Stops(status, line);
+    for &(words, status, line) in &CALLS {
+        let end = (status, line);
         assert!(rt;
-            leaves(&rt, rt.alloc(), CROSSING, &WIDE, words, &stops),
+            stops(&rt, rt.alloc(), CROSSING, &WIDE, words, end),
             "{line}"
         );
     }

@@ -1,12 +1,36 @@
 //! Designs that are routed: their sessions and reports.
 //! Each net gets least walks, or a cut for each of its islands.
 
-use crate::calls::{Left, Made, ROUTE, ROUTE_THRICE, Says, leaves, leaves_between, routes};
+use crate::calls::{Wanted, called, leaves};
 use crate::designs::{CROSSING, KICAD, ON_FRONT, TWO_LAYERS};
 use desk_io::NoGate;
 use dsn_route::Status;
 
-const CROSSING_SESSION: &str = "(session T
+/// What is shown, edits of a design, the words of a call, and what the call leaves.
+struct Route(
+    &'static str,
+    &'static [(&'static str, &'static str)],
+    &'static str,
+    Wanted<'static>,
+);
+
+/// Routes at a grid of 1 mm by one worker, in one pass and in three.
+const ROUTE: &str = "route u.dsn u.ses --grid 1000 --workers 1 --passes 1";
+
+const ROUTE_THRICE: &str = "route u.dsn u.ses --grid=1000 --workers=1 --passes=3";
+
+const SESSION_END: &str = "    )
+  )
+)
+";
+
+/// A session, whatever its text.
+const SESSION: Option<&[&str]> = Some(&[".."]);
+
+// ---- two nets whose pins lie across each other, on one layer
+
+/// The session up to its nets.
+const CROSSING_FRONT: &str = "(session T
   (base_design T)
   (placement
     (resolution um 10)
@@ -28,40 +52,20 @@ const CROSSING_SESSION: &str = "(session T
     (library_out
     )
     (network_out
-      (net A
+";
+
+/// Net A's wire, and the wires of both nets where net A's goes round net B's.
+const STRAIGHT: &str = "      (net A
         (wire (path F.Cu 2000 10000 50000 90000 50000))
       )
-    )
-  )
-)
 ";
 
-/// The sessions of the two pins on two layers, up to their nets, and after them.
-const PAIR_SESSION: &str = "(session T
-  (base_design T)
-  (placement
-    (resolution um 10)
-    (component P
-      (place C1 20000 50000 front 0)
-      (place C2 80000 50000 front 0)
-    )
-  )
-  (was_is
-  )
-  (routes
-    (resolution um 10)
-    (parser
-      (host_cad KiCad)
-      (host_version 8)
-    )
-    (library_out
-    )
-    (network_out
-";
-
-const SESSION_END: &str = "    )
-  )
-)
+const ROUND: &str = "      (net B
+        (wire (path F.Cu 2000 50000 20000 50000 80000))
+      )
+      (net A
+        (wire (path F.Cu 2000 10000 50000 10000 90000 90000 90000 90000 50000))
+      )
 ";
 
 /// Net B before net A.
@@ -100,6 +104,14 @@ run 0 6 0 8
 run 0 7 0 8
 run 0 8 0 8
 complete 1 open 1
+";
+
+const IN_ONE_PASS: &str = "pass 1 commits 2 open 0
+kept 1
+joins 0
+net B complete
+net A complete
+complete 2 open 0
 ";
 
 /// The rest of the report where net A's wire and a wall lie between the pins of net B.
@@ -165,156 +177,154 @@ const APART: [(&str, &str); 5] = [
     ),
 ];
 
-/// The call ends so, with a report of these parts, and leaves a session and a run.
-#[derive(Clone, Copy)]
-struct Routed(Status, [&'static str; 2]);
-
-impl Says for Routed {
-    fn holds(&self, left: &Left) -> bool {
-        left.says(self.0, &self.1) && left.session().is_some() && left.made().is_some()
-    }
-}
-
-const IN_ONE_PASS: &str = "pass 1 commits 2 open 0
-kept 1
-joins 0
-net B complete
-net A complete
-complete 2 open 0
-";
-
-const LEAST: [(&[(&str, &str)], Status, &str); 2] = [
-    (&[], Status::SomeOpen, ACROSS),
-    (&[NO_B_LAST, B_FIRST], Status::Complete, IN_ONE_PASS),
+static CROSSINGS: [Route; 5] = [
+    Route(
+        "net A lies across net B, which has a cut for each of its islands and no walk",
+        &[],
+        ROUTE,
+        Wanted {
+            status: Status::SomeOpen,
+            report: &[CROSSING_HEAD, ACROSS],
+            session: Some(&[CROSSING_FRONT, STRAIGHT, SESSION_END]),
+            made: Some((1, 1)),
+        },
+    ),
+    Route(
+        "net A takes a way of 16 mm round net B, which is laid first",
+        &[NO_B_LAST, B_FIRST],
+        ROUTE,
+        Wanted {
+            status: Status::Complete,
+            report: &[CROSSING_HEAD, IN_ONE_PASS],
+            session: Some(&[CROSSING_FRONT, ROUND, SESSION_END]),
+            made: Some((2, 1)),
+        },
+    ),
+    Route(
+        "a wire and a wall part net B",
+        &APART,
+        ROUTE,
+        Wanted {
+            status: Status::SomeOpen,
+            report: &[CROSSING_HEAD, WALLED],
+            session: SESSION,
+            made: Some((0, 1)),
+        },
+    ),
+    Route(
+        "net A, which the first pass laid, is ripped in the second and comes back in the third",
+        &[],
+        ROUTE_THRICE,
+        Wanted {
+            status: Status::Complete,
+            report: &[CROSSING_HEAD, "pass 1 commits 1 open 1\n", RIPPED],
+            session: SESSION,
+            made: Some((3, 3)),
+        },
+    ),
+    Route(
+        "net A, which was there, is ripped in the second pass and comes back in the third",
+        &[LAID],
+        ROUTE_THRICE,
+        Wanted {
+            status: Status::Complete,
+            report: &[CROSSING_HEAD, "pass 1 commits 0 open 1\n", RIPPED],
+            session: SESSION,
+            made: Some((2, 3)),
+        },
+    ),
 ];
 
 #[test]
-fn nets_get_least_walks_or_a_cut_for_each_island(rt: HostRuntime) {
-    for &(edits, status, rest) in &LEAST {
-        let routed = Routed(status, [CROSSING_HEAD, rest]);
-        assert!(rt; routes(&rt, rt.alloc(), CROSSING, edits, &routed), "{rest}");
-    }
-}
-
-/// The call ends so, with a report of these parts.
-struct Reports(Status, &'static [&'static str]);
-
-impl Says for Reports {
-    fn holds(&self, left: &Left) -> bool {
-        left.says(self.0, self.1)
-    }
-}
-
-const OPEN: Reports = Reports(Status::SomeOpen, &[CROSSING_HEAD, WALLED]);
-
-#[test]
-fn a_wire_and_a_wall_part_a_net_and_each_island_has_its_cut(rt: HostRuntime) {
-    assert!(rt; routes(&rt, rt.alloc(), CROSSING, &APART, &OPEN));
-}
-
-/// Net A is ripped in the second pass and comes back in the third, after a first pass of this line, by so many entries.
-struct Rips(&'static str, usize);
-
-impl Says for Rips {
-    fn holds(&self, left: &Left) -> bool {
-        let made = Made {
-            entries: self.1,
-            kept: 3,
-        };
-        left.says(Status::Complete, &[CROSSING_HEAD, self.0, RIPPED]) && left.made() == Some(made)
-    }
-}
-
-const RIPPED_TWICE: [(&[(&str, &str)], Rips); 2] = [
-    (&[], Rips("pass 1 commits 1 open 1\n", 3)),
-    (&[LAID], Rips("pass 1 commits 0 open 1\n", 2)),
-];
-
-#[test]
-fn a_later_pass_rips_what_is_in_the_way(rt: HostRuntime) {
-    for (edits, rips) in &RIPPED_TWICE {
+fn crossing_nets_get_least_walks_or_cuts_and_a_later_pass_rips_what_is_in_the_way(rt: HostRuntime) {
+    for Route(name, edits, line, wanted) in &CROSSINGS {
         assert!(rt;
-            leaves(&rt, rt.alloc(), CROSSING, edits, &ROUTE_THRICE, rips),
-            "{}",
-            rips.0
+            leaves(&rt, rt.alloc(), CROSSING, edits, line, wanted),
+            "{name}"
         );
     }
 }
 
-/// The path of the wire of net A in a session.
-fn path_of(session: &str) -> &str {
-    let Some((_, rest)) = session.split_once("(net A\n        (wire (path F.Cu 2000 ") else {
-        return "";
-    };
-    match rest.split_once(")") {
-        Some((path, _)) => path,
-        None => "",
-    }
-}
+// ---- two pins that face each other, on two layers
 
-/// The way along the axes from point to point of a path, which has two numbers for each.
-fn length_of(path: &str) -> u64 {
-    let mut length = 0u64;
-    let (mut before, mut last) = (None, None);
-    for word in path.split(' ') {
-        if let Ok(number) = word.parse::<i64>() {
-            length = length.wrapping_add(way(before, number));
-            before = last;
-            last = Some(number);
-        }
-    }
-    length
-}
+/// The lines of a report up to its passes: of one net, of two, of none and of three.
+const ONE_NET: &str = "board T
+layers 2 nets 1 pins 2
+grid 1000000 nodes 162
+dropped 0
+notes 0
+";
 
-/// How far a number is from the one of the point before, if there is one.
-fn way(before: Option<i64>, number: i64) -> u64 {
-    match before {
-        Some(before) => number.abs_diff(before),
-        None => 0,
-    }
-}
+const TWO_NETS: &str = "board T
+layers 2 nets 2 pins 2
+grid 1000000 nodes 162
+dropped 0
+notes 0
+";
 
-/// The session's text, empty where there is none.
-fn session_of(left: &Left) -> &str {
-    std::str::from_utf8(left.session().unwrap_or_default()).unwrap_or_default()
-}
+const NO_NET: &str = "board T
+layers 2 nets 0 pins 2
+grid 1000000 nodes 162
+dropped 0
+notes 0
+";
 
-/// Net A's way has this length in the session's numbers.
-#[derive(Clone, Copy)]
-struct GoesSoFar(u64);
+/// The same of two nets, with the place of a wire that is dropped.
+const ONE_DROPPED: &str = "board T
+layers 2 nets 2 pins 2
+grid 1000000 nodes 162
+dropped 1
+drop 577
+notes 0
+";
 
-impl Says for GoesSoFar {
-    fn holds(&self, left: &Left) -> bool {
-        length_of(path_of(session_of(left))) == self.0
-    }
-}
+const THREE_NETS: &str = "board T
+layers 2 nets 3 pins 2
+grid 1000000 nodes 162
+dropped 0
+notes 0
+";
 
-#[test]
-fn a_net_whose_straight_way_is_shut_takes_a_way_of_sixteen_mm(rt: HostRuntime) {
-    let edits = [NO_B_LAST, B_FIRST];
-    assert!(rt; routes(&rt, rt.alloc(), CROSSING, &edits, &GoesSoFar(160_000)));
-}
+/// The sessions of the two pins on two layers, up to their nets, and after them.
+const PAIR_SESSION: &str = "(session T
+  (base_design T)
+  (placement
+    (resolution um 10)
+    (component P
+      (place C1 20000 50000 front 0)
+      (place C2 80000 50000 front 0)
+    )
+  )
+  (was_is
+  )
+  (routes
+    (resolution um 10)
+    (parser
+      (host_cad KiCad)
+      (host_version 8)
+    )
+    (library_out
+    )
+    (network_out
+";
 
-/// The call writes a session of these parts.
-struct Writes(&'static [&'static str]);
+/// Net A's wire on the front and on the back.
+const FACING: &str = "      (net A
+        (wire (path F.Cu 2000 20000 50000 80000 50000))
+      )
+";
 
-impl Says for Writes {
-    fn holds(&self, left: &Left) -> bool {
-        left.wrote(self.0)
-    }
-}
+const ON_BACK: &str = "      (net A
+        (wire (path B.Cu 2000 20000 50000 80000 50000))
+      )
+";
 
-#[test]
-fn a_net_that_has_no_walk_is_left_out_of_the_session(rt: HostRuntime) {
-    assert!(rt; routes(&rt, rt.alloc(), CROSSING, &[], &Writes(&[CROSSING_SESSION])));
-}
-
-/// Whether the report of the two pins has so many nets and dropped wires, and ends so.
-fn has_report(left: &Left, status: Status, nets: &str, dropped: &str, rest: &str) -> bool {
-    let head = "board T\nlayers 2 nets ";
-    let nodes = " pins 2\ngrid 1000000 nodes 162\ndropped ";
-    left.says(status, &[head, nets, nodes, dropped, "\nnotes 0\n", rest])
-}
+const JOINED: &str = "pass 1 commits 1 open 0
+kept 1
+joins 0
+net A complete
+complete 1 open 0
+";
 
 /// The rest of the report where a wall parts the two pins on all layers.
 const PARTED: &str = "pass 1 commits 0 open 1
@@ -364,34 +374,6 @@ run 1 8 5 8
 complete 0 open 1
 ";
 
-/// What a net's way is in a session.
-const STRAIGHT: &str = "      (net A
-        (wire (path F.Cu 2000 20000 50000 80000 50000))
-      )
-";
-
-const JOINED: &str = "pass 1 commits 1 open 0
-kept 1
-joins 0
-net A complete
-complete 1 open 0
-";
-
-const ON_BACK: &str = "      (net A
-        (wire (path B.Cu 2000 20000 50000 80000 50000))
-      )
-";
-
-/// The two pins end so: with these nets in the session, and this at the end of the report.
-struct Pair(Status, &'static str, &'static str);
-
-impl Says for Pair {
-    fn holds(&self, left: &Left) -> bool {
-        has_report(left, self.0, "1", "0", self.2)
-            && left.wrote(&[PAIR_SESSION, self.1, SESSION_END])
-    }
-}
-
 const WALL_ON_FRONT: (&str, &str) = (
     "    (via V)\n",
     "    (keepout W (rect F.Cu 4900 0 5100 10000))\n    (via V)\n",
@@ -401,23 +383,6 @@ const WALL: (&str, &str) = (
     "    (via V)\n",
     "    (keepout W (rect signal 4900 0 5100 10000))\n    (via V)\n",
 );
-
-const PAIRS: [((&str, &str), Pair); 3] = [
-    (ON_FRONT, Pair(Status::Complete, STRAIGHT, JOINED)),
-    (WALL_ON_FRONT, Pair(Status::Complete, ON_BACK, JOINED)),
-    (WALL, Pair(Status::SomeOpen, "", PARTED)),
-];
-
-#[test]
-fn walks_keep_clear_of_keepouts_on_all_layers(rt: HostRuntime) {
-    for (edit, pair) in &PAIRS {
-        assert!(rt;
-            routes(&rt, rt.alloc(), TWO_LAYERS, &[*edit], pair),
-            "{}",
-            pair.1
-        );
-    }
-}
 
 /// One net, and two nets, without pins beside net A.
 const NET_B: (&str, &str) = ("(pins C1-1 C2-1)))", "(pins C1-1 C2-1)) (net B))");
@@ -451,28 +416,6 @@ const WITH_TOO_NEAR: &str = "      (net A
       )
 ";
 
-const AROUND_FIXED: [([(&str, &str); 3], Writes); 2] = [
-    (
-        [ON_FRONT, NET_B, BESIDE],
-        Writes(&[PAIR_SESSION, WITH_BESIDE, SESSION_END]),
-    ),
-    (
-        [ON_FRONT, NET_B, TOO_NEAR],
-        Writes(&[PAIR_SESSION, WITH_TOO_NEAR, SESSION_END]),
-    ),
-];
-
-#[test]
-fn fixed_wires_stay_and_are_kept_clear_of(rt: HostRuntime) {
-    for (edits, writes) in &AROUND_FIXED {
-        assert!(rt;
-            routes(&rt, rt.alloc(), TWO_LAYERS, edits, writes),
-            "{}",
-            edits[2].1
-        );
-    }
-}
-
 /// Fixed wires of both nets, and what they are in a session.
 const FIXED: [(&str, &str); 3] = [
     ON_FRONT,
@@ -491,26 +434,6 @@ const FIXED_NETS: &str = "      (net B
         (wire (path F.Cu 2000 30000 80000 50000 80000))
       )
 ";
-
-const OMITTING: [&str; 7] = [
-    "route",
-    "--omit-fixed",
-    "u.dsn",
-    "--passes=1",
-    "--grid",
-    "1000",
-    "u.ses",
-];
-
-const WHOLE: Writes = Writes(&[PAIR_SESSION, STRAIGHT, FIXED_NETS, SESSION_END]);
-
-const SHORT: Writes = Writes(&[PAIR_SESSION, STRAIGHT, SESSION_END]);
-
-#[test]
-fn fixed_wiring_is_printed_unless_it_is_omitted(rt: HostRuntime) {
-    assert!(rt; routes(&rt, rt.alloc(), TWO_LAYERS, &FIXED, &WHOLE));
-    assert!(rt; leaves(&rt, rt.alloc(), TWO_LAYERS, &FIXED, &OMITTING, &SHORT));
-}
 
 /// Free wires of net B: one too near a pad, and one that keeps from all.
 const FREE: [(&str, &str); 3] = [
@@ -536,20 +459,14 @@ net B complete
 complete 2 open 0
 ";
 
-/// One wire is dropped, whose place is told, and the other is kept.
-struct DropsOne;
-
-impl Says for DropsOne {
-    fn holds(&self, left: &Left) -> bool {
-        has_report(left, Status::Complete, "2", "1\ndrop 577", BOTH_COMPLETE)
-            && left.wrote(&[PAIR_SESSION, STRAIGHT, KEPT, SESSION_END])
-    }
-}
-
-#[test]
-fn free_wiring_that_is_not_legal_is_dropped_and_its_place_is_told(rt: HostRuntime) {
-    assert!(rt; routes(&rt, rt.alloc(), TWO_LAYERS, &FREE, &DropsOne));
-}
+const ALL_COMPLETE: &str = "pass 1 commits 1 open 0
+kept 1
+joins 0
+net A complete
+net B complete
+net C complete
+complete 3 open 0
+";
 
 const TURNED: [(&str, &str); 4] = [
     ("0 0 10000 10000", "-10000 -10000 20000 20000"),
@@ -561,37 +478,167 @@ const TURNED: [(&str, &str); 4] = [
     ("(pin PAD 1 0 0)", "(pin PAD 1 10000 0)"),
 ];
 
-/// The session has this piece.
-#[derive(Clone, Copy)]
-struct Has(&'static str);
+const TURNED_HEAD: &str = "board T
+layers 2 nets 1 pins 2
+grid 1000000 nodes 1740
+dropped 0
+notes 0
+";
 
-impl Says for Has {
-    fn holds(&self, left: &Left) -> bool {
-        session_of(left).contains(self.0)
+const TURNED_FRONT: &str = "(session T
+  (base_design T)
+  (placement
+    (resolution um 10)
+    (component P
+      (place C1 0 0 front 30)
+      (place C2 20000 50000 front 0)
+    )
+  )
+  (was_is
+  )
+  (routes
+    (resolution um 10)
+    (parser
+      (host_cad KiCad)
+      (host_version 8)
+    )
+    (library_out
+    )
+    (network_out
+";
+
+const TURNED_WIRE: &str = "      (net A
+        (wire (path F.Cu 2000 86603 50000 120000 50000))
+      )
+";
+
+static PAIRS: [Route; 10] = [
+    Route(
+        "pads on the front alone are joined on the front",
+        &[ON_FRONT],
+        ROUTE,
+        Wanted {
+            status: Status::Complete,
+            report: &[ONE_NET, JOINED],
+            session: Some(&[PAIR_SESSION, FACING, SESSION_END]),
+            made: Some((1, 1)),
+        },
+    ),
+    Route(
+        "a walk keeps clear of a wall on the front",
+        &[WALL_ON_FRONT],
+        ROUTE,
+        Wanted {
+            status: Status::Complete,
+            report: &[ONE_NET, JOINED],
+            session: Some(&[PAIR_SESSION, ON_BACK, SESSION_END]),
+            made: Some((1, 1)),
+        },
+    ),
+    Route(
+        "a wall on all layers parts the pins",
+        &[WALL],
+        ROUTE,
+        Wanted {
+            status: Status::SomeOpen,
+            report: &[ONE_NET, PARTED],
+            session: Some(&[PAIR_SESSION, SESSION_END]),
+            made: Some((0, 1)),
+        },
+    ),
+    Route(
+        "a fixed wire just far enough stays",
+        &[ON_FRONT, NET_B, BESIDE],
+        ROUTE,
+        Wanted {
+            status: Status::Complete,
+            report: &[TWO_NETS, BOTH_COMPLETE],
+            session: Some(&[PAIR_SESSION, WITH_BESIDE, SESSION_END]),
+            made: Some((1, 1)),
+        },
+    ),
+    Route(
+        "a fixed wire that is too near is kept clear of",
+        &[ON_FRONT, NET_B, TOO_NEAR],
+        ROUTE,
+        Wanted {
+            status: Status::Complete,
+            report: &[TWO_NETS, BOTH_COMPLETE],
+            session: Some(&[PAIR_SESSION, WITH_TOO_NEAR, SESSION_END]),
+            made: Some((1, 1)),
+        },
+    ),
+    Route(
+        "fixed wiring is printed",
+        &FIXED,
+        ROUTE,
+        Wanted {
+            status: Status::Complete,
+            report: &[THREE_NETS, ALL_COMPLETE],
+            session: Some(&[PAIR_SESSION, FACING, FIXED_NETS, SESSION_END]),
+            made: Some((1, 1)),
+        },
+    ),
+    Route(
+        "fixed wiring is omitted",
+        &FIXED,
+        "route --omit-fixed u.dsn --passes=1 --grid 1000 u.ses",
+        Wanted {
+            status: Status::Complete,
+            report: &[THREE_NETS, ALL_COMPLETE],
+            session: Some(&[PAIR_SESSION, FACING, SESSION_END]),
+            made: Some((1, 1)),
+        },
+    ),
+    Route(
+        "free wiring that is not legal is dropped and its place is told; the other is kept",
+        &FREE,
+        ROUTE,
+        Wanted {
+            status: Status::Complete,
+            report: &[ONE_DROPPED, BOTH_COMPLETE],
+            session: Some(&[PAIR_SESSION, FACING, KEPT, SESSION_END]),
+            made: Some((1, 1)),
+        },
+    ),
+    Route(
+        "a pin of a turned component is reached to a tenth of a um",
+        &TURNED,
+        ROUTE,
+        Wanted {
+            status: Status::Complete,
+            report: &[TURNED_HEAD, JOINED],
+            session: Some(&[TURNED_FRONT, TURNED_WIRE, SESSION_END]),
+            made: Some((1, 1)),
+        },
+    ),
+    Route(
+        "a design without nets is complete",
+        &[("(network (net A (pins C1-1 C2-1)))", "(network)")],
+        ROUTE,
+        Wanted {
+            status: Status::Complete,
+            report: &[
+                NO_NET,
+                "pass 1 commits 0 open 0\nkept 1\njoins 0\ncomplete 0 open 0\n",
+            ],
+            session: Some(&[PAIR_SESSION, SESSION_END]),
+            made: Some((0, 1)),
+        },
+    ),
+];
+
+#[test]
+fn walks_keep_clear_of_keepouts_and_fixed_wires_and_of_wiring_what_is_legal_stays(rt: HostRuntime) {
+    for Route(name, edits, line, wanted) in &PAIRS {
+        assert!(rt;
+            leaves(&rt, rt.alloc(), TWO_LAYERS, edits, line, wanted),
+            "{name}"
+        );
     }
 }
 
-#[test]
-fn a_pin_of_a_turned_component_is_reached_to_a_tenth_of_a_um(rt: HostRuntime) {
-    let wire = Has("(wire (path F.Cu 2000 86603 50000 120000 50000))");
-    assert!(rt; routes(&rt, rt.alloc(), TWO_LAYERS, &TURNED, &wire));
-}
-
-/// The report of the two pins has no net.
-struct HasNoNets;
-
-impl Says for HasNoNets {
-    fn holds(&self, left: &Left) -> bool {
-        let rest = "pass 1 commits 0 open 0\nkept 1\njoins 0\ncomplete 0 open 0\n";
-        has_report(left, Status::Complete, "0", "0", rest)
-    }
-}
-
-#[test]
-fn a_design_without_nets_is_complete(rt: HostRuntime) {
-    let none = [("(network (net A (pins C1-1 C2-1)))", "(network)")];
-    assert!(rt; routes(&rt, rt.alloc(), TWO_LAYERS, &none, &HasNoNets));
-}
+// ---- larger boards
 
 const GENERATED: &str = "board gen
 layers 2 nets 1 pins 2
@@ -604,20 +651,6 @@ joins 0
 net N0 complete
 complete 1 open 0
 ";
-
-/// The call completes the generated board with its report, and writes no session.
-struct Generates;
-
-impl Says for Generates {
-    fn holds(&self, left: &Left) -> bool {
-        left.says(Status::Complete, &[GENERATED]) && left.session().is_none()
-    }
-}
-
-#[test]
-fn a_generated_board_gets_the_short_report(rt: HostRuntime) {
-    assert!(rt; leaves(&rt, rt.alloc(), "", &[], &["gen", "1"], &Generates));
-}
 
 const OF_KICAD: &str = "board \"K board.dsn\"
 layers 2 nets 4 pins 8
@@ -634,56 +667,104 @@ net OUT complete
 complete 4 open 0
 ";
 
-const COMPLETE: Reports = Reports(Status::Complete, &[OF_KICAD]);
+static GENERATED_LEFT: Wanted<'static> = Wanted {
+    status: Status::Complete,
+    report: &[GENERATED],
+    session: None,
+    made: Some((1, 1)),
+};
+
+static KICAD_LEFT: Wanted<'static> = Wanted {
+    status: Status::Complete,
+    report: &[OF_KICAD],
+    session: SESSION,
+    made: Some((4, 1)),
+};
 
 #[test]
-fn a_board_as_kicad_writes_it_is_complete_in_one_pass(rt: HostRuntime) {
-    let words = ["route", "u.dsn", "u.ses"];
-    assert!(rt; leaves(&rt, rt.alloc(), KICAD, &[], &words, &COMPLETE));
+fn a_generated_board_gets_the_short_report_and_one_of_kicad_is_complete(rt: HostRuntime) {
+    assert!(rt; leaves(&rt, rt.alloc(), "", &[], "gen 1", &GENERATED_LEFT));
+    assert!(rt;
+        leaves(
+            &rt,
+            rt.alloc(),
+            KICAD,
+            &[],
+            "route u.dsn u.ses",
+            &KICAD_LEFT
+        )
+    );
 }
 
-/// What follows the head in the first half of the report.
-fn half_of_report() -> &'static str {
-    let half = (CROSSING_HEAD.len() + ACROSS.len()) / 2;
-    ACROSS
-        .get(..half.saturating_sub(CROSSING_HEAD.len()))
-        .unwrap_or_default()
-}
+// ---- faults
 
-/// The call ends so, leaves so many bytes of a session, or none, and a report of these parts.
-#[derive(Clone, Copy)]
-struct LeavesFront(Status, Option<usize>, [&'static str; 2]);
+/// What follows the head in the first half of the report, and the first half of the session.
+const HALF_REPORT: &str = "pass 1 commits 1 open 1
+kept 1
+joins 0
+net A complete
+net B open 2
+cut \"C3-1\" reached 36 blocked 9
+by smd 1
+by smd ";
 
-impl Says for LeavesFront {
-    fn holds(&self, left: &Left) -> bool {
-        left.says(self.0, &self.2) && left.session_len() == self.1
-    }
-}
+const HALF_SESSION: &str = "(session T
+  (base_design T)
+  (placement
+    (resolution um 10)
+    (component P
+      (place C1 10000 50000 front 0)
+      (place C2 90000 50000 front 0)
+      (place C3 50000 20000 front 0)
+      (place C4 50000 80000 front 0)
+    )
+  )
+";
+
+/// Which call of the desk and which put of the sink fails, and what is left then.
+static FAULTS: [((u64, u64), Wanted); 4] = [
+    (
+        (1, 0),
+        Wanted {
+            status: Status::ReadFault,
+            report: &["read fault\n"],
+            session: None,
+            made: None,
+        },
+    ),
+    (
+        (1, 1),
+        Wanted {
+            status: Status::WriteFault,
+            report: &["read "],
+            session: None,
+            made: None,
+        },
+    ),
+    (
+        (2, 0),
+        Wanted {
+            status: Status::WriteFault,
+            report: &[],
+            session: Some(&[HALF_SESSION]),
+            made: Some((1, 1)),
+        },
+    ),
+    (
+        (0, 1),
+        Wanted {
+            status: Status::WriteFault,
+            report: &[CROSSING_HEAD, HALF_REPORT],
+            session: Some(&[CROSSING_FRONT, STRAIGHT, SESSION_END]),
+            made: Some((1, 1)),
+        },
+    ),
+];
 
 #[test]
 fn faults_leave_a_front_of_what_was_due(rt: HostRuntime) {
-    let bytes = CROSSING.as_bytes();
-    let whole = CROSSING_SESSION.len();
-    let front = [CROSSING_HEAD, half_of_report()];
-    for &(fails, status, kept, report) in &[
-        ((1, 0), Status::ReadFault, None, ["read fault\n", ""]),
-        ((1, 1), Status::WriteFault, None, ["read ", ""]),
-        ((2, 0), Status::WriteFault, Some(whole / 2), ["", ""]),
-        ((0, 1), Status::WriteFault, Some(whole), front),
-    ] {
-        let leaves_front = LeavesFront(status, kept, report);
-        assert!(rt;
-            leaves_between(
-                &rt,
-                rt.alloc(),
-                bytes,
-                &ROUTE,
-                fails,
-                &NoGate,
-                &leaves_front
-            ),
-            "{}",
-            report[0]
-        );
+    for (fails, wanted) in &FAULTS {
+        let left = called(&rt, rt.alloc(), CROSSING.as_bytes(), ROUTE, *fails, &NoGate);
+        assert!(rt; left.is(wanted), "{} and {}", fails.0, fails.1);
     }
 }

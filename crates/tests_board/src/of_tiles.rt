@@ -12,6 +12,7 @@ use geo_kernel::Rect4;
 use pcb_model::{Design, PlainCopper};
 use pcb_tiles::Tiles;
 use std::alloc::Global;
+use std::process::Abort;
 
 /// A board of 12 mm by 12 mm with two layers, two nets, a via and two pins, and four wires and three vias as its free
 /// wiring, of which some cross and some are near.
@@ -103,15 +104,6 @@ const AREA: Rect4 = Rect4 {
     y1: 11_000_000,
 };
 
-fn laid_tiles(alloc: Global, d: &Design) -> Option<Tiles>
-    requires { IsSound d.now }
-    ensures { IfSome result (λ t. ServesSpread t d.now) }
-{
-    let mut tiles = fixed_tiles(alloc, d, AREA).ok()?;
-    lay_all(alloc, d, &mut tiles)?;
-    Some(tiles)
-}
-
 /// A share of tiles, which serves as they do.
 fn shared(d: &Design, tiles: &Tiles) -> Option<Tiles>
     requires { ServesSpread tiles.now d.now }
@@ -123,27 +115,21 @@ fn shared(d: &Design, tiles: &Tiles) -> Option<Tiles>
     }
 }
 
-/// Whether tiles with all free wiring answer as a plain list, and a share of them that is changed. Those that it was
-/// shared from are asked at the end.
-fn answers_laid(alloc: Global, d: &Design, laid: &Tiles) -> Option<[bool; 2]>
-    requires sound { IsSound d.now }
-    requires laid { ServesSpread laid.now d.now }
-{
-    let mut tiles = shared(d, laid)?;
-    change(alloc, d, &mut tiles)?;
-    Some([
-        is_as_plain(alloc, d, &tiles, false),
-        is_as_plain(alloc, d, laid, true),
-    ])
-}
-
-fn answers(alloc: Global) -> Option<[bool; 2]> {
-    let d = board(alloc, BOARD)?;
-    let laid = laid_tiles(alloc, &d)?;
-    answers_laid(alloc, &d, &laid)
+/// Whether a share of tiles with all free wiring, that is changed, answers as a plain list, and the tiles that it was
+/// shared from, which are asked at the end.
+fn answers<R: Abort>(rt: &R, alloc: Global) -> [bool; 2] {
+    let d = board(alloc, BOARD).expect(rt, "no board");
+    let mut laid = fixed_tiles(alloc, &d, AREA).expect(rt, "no tiles");
+    lay_all(alloc, &d, &mut laid).expect(rt, "not laid");
+    let mut tiles = shared(&d, &laid).expect(rt, "no share");
+    change(alloc, &d, &mut tiles).expect(rt, "not changed");
+    [
+        is_as_plain(alloc, &d, &tiles, false),
+        is_as_plain(alloc, &d, &laid, true),
+    ]
 }
 
 #[test]
 fn tiles_and_their_shares_answer_as_plain_lists_do(rt: HostRuntime) {
-    assert_eq!(rt; answers(rt.alloc()), Some([true; 2]));
+    assert_eq!(rt; answers(&rt, rt.alloc()), [true; 2]);
 }

@@ -47,17 +47,6 @@ pub(crate) const WALLS: &str = "(pcb C
   (network (net A (pins C1-1 C2-1)) (net B (pins C3-1 C4-1)))
   (wiring (wire (path F.Cu 200 1000 8000 1000 5000 9000 5000 9000 8000) (net A) (type route))))";
 
-fn chain_of(alloc: Global, um: &[(u16, u16)]) -> Result<List<Point>, AllocError> {
-    let mut chain = List::new(alloc);
-    for (x, y) in um {
-        chain.push(Point {
-            x: *x as i64 * 1_000,
-            y: *y as i64 * 1_000,
-        })?;
-    }
-    Ok(chain)
-}
-
 /// Whether a chain has these points, in um.
 pub(crate) fn is_chain(chain: &[Point], um: &[(u16, u16)]) -> bool {
     if chain.len() != um.len() {
@@ -74,7 +63,13 @@ pub(crate) fn is_chain(chain: &[Point], um: &[(u16, u16)]) -> bool {
 
 /// A list of metals with the one wire of 200 um on the first layer.
 fn wire(alloc: Global, um: &[(u16, u16)]) -> Result<List<Metal>, AllocError> {
-    let chain = chain_of(alloc, um)?;
+    let mut chain = List::new(alloc);
+    for (x, y) in um {
+        chain.push(Point {
+            x: *x as i64 * 1_000,
+            y: *y as i64 * 1_000,
+        })?;
+    }
     let mut add = List::new(alloc);
     add.push(Metal::Wire {
         layer: 0,
@@ -138,18 +133,14 @@ pub(crate) fn offer_of(alloc: Global, join: &Join) -> Result<Offer, AllocError> 
     })
 }
 
-/// What a board answers to an offer, or None where memory is wanting.
-fn answer(alloc: Global, board: &mut Board, join: &Join) -> Option<Answer> {
-    match offer_of(alloc, join) {
-        Ok(offer) => board.offer(offer).ok(),
-        Err(_) => None,
-    }
-}
-
 /// Whether a board answers so to one offer after another.
 pub(crate) fn answers(alloc: Global, board: &mut Board, steps: &[(Join, Answer)]) -> bool {
     for (join, want) in steps {
-        if answer(alloc, board, join) != Some(*want) {
+        let answer = match offer_of(alloc, join) {
+            Ok(offer) => board.offer(offer).ok(),
+            Err(_) => None,
+        };
+        if answer != Some(*want) {
             return false;
         }
     }

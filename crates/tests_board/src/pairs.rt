@@ -134,29 +134,20 @@ const WIRES: &str = "(pcb wires
     (via V 50600.999 50000 (net VCC) (type fix))
     (wire (path B 200 50000 40000 50000 60000) (net VCC) (type fix))))";
 
-/// Wires keep their clearance and half of each width, and items meet on each layer that both have.
-const AT_WIRES: [Pair; 6] = [
+const AT_WIRES: [Pair; 10] = [
+    // Wires keep their clearance and half of each width, and items meet on each layer that both have.
     Pair(0, 1, Meet(false, true)),
     Pair(0, 2, Meet(false, false)),
     Pair(0, 3, Meet(false, true)),
     Pair(0, 4, Meet(true, false)),
     Pair(0, 5, Meet(false, true)),
     Pair(1, 8, Meet(true, false)),
-];
-
-/// Items are far where their boxes or layers are.
-const FAR: [Pair; 4] = [
+    // Items are far where their boxes or layers are.
     Pair(1, 6, Far(true)),
     Pair(1, 7, Far(false)),
     Pair(0, 4, Far(false)),
     Pair(0, 5, Far(true)),
 ];
-
-#[test]
-fn wires_and_vias_agree_by_their_clearance_and_layers(rt: HostRuntime) {
-    assert_eq!(rt; held(rt.alloc(), WIRES, &AT_WIRES), 6);
-    assert_eq!(rt; held(rt.alloc(), WIRES, &FAR), 4);
-}
 
 // ---- vias at pads
 
@@ -239,26 +230,16 @@ const EDGE: &str = "(pcb edge
     (wire (path F 200 -299.9 1000 -299.9 2000) (net GND))
     (wire (path F 200 -300 1000 -300 2000) (net GND))))";
 
-const INSIDE: [Pair; 4] = [
+const AT_EDGE: [Pair; 8] = [
     Pair(0, 0, Lies(true, true)),
     Pair(1, 0, Lies(true, true)),
     Pair(2, 0, Lies(false, true)),
     Pair(3, 0, Lies(false, true)),
-];
-
-const FROM_EDGE: [Pair; 4] = [
     Pair(0, 0, Meet(false, true)),
     Pair(1, 0, Meet(false, false)),
     Pair(2, 0, Meet(false, false)),
     Pair(3, 0, Meet(false, true)),
 ];
-
-#[test]
-fn routed_copper_lies_as_its_net_wants_it_inside_and_keeps_from_the_edge(rt: HostRuntime) {
-    assert_eq!(rt; held(rt.alloc(), LAID, &LYING), 6);
-    assert_eq!(rt; held(rt.alloc(), EDGE, &INSIDE), 4);
-    assert_eq!(rt; held(rt.alloc(), EDGE, &FROM_EDGE), 4);
-}
 
 // ---- keepouts
 
@@ -289,14 +270,23 @@ const BANNED: [Pair; 7] = [
     Pair(1, 3, Meet(true, false)),
 ];
 
+// ---- all
+
+/// Wires and vias agree by their clearance and layers. Routed copper lies as its net wants it, inside, and keeps from
+/// the edge. A via stays off an smd pad unless it is allowed, and copper off keepouts that name it.
+static BOARDS: [(&str, &[Pair]); 6] = [
+    (WIRES, &AT_WIRES),
+    (LAID, &LYING),
+    (EDGE, &AT_EDGE),
+    (PAD, &AT_PAD),
+    (OPEN_PAD, &[Pair(0, 1, Meet(true, true))]),
+    (KEEPOUTS, &BANNED),
+];
+
 #[test]
-fn a_via_stays_off_an_smd_pad_unless_it_is_allowed_and_copper_off_keepouts_that_name_it(
-    rt: HostRuntime,
-) {
-    assert_eq!(rt; held(rt.alloc(), PAD, &AT_PAD), 2);
-    assert_eq!(rt;
-        held(rt.alloc(), OPEN_PAD, &[Pair(0, 1, Meet(true, true))]),
-        1
-    );
-    assert_eq!(rt; held(rt.alloc(), KEEPOUTS, &BANNED), 7);
+fn items_agree_by_their_rules_and_routed_copper_lies_as_its_net_wants_it(rt: HostRuntime) {
+    for &(text, rows) in &BOARDS {
+        let count = held(rt.alloc(), text, rows);
+        assert!(rt; count == rows.len() as u64, "{count} rows hold of {text}");
+    }
 }

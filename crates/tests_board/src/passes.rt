@@ -5,33 +5,20 @@ ghost use Rattle.pcb_model.specs.Plain.{IsPlainCopper};
 ghost use Rattle.pcb_model.specs.Sound.{IsSound};
 ghost use Rattle.route_lattice.specs.Fits.{FitsDesign};
 
+use crate::board::board;
 use crate::designs::CROSSING;
 use crate::gates::{AllCome, FirstWaits};
 use board_gen::design_text;
 use desk_io::{Gate, NoGate};
-use dsn_design::read_design;
 use geo_kernel::Point;
 use pcb_board::{Answer, Board, Entry};
 use pcb_model::{Design, Metal};
 use route_lattice::Lattice;
 use searcher_pool::{OfferNote, WorkerLog, run_pass};
 use std::alloc::{AllocError, Global};
+use std::process::Abort;
 use std::sync::Wait;
 use std::thread::Threads;
-
-// The design of a short text, or None where it is refused.
-fn design_of(alloc: Global, bytes: &[u8]) -> Option<Design>
-    ensures sound { IfSome result IsSound }
-    ensures plain { IfSome result IsPlainCopper }
-{
-    if bytes.len() > 1_000_000 {
-        return None;
-    }
-    match read_design(alloc, bytes) {
-        Ok(design) => Some(design),
-        Err(_) => None,
-    }
-}
 
 // The numbers below one.
 fn numbers(alloc: Global, count: u32) -> Result<Vec<u32>, AllocError>
@@ -58,7 +45,7 @@ fn tasks_of(alloc: Global, design: &Design) -> Option<Vec<u32>>
 }
 
 // What a pass of so many workers leaves of the board of a design, without a penalty.
-fn pass_over<R: Threads + Wait + Sync, G: Gate + Sync>(
+fn pass_over<R: Threads + Wait + Sync + Abort, G: Gate + Sync>(
     rt: &R,
     alloc: Global,
     design: Design,
@@ -66,7 +53,7 @@ fn pass_over<R: Threads + Wait + Sync, G: Gate + Sync>(
     tasks: Vec<u32>,
     workers: u32,
     gate: &G,
-) -> Option<(Board, Vec<WorkerLog>)>
+) -> (Board, Vec<WorkerLog>)
     requires sound { IsSound design }
     requires plain { IsPlainCopper design }
     requires fits { FitsDesign design lat.now }
@@ -74,43 +61,27 @@ fn pass_over<R: Threads + Wait + Sync, G: Gate + Sync>(
     requires few { vec_len tasks < 2 ^ 32 }
     requires workers { (1 ≤ workers) × (workers ≤ 16) }
 {
-    let (board, _) = Board::start(alloc, design, 524_288).ok()?;
-    run_pass(rt, alloc, board, lat, 2_000_000, workers, tasks, None, gate).ok()
-}
-
-// The same of a pass over all nets.
-fn passed_on<R: Threads + Wait + Sync, G: Gate + Sync>(
-    rt: &R,
-    alloc: Global,
-    design: Design,
-    lat: &Lattice,
-    workers: u32,
-    gate: &G,
-) -> Option<(Board, Vec<WorkerLog>)>
-    requires sound { IsSound design }
-    requires plain { IsPlainCopper design }
-    requires fits { FitsDesign design lat.now }
-    requires workers { (1 ≤ workers) × (workers ≤ 16) }
-{
-    let tasks = tasks_of(alloc, &design)?;
-    pass_over(rt, alloc, design, lat, tasks, workers, gate)
+    let (board, _) = Board::start(alloc, design, 524_288).expect(rt, "no board");
+    let passed = run_pass(rt, alloc, board, lat, 2_000_000, workers, tasks, None, gate);
+    passed.ok().expect(rt, "no pass")
 }
 
 // What a pass of so many workers over all nets leaves, at a grid in nm or the default one.
-fn passed<R: Threads + Wait + Sync, G: Gate + Sync>(
+fn passed<R: Threads + Wait + Sync + Abort, G: Gate + Sync>(
     rt: &R,
     alloc: Global,
-    text: &[u8],
+    text: &str,
     grid: Option<u64>,
     workers: u32,
     gate: &G,
-) -> Option<(Board, Vec<WorkerLog>)>
+) -> (Board, Vec<WorkerLog>)
     requires grid { IfSome grid (λ g. (1 ≤ g) × (g ≤ 2 ^ 30)) }
     requires workers { (1 ≤ workers) × (workers ≤ 16) }
 {
-    let design = design_of(alloc, text)?;
-    let lat = Lattice::of(alloc, &design, grid).ok()?;
-    passed_on(rt, alloc, design, &lat, workers, gate)
+    let design = board(alloc, text).expect(rt, "no design");
+    let lat = Lattice::of(alloc, &design, grid).expect(rt, "no lattice");
+    let tasks = tasks_of(alloc, &design).expect(rt, "no tasks");
+    pass_over(rt, alloc, design, &lat, tasks, workers, gate)
 }
 
 // How many of the notes are of commits.
@@ -188,25 +159,13 @@ fn came_too_late(logs: &[WorkerLog], history: &[Entry], held: u64) -> bool {
     late
 }
 
-// Whether the held worker came too late, and each commit has its entry.
-fn is_told(board: &Board, logs: &[WorkerLog], held: u64) -> bool {
-    let history = board.history().as_slice();
-    came_too_late(logs, history, held) && commits_in(logs) == history.len()
-}
-
-// Whether it is so of a pass of two workers over the crossing nets.
-fn two_are_told<R: Threads + Wait + Sync>(rt: &R, alloc: Global, gate: &FirstWaits) -> bool {
-    match passed(rt, alloc, CROSSING.as_bytes(), Some(1_000_000), 2, gate) {
-        Some((board, logs)) => is_told(&board, logs.as_slice(), gate.held()),
-        None => false,
-    }
-}
-
 #[test]
 fn an_offer_comes_too_late_for_another_worker(rt: HostRuntime) {
     let gate = FirstWaits::new();
-    assert!(rt; two_are_told(&rt, rt.alloc(), &gate));
-    assert!(rt; !gate.gave_up());
+    let (board, logs) = passed(&rt, rt.alloc(), CROSSING, Some(1_000_000), 2, &gate);
+    let history = board.history().as_slice();
+    assert!(rt; came_too_late(logs.as_slice(), history, gate.held()) && !gate.gave_up());
+    assert!(rt; commits_in(logs.as_slice()) == history.len());
 }
 
 // How many logs begin with an offer that rests on the opening board.
@@ -222,43 +181,17 @@ fn early_logs(logs: &[WorkerLog]) -> usize {
     count
 }
 
-// How many logs begin so where four workers make a pass over a design.
-fn early_over<R: Threads + Wait + Sync, G: Gate + Sync>(
-    rt: &R,
-    alloc: Global,
-    text: &[u8],
-    gate: &G,
-) -> Option<usize> {
-    let (_, logs) = passed(rt, alloc, text, None, 4, gate)?;
-    Some(early_logs(logs.as_slice()))
-}
-
-// The same of a generated board.
-fn early_of_four<R: Threads + Wait + Sync, G: Gate + Sync>(
-    rt: &R,
-    alloc: Global,
-    gate: &G,
-) -> Option<usize> {
-    match design_text(alloc, 8) {
-        Ok(text) => early_over(rt, alloc, text.as_slice(), gate),
-        Err(_) => None,
-    }
-}
-
 #[test]
 fn four_workers_plan_before_one_offers(rt: HostRuntime) {
     let gate = AllCome::new(4);
-    assert!(rt; early_of_four(&rt, rt.alloc(), &gate) == Some(4));
-    assert!(rt; !gate.gave_up());
-}
-
-// How many entries a pass of one worker makes, and how many logs there are.
-fn made_alone<R: Threads + Wait + Sync>(rt: &R, alloc: Global) -> Option<(usize, usize)> {
-    let (board, logs) = passed(rt, alloc, CROSSING.as_bytes(), Some(1_000_000), 1, &NoGate)?;
-    Some((board.history().len(), logs.len()))
+    let text = design_text(rt.alloc(), 8).expect(&rt, "no text");
+    let text = std::str::from_utf8(text.as_slice()).unwrap_or_default();
+    let (_, logs) = passed(&rt, rt.alloc(), text, None, 4, &gate);
+    assert!(rt; early_logs(logs.as_slice()) == 4 && !gate.gave_up());
 }
 
 #[test]
 fn one_worker_makes_a_pass(rt: HostRuntime) {
-    assert!(rt; made_alone(&rt, rt.alloc()) == Some((1, 1)));
+    let (board, logs) = passed(&rt, rt.alloc(), CROSSING, Some(1_000_000), 1, &NoGate);
+    assert!(rt; board.history().len() == 1 && logs.len() == 1);
 }

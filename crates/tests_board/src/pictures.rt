@@ -4,10 +4,10 @@
 ghost use Rattle.pcb_model.specs.Sound.{IsSound, Serves};
 
 use crate::board::opened;
-use board_picture::{OpenLine, open_lines, picture_text};
+use board_picture::{open_lines, picture_text};
 use pcb_board::{Board, Snap, boards_serve};
-use pcb_model::Design;
 use std::alloc::Global;
+use std::process::Abort;
 
 /// The wires and the via are fixed, so that the board's items are the design's.
 const DESIGN: &str = r#"(pcb "P&Q"
@@ -92,30 +92,22 @@ const PICTURE: &str =
 </svg>
 "##;
 
-/// Whether the picture is the text where these lines are open.
-fn is_picture(alloc: Global, d: &Design, lines: &[OpenLine]) -> bool {
-    match picture_text(alloc, d, d.fixed.as_slice(), lines) {
-        Ok(text) => text.as_slice() == PICTURE.as_bytes(),
-        Err(_) => false,
-    }
-}
-
-fn is_drawn(alloc: Global, snap: &Snap) -> bool
+/// Whether the picture of a board's design is the text.
+fn is_drawn<R: Abort>(rt: &R, alloc: Global, snap: &Snap) -> bool
     requires sound { IsSound snap.now.design }
     requires serves { Serves snap.now.items snap.now.design }
 {
     let d = snap.design();
-    match open_lines(alloc, d, snap) {
-        Ok(lines) => is_picture(alloc, d, lines.as_slice()),
-        Err(_) => false,
-    }
+    let lines = open_lines(alloc, d, snap).ok().expect(rt, "no lines");
+    let text = picture_text(alloc, d, d.fixed.as_slice(), lines.as_slice());
+    text.ok().expect(rt, "no picture").as_slice() == PICTURE.as_bytes()
 }
 
-fn is_drawn_on(alloc: Global, board: &Board) -> bool {
+fn is_drawn_on<R: Abort>(rt: &R, alloc: Global, board: &Board) -> bool {
     board.keeps();
     boards_serve();
     match board.snap() {
-        Ok(snap) => is_drawn(alloc, &snap),
+        Ok(snap) => is_drawn(rt, alloc, &snap),
         Err(_) => false,
     }
 }
@@ -124,5 +116,5 @@ fn is_drawn_on(alloc: Global, board: &Board) -> bool {
 fn a_picture_shows_all(rt: HostRuntime) {
     let alloc = rt.alloc();
     let board = opened(alloc, DESIGN).expect(&rt, "no board");
-    assert!(rt; is_drawn_on(alloc, &board));
+    assert!(rt; is_drawn_on(&rt, alloc, &board));
 }

@@ -20,6 +20,7 @@ use route_lattice::{Found, Lattice, Moves};
 use route_plan::{Planned, plan};
 use shove::shove_run;
 use std::alloc::Global;
+use std::process::Abort;
 use wave_search::least_walk;
 
 // ---- what is planned
@@ -227,23 +228,15 @@ fn are_so(alloc: Global, lat: &Lattice, snap: &Snap, rows: &[Tells]) -> bool
     true
 }
 
-fn hold_over(alloc: Global, snap: &Snap, rows: &[Tells]) -> bool
-    requires sound { IsSound snap.now.design }
-    requires plain { IsPlainCopper snap.now.design }
-    requires serves { Serves snap.now.items snap.now.design }
-{
-    match lattice_of(alloc, snap.design()) {
-        Some(lat) => are_so(alloc, &lat, snap, rows),
-        None => false,
-    }
-}
-
 /// Whether all of it is so of a board.
-fn hold(alloc: Global, board: &Board, rows: &[Tells]) -> bool {
+fn hold<R: Abort>(rt: &R, alloc: Global, board: &Board, rows: &[Tells]) -> bool {
     board.keeps();
     boards_serve();
     match board.snap() {
-        Ok(snap) => hold_over(alloc, &snap, rows),
+        Ok(snap) => {
+            let lat = lattice_of(alloc, snap.design()).expect(rt, "no lattice");
+            are_so(alloc, &lat, &snap, rows)
+        }
         Err(_) => false,
     }
 }
@@ -266,10 +259,10 @@ const STRAIGHT_OVER: Route = Route {
     shoves: &[],
 };
 
-const UNLAID: [Tells; 1] = [Tells::Plans(1, None, Want::Offer(STRAIGHT))];
+static UNLAID: [Tells; 1] = [Tells::Plans(1, None, Want::Offer(STRAIGHT))];
 
 /// Once the first net is laid. The walk over its wire is of 6 mm, and two of its moves are in the wire's way.
-const LAID: [Tells; 5] = [
+static LAID: [Tells; 5] = [
     Tells::Plans(1, None, Want::Shut(36)),
     Tells::Plans(0, None, Want::Whole),
     Tells::Plans(0, Some(10_000_000), Want::Whole),
@@ -281,8 +274,8 @@ const LAID: [Tells; 5] = [
 fn a_net_is_joined_by_a_least_walk_or_shut_in_or_whole_or_rips(rt: HostRuntime) {
     let alloc = rt.alloc();
     let mut board = opened(alloc, CROSS).expect(&rt, "no board");
-    assert!(rt; hold(alloc, &board, &UNLAID));
-    assert!(rt; takes_first(alloc, &mut board) && hold(alloc, &board, &LAID));
+    assert!(rt; hold(&rt, alloc, &board, &UNLAID));
+    assert!(rt; takes_first(alloc, &mut board) && hold(&rt, alloc, &board, &LAID));
 }
 
 /// The chain of the free wire between the walls, with its middle run on the next line.
@@ -323,7 +316,7 @@ const OVER: Route = Route {
     shoves: &[],
 };
 
-const WALLED: [Tells; 6] = [
+static WALLED: [Tells; 6] = [
     Tells::Plans(1, Some(500_000), Want::Offer(ALONG)),
     Tells::Plans(1, Some(10_000_000), Want::Offer(OVER)),
     Tells::Costs(11, 15, 500_000, 13_000_000),
@@ -336,5 +329,5 @@ const WALLED: [Tells; 6] = [
 fn a_wire_in_a_gap_is_shoved_where_it_fits_and_ripped_at_a_greater_penalty(rt: HostRuntime) {
     let alloc = rt.alloc();
     let board = opened(alloc, WALLS).expect(&rt, "no board");
-    assert!(rt; hold(alloc, &board, &WALLED));
+    assert!(rt; hold(&rt, alloc, &board, &WALLED));
 }

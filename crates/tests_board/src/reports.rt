@@ -8,6 +8,7 @@ use pcb_board::Board;
 use route_lattice::{Lattice, Reach};
 use route_report::{Facts, PassLine, report_text};
 use std::alloc::{AllocError, Global};
+use std::process::Abort;
 
 /// Two nets: the boundary is item 0, the pins are the items 1 and 2 of net 0, 3 and 4 of net 1, and 5 is a fixed wire
 /// of net 0. A name with a blank is printed between quotes.
@@ -110,7 +111,7 @@ fn cuts(alloc: Global) -> Result<List<Cut>, AllocError> {
     Ok(cuts)
 }
 
-const PASSES: [PassLine; 2] = [
+static PASSES: [PassLine; 2] = [
     PassLine {
         commits: 3,
         parted: 2,
@@ -121,27 +122,18 @@ const PASSES: [PassLine; 2] = [
     },
 ];
 
-/// The facts of the report, with empty lists.
-fn bare_facts(alloc: Global, nodes: u32) -> Facts {
+/// The facts of the report.
+fn facts<R: Abort>(rt: &R, alloc: Global, nodes: u32) -> Facts {
     Facts {
         grid: 1_000_000,
         nodes: u64::from(nodes),
-        dropped: List::new(alloc),
-        passes: List::new(alloc),
+        dropped: List::from_slice(alloc, &[77, 90]).expect(rt, "no places"),
+        passes: List::from_slice(alloc, &PASSES).expect(rt, "no passes"),
         kept: 2,
         joins: 1,
-        complete: List::new(alloc),
-        cuts: List::new(alloc),
+        complete: List::from_slice(alloc, &[0]).expect(rt, "no nets"),
+        cuts: cuts(alloc).expect(rt, "no cuts"),
     }
-}
-
-/// Gives the facts their lists.
-fn fill(alloc: Global, facts: &mut Facts) -> Result<(), AllocError> {
-    facts.dropped = List::from_slice(alloc, &[77, 90])?;
-    facts.passes = List::from_slice(alloc, &PASSES)?;
-    facts.complete = List::from_slice(alloc, &[0])?;
-    facts.cuts = cuts(alloc)?;
-    Ok(())
 }
 
 /// The report, with no contract, so that the proofs of its callers are short.
@@ -171,24 +163,17 @@ fn is_text(
 }
 
 /// Whether the report of the facts is the long text, and the short one.
-fn reports_on(alloc: Global, board: &Board, lat: &Lattice) -> bool {
-    let mut facts = bare_facts(alloc, lat.count());
-    fill(alloc, &mut facts).is_ok()
-        && is_text(alloc, board, lat, &facts, false, LONG)
-        && is_text(alloc, board, lat, &facts, true, SHORT)
-}
-
-fn reports(alloc: Global, board: &Board) -> bool {
+fn reports<R: Abort>(rt: &R, alloc: Global, board: &Board) -> bool {
     board.keeps();
-    match Lattice::of(alloc, board.design(), Some(1_000_000)) {
-        Ok(lat) => reports_on(alloc, board, &lat),
-        Err(_) => false,
-    }
+    let lat = Lattice::of(alloc, board.design(), Some(1_000_000)).expect(rt, "no lattice");
+    let facts = facts(rt, alloc, lat.count());
+    is_text(alloc, board, &lat, &facts, false, LONG)
+        && is_text(alloc, board, &lat, &facts, true, SHORT)
 }
 
 #[test]
 fn a_report_tells_what_blocks_and_what_is_reached_and_a_short_one_the_cuts_alone(rt: HostRuntime) {
     let alloc = rt.alloc();
     let board = opened(alloc, TWO_NETS).expect(&rt, "no board");
-    assert!(rt; reports(alloc, &board));
+    assert!(rt; reports(&rt, alloc, &board));
 }

@@ -1,65 +1,43 @@
 //! Runs of the top call with several workers, between gates.
 
-use crate::calls::{Left, Says, leaves_between};
+use crate::calls::called;
 use crate::designs::CROSSING;
 use crate::gates::{AllCome, FirstWaits};
 use board_gen::design_text;
 use desk_io::Gate;
+use dsn_route::Status;
 use std::alloc::Global;
+use std::process::Abort;
 use std::sync::Wait;
 use std::thread::Threads;
 
-// The call ended with a session, whole or with nets that are open.
-struct HasRouted;
-
-impl Says for HasRouted {
-    fn holds(&self, left: &Left) -> bool {
-        left.has_routed()
-    }
-}
-
-// Whether a call with these words routes a design between a gate.
-fn routes_between<R: Threads + Wait + Sync, G: Gate + Sync>(
+// Whether a call with the words of a line routes a design between a gate: it ends with a session, whole or with nets
+// that are open.
+fn routes<R: Threads + Wait + Sync + Abort, G: Gate + Sync>(
     rt: &R,
     alloc: Global,
     bytes: &[u8],
-    words: &[&str],
+    line: &str,
     gate: &G,
 ) -> bool {
-    leaves_between(rt, alloc, bytes, words, (0, 0), gate, &HasRouted)
+    let left = called(rt, alloc, bytes, line, (0, 0), gate);
+    matches!(left.status, Status::Complete | Status::SomeOpen)
 }
-
-const BY_TWO: [&str; 9] = [
-    "route",
-    "u.dsn",
-    "u.ses",
-    "--grid",
-    "1000",
-    "--workers",
-    "2",
-    "--passes",
-    "1",
-];
 
 #[test]
 fn two_workers_route_side_by_side(rt: HostRuntime) {
     let gate = FirstWaits::new();
-    assert!(rt; routes_between(&rt, rt.alloc(), CROSSING.as_bytes(), &BY_TWO, &gate));
+    let line = "route u.dsn u.ses --grid 1000 --workers 2 --passes 1";
+    assert!(rt; routes(&rt, rt.alloc(), CROSSING.as_bytes(), line, &gate));
     assert!(rt; !gate.gave_up());
 }
 
-// Whether four workers, as there are without an option, route a generated board.
-fn four_route<R: Threads + Wait + Sync, G: Gate + Sync>(rt: &R, alloc: Global, gate: &G) -> bool {
-    let words = ["route", "u.dsn", "u.ses", "--passes", "1"];
-    match design_text(alloc, 8) {
-        Ok(bytes) => routes_between(rt, alloc, bytes.as_slice(), &words, gate),
-        Err(_) => false,
-    }
-}
-
+// There are four workers without an option.
 #[test]
 fn four_workers_route_side_by_side(rt: HostRuntime) {
     let gate = AllCome::new(4);
-    assert!(rt; four_route(&rt, rt.alloc(), &gate));
+    let text = design_text(rt.alloc(), 8).expect(&rt, "no board");
+    let line = "route u.dsn u.ses --passes 1";
+    assert!(rt; routes(&rt, rt.alloc(), text.as_slice(), line, &gate));
     assert!(rt; !gate.gave_up());
 }

@@ -248,21 +248,29 @@ const SESSION_WITHOUT_WIRING: &str = "(session \"K board.dsn\"
 )
 ";
 
-const SESSIONS_OF_ALL: [Session; 2] = [
-    Session(ALL, false, SESSION_OF_ALL, 100),
-    Session(ALL, true, SESSION_WITHOUT_WIRING, 100),
+/// Each board with its sessions.
+static BOARDS: [(&str, &[Session]); 3] = [
+    (
+        TWO_PADS,
+        &[
+            Session(TWO_PADS, false, SESSION_OF_TWO_PADS, 100),
+            Session(FINE_WIRE, false, ROUNDED_SESSION, 100),
+        ],
+    ),
+    (FINE_WIRE, &[Session(FINE_WIRE, false, FINE_SESSION, 1)]),
+    (
+        ALL,
+        &[
+            Session(ALL, false, SESSION_OF_ALL, 100),
+            Session(ALL, true, SESSION_WITHOUT_WIRING, 100),
+        ],
+    ),
 ];
-
-const OF_TWO_PADS: [Session; 2] = [
-    Session(TWO_PADS, false, SESSION_OF_TWO_PADS, 100),
-    Session(FINE_WIRE, false, ROUNDED_SESSION, 100),
-];
-
-const OF_FINE_WIRE: [Session; 1] = [Session(FINE_WIRE, false, FINE_SESSION, 1)];
 
 #[test]
 fn sessions_are_byte_for_byte_these(rt: HostRuntime) {
-    assert_eq!(rt; held(rt.alloc(), TWO_PADS, &OF_TWO_PADS), 2);
-    assert_eq!(rt; held(rt.alloc(), FINE_WIRE, &OF_FINE_WIRE), 1);
-    assert_eq!(rt; held(rt.alloc(), ALL, &SESSIONS_OF_ALL), 2);
+    for &(text, rows) in &BOARDS {
+        let count = held(rt.alloc(), text, rows);
+        assert!(rt; count == rows.len() as u64, "{count} sessions of {text}");
+    }
 }

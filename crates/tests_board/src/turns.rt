@@ -9,6 +9,7 @@ use board_turn::{Pass, Turn};
 use pcb_board::{Answer, Board};
 use pcb_model::Copper;
 use std::alloc::Global;
+use std::process::Abort;
 use std::sync::Wait;
 
 /// A turn over the board of two nets that cross, and its two passes, or None where memory is wanting.
@@ -63,18 +64,18 @@ fn is_seen<R: Wait>(rt: &R, turn: &Turn, pass: &mut Pass) -> bool
 
 /// What the board answers to the first pass's wire and to the second pass's, which comes too late; whether the second
 /// pass sees the wire between; and how many entries the board has at the end.
-fn seen<R: Wait>(rt: &R, alloc: Global) -> Option<([Option<Answer>; 2], bool, usize)> {
-    let (turn, mut first, mut second) = start(alloc)?;
+fn seen<R: Wait + Abort>(rt: &R, alloc: Global) -> ([Option<Answer>; 2], bool, usize) {
+    let (turn, mut first, mut second) = start(alloc).expect(rt, "no turn");
     let taken = answer(rt, alloc, &turn, &mut first, &along(0));
     let seen = is_seen(rt, &turn, &mut second);
     let late = answer(rt, alloc, &turn, &mut second, &across(0, &[]));
-    let board = close(alloc, turn, first, second)?;
-    Some(([taken, late], seen, board.history().len()))
+    let board = close(alloc, turn, first, second).expect(rt, "no board");
+    ([taken, late], seen, board.history().len())
 }
 
 #[test]
 fn a_pass_sees_what_the_other_committed(rt: HostRuntime) {
     let taken = Some(Answer::Committed { number: 1 });
     let late = Some(Answer::Stale { item: 5, commit: 1 });
-    assert!(rt; seen(&rt, rt.alloc()) == Some(([taken, late], true, 1)));
+    assert!(rt; seen(&rt, rt.alloc()) == ([taken, late], true, 1));
 }

@@ -36,7 +36,7 @@ loop-image_pin-preserved c =
     ++ pins_at parts stacks number component place c.saturating_add-next.result (drop (i + 1) pins))
     (c.in_ok-push.ensures.ok ∙ ap (λ (p : Pin). c.loop-image_pin.pins ++ p ∷ []) is)
     ∙ ap (λ m. (c.loop-image_pin.pins ++ made ∷ []) ++ pins_at parts stacks number component place m
-      (drop (i + 1) pins))
+    (drop (i + 1) pins))
     c.saturating_add-next.ensures
     ∙ one_left (pins_at parts stacks number component place n) pins i pin c.loop-image_pin.pins made
     (pins_at parts stacks number component place (plus n 1) (drop (i + 1) pins))

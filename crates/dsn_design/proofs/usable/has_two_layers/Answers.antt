@@ -9,7 +9,7 @@ use Rattle.dsn_design.proofs.usable.has_two_layers.Goals as goal
 other_than : (all : List Piece) (first : Piece) → Any (HasOther all) all → HasOther all first
 other_than all first (i, a, before, a_is, (k, b, within, b_is, apart)) =
     ⊎_elim (λ (l : first.layer < a.layer).
-        (i, a, before, a_is, λ (e : first.layer ≡ a.layer). absurd (omega (arith, l, e))))
+    (i, a, before, a_is, λ (e : first.layer ≡ a.layer). absurd (omega (arith, l, e))))
     (λ (l : a.layer ≤ first.layer). ⊎_elim
     (λ (m : a.layer < first.layer). (i, a, before, a_is, λ (e : first.layer ≡ a.layer). absurd (omega (arith, m, e))))
     (λ (m : first.layer ≤ a.layer). (k, b, within, b_is, λ (e : first.layer ≡ b.layer). apart (omega (arith, l, m, e))))

@@ -22,5 +22,5 @@ returns-in-Some-clause-within c =
     let near : IsWithin (2 ^ 30) c.rotate.result = subst (IsWithin (2 ^ 30)) (sym c.rotate.ensures.value)
     (turned_small c.in-Some.mount.angle c.args.p (2 ^ 29) c.requires.p_within) in
     let mount : IsMountWithin c.in-Some.mount =
-        subst (λ o. IfSome o IsMountWithin) c.in-Some.is c.requires.pin_within in
+    subst (λ o. IfSome o IsMountWithin) c.in-Some.is c.requires.pin_within in
     subst (IsWithin (2 ^ 31)) (sym c.moved.ensures) (moved_near c.in-Some.mount.at c.rotate.result mount.at near)

@@ -96,19 +96,10 @@ pub fn tell_on_list<R: Runtime>(
     }
 }
 
-fn run<R: Runtime>(rt: &R, alloc: Global, calls: u64, is_timed: bool) -> io::Result<()> {
+/// So many searches on the plain list of the board's wires, and their time if it is told.
+pub fn run<R: Runtime>(rt: &R, alloc: Global, calls: u64, is_timed: bool) -> io::Result<()> {
     match board(alloc) {
         Some(d) => tell_on_list(rt, alloc, &d, calls, is_timed),
         None => println!(rt; "no board"),
     }
-}
-
-/// Ten searches.
-pub fn run_small<R: Runtime>(rt: &R, alloc: Global) -> io::Result<()> {
-    run(rt, alloc, 10, false)
-}
-
-/// So many searches, and their time.
-pub fn run_timed<R: Runtime>(rt: &R, alloc: Global, calls: u64) -> io::Result<()> {
-    run(rt, alloc, calls, true)
 }

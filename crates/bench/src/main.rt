@@ -22,7 +22,7 @@ use std::{env, io};
 /// A small round of each.
 fn run_small<R: Runtime>(rt: &R, alloc: Global) -> io::Result<()> {
     pairs::run_small(rt, alloc)?;
-    blocks::run_small(rt, alloc)?;
+    blocks::run(rt, alloc, 10, false)?;
     boards::run_small(rt, alloc)?;
     texts::run_small(rt, alloc)?;
     walks::tell_turns(rt, alloc, 40)
@@ -32,7 +32,7 @@ fn run_small<R: Runtime>(rt: &R, alloc: Global) -> io::Result<()> {
 fn run<R: Runtime>(rt: &R, alloc: Global, word: &str, number: u64) -> io::Result<()> {
     match word {
         "pairs" => pairs::run_timed(rt, alloc, number),
-        "blocks" => blocks::run_timed(rt, alloc, number),
+        "blocks" => blocks::run(rt, alloc, number, true),
         "board" => boards::run_timed(rt, alloc, number),
         "texts" => texts::run_timed(rt, alloc, number),
         "speed" => walks::tell_speeds(rt, alloc),

@@ -36,15 +36,6 @@ enum Kind {
     Polygon64,
 }
 
-fn name(kind: Kind) -> &'static str {
-    match kind {
-        Kind::Circle => "circles",
-        Kind::Segment => "segments",
-        Kind::Polygon8 => "polygons of 8",
-        Kind::Polygon64 => "polygons of 64",
-    }
-}
-
 fn make(alloc: Global, kind: Kind, numbers: &mut Numbers, span: u32) -> Result<Figure, AllocError>
     requires some { 0 < span }
     requires small { span ≤ 2 ^ 27 }
@@ -88,16 +79,19 @@ fn count(firsts: &[Figure], seconds: &[Figure]) -> u64 {
     kept
 }
 
-/// How many tests a second these were.
-fn a_second(tests: u64, nanos: u128) -> u128 {
-    u128::from(tests) * 1_000_000_000 / nanos.max(1)
-}
-
-fn tell_tests<R: Runtime>(rt: &R, tests: u64, kept: u64, speed: Option<u128>) -> io::Result<()> {
-    match speed {
-        Some(speed) => println!(rt; "of {tests} tests {kept} keep, {speed} a second"),
-        None => println!(rt; "of {tests} tests {kept} keep"),
+/// Tells how many tests keep the distance, and how many a second these were where that is told.
+fn tell_tests<R: Runtime>(
+    rt: &R,
+    tests: u64,
+    kept: u64,
+    nanos: u128,
+    is_timed: bool,
+) -> io::Result<()> {
+    if !is_timed {
+        return println!(rt; "of {tests} tests {kept} keep");
     }
+    let speed = u128::from(tests) * 1_000_000_000 / nanos.max(1);
+    println!(rt; "of {tests} tests {kept} keep, {speed} a second")
 }
 
 /// Tests each pair of a first and a second figure, and tells how many keep the distance, and how fast it is.
@@ -115,19 +109,19 @@ fn tell_round<R: Runtime>(
     let nanos = watch.nanos(rt);
     let pairs = plan.figures.wrapping_mul(plan.figures);
     let tests = plan.rounds.wrapping_mul(pairs);
-    tell_tests(
-        rt,
-        tests,
-        kept,
-        plan.timed.then_some(a_second(tests, nanos)),
-    )
+    tell_tests(rt, tests, kept, nanos, plan.timed)
 }
 
 fn round<R: Runtime>(rt: &R, alloc: Global, kind: Kind, span: u32, plan: Plan) -> io::Result<()>
     requires some { 0 < span }
     requires small { span ≤ 2 ^ 27 }
 {
-    let name = name(kind);
+    let name = match kind {
+        Kind::Circle => "circles",
+        Kind::Segment => "segments",
+        Kind::Polygon8 => "polygons of 8",
+        Kind::Polygon64 => "polygons of 64",
+    };
     println!(rt; "{name} against segments in {span} nm")?;
     let mut numbers = Numbers::new(1);
     let firsts = make_all(alloc, kind, &mut numbers, span, plan.figures)?;

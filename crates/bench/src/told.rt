@@ -21,16 +21,12 @@ impl Watch {
     /// The nanoseconds since it began; 0 where the host has no clock.
     pub fn nanos<R: Runtime>(self, rt: &R) -> u128 {
         match self.begun {
-            Some(begun) => nanos_since(rt, begun),
+            Some(begun) => match begun.elapsed(rt) {
+                Ok(time) => time.as_nanos(),
+                Err(_) => 0,
+            },
             None => 0,
         }
-    }
-}
-
-fn nanos_since<R: Runtime>(rt: &R, begun: Instant) -> u128 {
-    match begun.elapsed(rt) {
-        Ok(time) => time.as_nanos(),
-        Err(_) => 0,
     }
 }
 

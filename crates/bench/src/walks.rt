@@ -144,10 +144,6 @@ fn tell_turns_among<R: Runtime>(rt: &R, alloc: Global, side: u32, walls: u32) ->
     }
 }
 
-fn is_found(found: &Found) -> bool {
-    matches!(found, Found::Walk(_))
-}
-
 /// Whether a search between two cells finds a walk.
 fn is_walk<T: Ties>(
     alloc: Global,
@@ -162,31 +158,13 @@ fn is_walk<T: Ties>(
     ensures { search.new ≡ search.old }
 {
     match between(alloc, search, cells, ties, from, to) {
-        Ok(found) => is_found(&found),
-        Err(_) => false,
+        Ok(Found::Walk(_)) => true,
+        _ => false,
     }
 }
 
-/// The time of the second of two searches, in nanoseconds, and whether both find a walk.
-fn second_nanos<R: Runtime, T: Ties>(
-    rt: &R,
-    alloc: Global,
-    search: &mut Search,
-    cells: &Cells,
-    ties: &T,
-    from: u32,
-    to: u32,
-) -> (u128, bool)
-    requires size { search.old ≡ length cells.now.prices }
-    requires from { from < length cells.now.prices }
-{
-    let first = is_walk(alloc, search, cells, ties, from, to);
-    let watch = Watch::start(rt);
-    let second = is_walk(alloc, search, cells, ties, from, to);
-    (watch.nanos(rt), first && second)
-}
-
-/// The same in memory of its own, which the first search has written; none where that is wanting.
+/// The time of the second of two searches in memory of their own, which the first has written, in nanoseconds, and
+/// whether both find a walk; none where memory is wanting.
 fn nanos_between<R: Runtime, T: Ties>(
     rt: &R,
     alloc: Global,
@@ -200,7 +178,10 @@ fn nanos_between<R: Runtime, T: Ties>(
     match Search::new(alloc, cells.count()) {
         Ok(memory) => {
             let mut search = memory;
-            second_nanos(rt, alloc, &mut search, cells, ties, from, to)
+            let first = is_walk(alloc, &mut search, cells, ties, from, to);
+            let watch = Watch::start(rt);
+            let second = is_walk(alloc, &mut search, cells, ties, from, to);
+            (watch.nanos(rt), first && second)
         }
         Err(_) => (0, false),
     }

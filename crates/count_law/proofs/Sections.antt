@@ -22,7 +22,7 @@ use Rattle.dsn_placement.specs.Places.{places_in}
 use Rattle.dsn_placement.specs.Placing.{components, lists_passed as places_passed, placements}
 use Rattle.dsn_network.specs.Words.{rules_in, words_in}
 use Rattle.dsn_network.specs.Classes.{circuits_in, is_stray, stray_names}
-use Rattle.dsn_network.specs.Whole.{class_lists, classes_passed, net_lists, nets_passed, network_passed, networks}
+use Rattle.dsn_network.specs.Whole.{class_lists, classes_passed, net_lists, network_passed, networks}
 use Rattle.dsn_network.specs.Whole.{rules_passed}
 use Rattle.dsn_wiring.specs.Whole.{lists_passed as wires_passed, wire_lists, wirings}
 use Rattle.dsn_design.specs.Sound.{weight}
@@ -45,7 +45,7 @@ head_weight pcb = omega (
 -- ---- the structure
 -- its sections, layers and controls
 frame_weight : (structs : List Tree) → frame_notes structs ≤ 3 * weight structs
-unfolding frame_notes structure_passed
+unfolding structure_passed
 frame_weight structs = omega (
   arith,
   notes_weight list.Structure structs,
@@ -176,7 +176,7 @@ stray_weight nets classes =
 -- its sections, nets, classes and circuits
 network_within : (sections nets classes : List Tree)
     → network_passed sections nets classes ≤ weight sections + (weight nets + 3 * weight classes)
-unfolding network_passed nets_passed classes_passed
+unfolding network_passed classes_passed
 network_within sections nets classes = omega (
   arith,
   notes_weight list.Network sections,

@@ -18,7 +18,7 @@ use Rattle.dsn_network.specs.Classes.{circuits_in, class_refusals, unknown_via, 
 use Rattle.dsn_network.specs.Nets.{first_net, is_placed, net_pins, net_refusals, nets_refusals}
 use Rattle.dsn_network.specs.Nets.{pins_taken, ref_refusals, ref_taken, refs_of, split_refusals, split_taken}
 use Rattle.dsn_network.specs.Nets.{taken_from}
-use Rattle.dsn_network.specs.Whole.{class_lists, classes_left_out, net_lists, nets_left_out, network_left_out}
+use Rattle.dsn_network.specs.Whole.{class_lists, classes_left_out, net_lists, network_left_out}
 use Rattle.dsn_network.specs.Whole.{network_refusals, networks, refusals_of}
 
 -- ---- references of pins
@@ -82,10 +82,11 @@ class_tabled nm stacks t = both _ _ (vias_tabled stacks (via_lists (t ∷ []))) 
 
 -- ---- the whole
 left_out_tabled : (sections nets classes : List Tree) → AreTabled (network_left_out sections nets classes)
-unfolding network_left_out nets_left_out classes_left_out
+unfolding network_left_out classes_left_out
 left_out_tabled sections nets classes =
-    both _ _ (both _ _ (all_left_out_tabled sections) (all_left_out_tabled nets))
-    (both _ _ (all_left_out_tabled classes) (all_left_out_tabled (circuits_in classes)))
+    both _ _ (all_left_out_tabled sections)
+    (both _ _ (all_left_out_tabled nets)
+    (both _ _ (all_left_out_tabled classes) (all_left_out_tabled (circuits_in classes))))
 
 parts_tabled : (nm : ℕ) (lib : Library) (placing : Placing) (sections nets classes : List Tree)
     → AreTabled (refusals_of nm lib placing sections nets classes)

@@ -24,13 +24,6 @@ abbrev pub class_lists : Tree → List Tree
 class_lists pcb = lists (codes "class" ∷ []) (networks pcb)
 
 -- ---- lists that are left out or passed over, beside those of the table `read_in` and `idle_in`
--- directly in the sections and the nets
-unfoldable pub nets_left_out : List Tree → List Tree → List Refusal
-nets_left_out sections nets = left_out_in sections ++ left_out_in nets
-
-unfoldable pub nets_passed : List Tree → List Tree → ℕ
-nets_passed sections nets = notes_in list.Network sections + notes_in list.Net nets
-
 -- directly in the classes and their circuits
 unfoldable pub classes_left_out : List Tree → List Refusal
 classes_left_out classes = left_out_in classes ++ left_out_in (circuits_in classes)
@@ -44,12 +37,14 @@ rules_passed ts = sum_by (λ t. rule_notes (rules_in (t ∷ []))) ts
 
 -- all refusals beside the parts, of a network with these sections, nets and classes
 unfoldable pub network_left_out : List Tree → List Tree → List Tree → List Refusal
-network_left_out sections nets classes = nets_left_out sections nets ++ classes_left_out classes
+network_left_out sections nets classes =
+    left_out_in sections ++ (left_out_in nets ++ classes_left_out classes)
 
 -- a class's name of no net is passed over too
 unfoldable pub network_passed : List Tree → List Tree → List Tree → ℕ
 network_passed sections nets classes =
-    nets_passed sections nets + (classes_passed classes + stray_names (names_at 1 nets) classes)
+    notes_in list.Network sections + notes_in list.Net nets
+    + (classes_passed classes + stray_names (names_at 1 nets) classes)
 
 -- ---- the whole
 -- all refusals of a network with these sections, nets and classes

@@ -76,7 +76,7 @@ fn pass_over_classes(
 }
 
 // Passes over what stands beside the parts; `names` are those of the nets.
-#[tactic(auto, unfolding(crate::specs::Whole::network_left_out, crate::specs::Whole::network_passed, crate::specs::Whole::nets_left_out, crate::specs::Whole::nets_passed))]
+#[tactic(auto, unfolding(crate::specs::Whole::network_left_out, crate::specs::Whole::network_passed))]
 fn pass_over_network(
     alloc: Global,
     first: &mut Option<Refusal>,

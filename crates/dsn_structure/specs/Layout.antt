@@ -131,7 +131,7 @@ unfoldable pub frame_refusals : Tree → List Tree → List Tree → List Refusa
 frame_refusals pcb structs bounds = missing pcb structs (layer_lists structs) bounds
     ++ (lists_left_out structs (layer_lists structs) (controls structs) ++ layer_refusals (layer_lists structs))
 
-unfoldable pub frame_notes : List Tree → ℕ
+abbrev pub frame_notes : List Tree → ℕ
 frame_notes structs = lists_passed structs (layer_lists structs) (controls structs)
 
 -- all refusals of a structure of these sections, with these boundaries, keepouts and rules

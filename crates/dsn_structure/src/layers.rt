@@ -112,7 +112,7 @@ pub(crate) struct Frame {
 }
 
 /// What the layers and the other lists of the structure are, and which parts are missing.
-#[tactic(auto, unfolding(crate::specs::Layout::frame_refusals, crate::specs::Layout::frame_layers, crate::specs::Layout::frame_notes))]
+#[tactic(auto, unfolding(crate::specs::Layout::frame_refusals, crate::specs::Layout::frame_layers))]
 pub(crate) fn read_frame(
     alloc: Global,
     first: &mut Option<Refusal>,

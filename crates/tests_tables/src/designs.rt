@@ -27,15 +27,6 @@ fn tree_refusal(fault: &TreeFault) -> Option<Refusal> {
     }
 }
 
-/// The refusal of a text without a design, or None where memory was wanting.
-fn refusal_of(fault: &DesignFault) -> Option<Refusal> {
-    match fault {
-        DesignFault::Spelling(fault) => tree_refusal(fault),
-        DesignFault::Refused(refusal) => Some(*refusal),
-        DesignFault::Memory(_) => None,
-    }
-}
-
 fn word_of(what: What) -> &'static str {
     match what {
         What::Nothing => "nothing",
@@ -76,7 +67,12 @@ fn put_refusal(words: &mut String, refusal: Refusal) -> Result<(), AllocError> {
 }
 
 fn put_fault(words: &mut String, fault: &DesignFault) -> Result<(), AllocError> {
-    match refusal_of(fault) {
+    let refusal = match fault {
+        DesignFault::Spelling(fault) => tree_refusal(fault),
+        DesignFault::Refused(refusal) => Some(*refusal),
+        DesignFault::Memory(_) => None,
+    };
+    match refusal {
         Some(refusal) => put_refusal(words, refusal),
         None => words.push_str("memory is wanting"),
     }

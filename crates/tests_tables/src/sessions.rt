@@ -16,13 +16,6 @@ fn put_point(words: &mut String, point: Point) -> Result<(), AllocError> {
     )
 }
 
-fn put_chain(words: &mut String, chain: &[Point]) -> Result<(), AllocError> {
-    for point in chain {
-        put_point(words, *point)?;
-    }
-    Ok(())
-}
-
 /// Puts ` wire LAYER WIDTH X Y ..` or ` via PADSTACK X Y`.
 fn put_metal(words: &mut String, metal: &Metal) -> Result<(), AllocError> {
     match metal {
@@ -36,7 +29,10 @@ fn put_metal(words: &mut String, metal: &Metal) -> Result<(), AllocError> {
                 (" wire ", i128::from(*layer)),
                 (" ", i128::from(*width)),
             )?;
-            put_chain(words, chain.as_slice())
+            for point in chain.as_slice() {
+                put_point(words, *point)?;
+            }
+            Ok(())
         }
         Metal::Via { padstack, at } => {
             put(
@@ -49,21 +45,16 @@ fn put_metal(words: &mut String, metal: &Metal) -> Result<(), AllocError> {
     }
 }
 
-/// Puts the net, the place and the copper of an item.
-fn put_item(words: &mut String, item: &SesItem) -> Result<(), AllocError> {
-    put_two(
-        words,
-        (" | net ", i128::from(item.net)),
-        (" at ", i128::from(item.at)),
-    )?;
-    put_metal(words, &item.metal)
-}
-
-/// Puts `read`, and each item.
+/// Puts `read`, and the net, the place and the copper of each item.
 fn put_items(words: &mut String, items: &[SesItem]) -> Result<(), AllocError> {
     words.push_str("read")?;
     for item in items {
-        put_item(words, item)?;
+        put_two(
+            words,
+            (" | net ", i128::from(item.net)),
+            (" at ", i128::from(item.at)),
+        )?;
+        put_metal(words, &item.metal)?;
     }
     Ok(())
 }

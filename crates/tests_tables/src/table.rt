@@ -72,14 +72,6 @@ fn check_lines<R: Print + AllocGlobal, A: Answers>(
     Ok(counts)
 }
 
-fn print_counts<R: Print>(rt: &R, counts: Counts) -> io::Result<()> {
-    let Counts { texts, others } = counts;
-    if others == 0 {
-        return println!(rt; "{texts} texts, all answered as the table says");
-    }
-    println!(rt; "{texts} texts, {others} answered otherwise")
-}
-
 /// Checks each line of the table in a file. Prints each whose text gets another answer than it wants, and how many
 /// texts there are.
 pub(crate) fn check_table<R: Files + Print + AllocGlobal, A: Answers>(
@@ -90,5 +82,9 @@ pub(crate) fn check_table<R: Files + Print + AllocGlobal, A: Answers>(
     let table = fs::read_to_string(rt, file)?;
     let counts = check_lines(rt, reader, table.as_str());
     drop(table);
-    print_counts(rt, counts?)
+    let Counts { texts, others } = counts?;
+    if others == 0 {
+        return println!(rt; "{texts} texts, all answered as the table says");
+    }
+    println!(rt; "{texts} texts, {others} answered otherwise")
 }

@@ -9,17 +9,13 @@ pub(crate) enum Piece<'a> {
     Number(i128),
 }
 
-fn put_piece(words: &mut String, piece: Piece) -> Result<(), AllocError> {
-    match piece {
-        Piece::Text(text) => words.push_str(text),
-        Piece::Number(number) => write!(words, "{number}"),
-    }
-}
-
 /// Puts all pieces.
 pub(crate) fn put(words: &mut String, pieces: &[Piece]) -> Result<(), AllocError> {
     for piece in pieces {
-        put_piece(words, *piece)?;
+        match *piece {
+            Piece::Text(text) => words.push_str(text)?,
+            Piece::Number(number) => write!(words, "{number}")?,
+        }
     }
     Ok(())
 }

@@ -10,3 +10,9 @@ pub mod Tracing
 pub mod Run
 pub mod Around
 pub mod Spared
+pub mod Spreading
+pub mod Stating
+pub mod Settling
+pub mod Passing
+pub mod Laying
+pub mod Single

@@ -7,3 +7,6 @@ pub mod Rows
 pub mod Cells
 pub mod Around
 pub mod Directions
+pub mod Stated
+pub mod Spreads
+pub mod Passing

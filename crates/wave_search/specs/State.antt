@@ -105,6 +105,25 @@ pub record IsState (graph : MoveGraph) (starts goals : List ℕ) (low : ℕ → 
   pub labelled : (e : Entry) → Waits q e → (b : ℕ) × IsCheap t e.node b × (b + low e.node ≤ e.key)
   pub done : done_count t ≡ fin
 
+-- each node whose price and bound come to at most `most` is done, and its price is that of a walk
+pub record IsExact (graph : MoveGraph) (starts : List ℕ) (low : ℕ → ℕ) (t : List (Option Label)) (most : ℕ) : Type 0
+  where
+    pub roots : Roots graph starts t
+    pub seeded : (s : ℕ) → Contains starts s → IsCheap t s 0
+    pub relaxed : (v : ℕ) (l : Label) (h : Hop) → label_at t v ≡ Some l → 0 < l.rank → Opens graph v h
+        → IsCheap t h.to (l.price + h.price)
+    pub waits : (v : ℕ) (l : Label) → label_at t v ≡ Some l → l.rank ≡ 0 → most < l.price + low v
+
+-- both nodes are done, and an open move leads from the first to the second at exactly the second's price
+pub record IsStep (graph : MoveGraph) (t : List (Option Label)) (u v : ℕ) : Type 0 where
+  pub before : Label
+  pub was : label_at t u ≡ Some before
+  pub was_done : 0 < before.rank
+  pub after : Label
+  pub there : label_at t v ≡ Some after
+  pub done : 0 < after.rank
+  pub tight : IsTight graph u before.price v after.price
+
 -- the nodes are those that have a label, ascending
 pub record IsListed (t : List (Option Label)) (nodes : List ℕ) : Type 0 where
   pub ascends : IsStrictlyIncreasing nodes

@@ -10,13 +10,16 @@ mod choose;
 mod front;
 mod labels;
 mod marks;
+mod one;
 mod rows;
 mod search;
+mod stated;
 mod task;
 mod ties;
 mod trace;
 
 pub use bound::{Bound, NoBound};
 pub use box_bound::{BoxBound, box_bound_sound};
-pub use search::{Search, guided_walk, least_walk};
+pub use one::stated_walks_are_one;
+pub use search::{Search, guided_walk, least_walk, stated_walk};
 pub use ties::{Heading, LayerDirections, NoTies, Ties, heading_of};

@@ -4,6 +4,7 @@
 ghost use Rattle.std.specs.Prelude.{◌≡◌, ◌<◌, ◌≤◌, IfOk, All};
 ghost use Rattle.route_lattice.specs.Walks.{IsSound, Answers};
 ghost use Rattle.wave_search.specs.Bounds.{IsBound};
+ghost use Rattle.wave_search.specs.Stated.{AnswersStated};
 
 use crate::bound::{Bound, NoBound};
 use crate::labels::Labels;
@@ -78,6 +79,37 @@ impl Search {
         task.run(alloc, &mut self.labels)
     }
 
+    /// Of these walks the stated one: of the least walks the one of the fewest moves, of these the one whose nodes are
+    /// the least, and of these the one whose indices of moves are.
+    pub fn stated_walk<M: Moves, B: Bound>(
+        &mut self,
+        alloc: Global,
+        m: &M,
+        b: &B,
+        starts: &List<u32>,
+        goals: &List<u32>,
+    ) -> Result<Found, AllocError>
+        requires size { self.old ≡ (M.graph m.now).count }
+        requires ready { M.ready m.now }
+        requires sound { IsSound (M.graph m.now) }
+        requires bound { IsBound (M.graph m.now) goals.now (B.low_of b.now) }
+        requires starts { All (λ s. s < (M.graph m.now).count) starts.now }
+        ensures answers { IfOk result (AnswersStated (M.graph m.now) starts.now goals.now) }
+        ensures size { self.new ≡ self.old }
+    {
+        self.labels.clear();
+        let marks = Marks::of(alloc, goals.as_slice())?;
+        let task = Task {
+            m,
+            b,
+            ties: &NoTies,
+            starts,
+            goals,
+            marks: &marks,
+        };
+        task.run_stated(alloc, &mut self.labels)
+    }
+
     /// The same without a rule of ties.
     pub fn guided_walk<M: Moves, B: Bound>(
         &mut self,
@@ -148,4 +180,20 @@ pub fn least_walk<M: Moves>(
     ensures { IfOk result (Answers (M.graph m.now) starts.now goals.now) }
 {
     guided_walk(alloc, m, &NoBound, starts, goals)
+}
+
+/// `Search::stated_walk` over memory of its own, without a bound.
+pub fn stated_walk<M: Moves>(
+    alloc: Global,
+    m: &M,
+    starts: &List<u32>,
+    goals: &List<u32>,
+) -> Result<Found, AllocError>
+    requires ready { M.ready m.now }
+    requires sound { IsSound (M.graph m.now) }
+    requires starts { All (λ s. s < (M.graph m.now).count) starts.now }
+    ensures { IfOk result (AnswersStated (M.graph m.now) starts.now goals.now) }
+{
+    let mut search = Search::new(alloc, m.count())?;
+    search.stated_walk(alloc, m, &NoBound, starts, goals)
 }

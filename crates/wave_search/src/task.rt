@@ -8,8 +8,9 @@ ghost use Rattle.route_lattice.specs.Walks.{IsSound, IsWalk, Answers};
 ghost use Rattle.wave_search.specs.Bounds.{IsBound};
 ghost use Rattle.wave_search.specs.declared.rows.Label.{Label as TheLabel};
 ghost use Rattle.wave_search.specs.State.{label_at, done_count, improves_on, is_done_by, KeepsDone, Roots, IsState};
-ghost use Rattle.wave_search.specs.State.{IsPut, entry};
+ghost use Rattle.wave_search.specs.State.{IsPut, entry, IsExact};
 ghost use Rattle.wave_search.specs.Waiting.{IsAdded};
+ghost use Rattle.wave_search.specs.Stated.{AnswersStated};
 
 use crate::bound::Bound;
 use crate::choices::Choices;
@@ -249,6 +250,8 @@ impl<'a, M: Moves, B: Bound, T: Ties> Task<'a, M, B, T> {
             (B.low_of self.now.b.now) table.old front.old
             (last.price + B.low_of self.now.b.now node) last.rank node 0 }
         ensures kept { OnOk result (KeepsDone table.old table.new) }
+        ensures exact { OnOk result (IsExact (M.graph self.now.m.now) self.now.starts.now (B.low_of self.now.b.now)
+            table.new last.price) }
         ensures roots { OnOk result (Roots (M.graph self.now.m.now) self.now.starts.now table.new) }
         ensures small { OnOk result ((v : ℕ) (l : TheLabel) → label_at table.new v ≡ Some l → l.price < 2 ^ 60) }
         ensures size { length table.new ≡ length table.old }
@@ -275,7 +278,7 @@ impl<'a, M: Moves, B: Bound, T: Ties> Task<'a, M, B, T> {
     }
 
     /// Goes on from a goal that was done last until all nodes on walks of its price are done.
-    fn settle_rest(
+    pub(crate) fn settle_rest(
         &self,
         alloc: Global,
         table: &mut Labels,
@@ -293,6 +296,8 @@ impl<'a, M: Moves, B: Bound, T: Ties> Task<'a, M, B, T> {
             (B.low_of self.now.b.now) table.old front.old
             (label.price + B.low_of self.now.b.now node) label.rank node 0 }
         ensures kept { OnOk result (KeepsDone table.old table.new) }
+        ensures exact { OnOk result (IsExact (M.graph self.now.m.now) self.now.starts.now (B.low_of self.now.b.now)
+            table.new label.price) }
         ensures roots { OnOk result (Roots (M.graph self.now.m.now) self.now.starts.now table.new) }
         ensures small { OnOk result ((v : ℕ) (l : TheLabel) → label_at table.new v ≡ Some l → l.price < 2 ^ 60) }
         ensures size { length table.new ≡ length table.old }
@@ -429,6 +434,48 @@ impl<'a, M: Moves, B: Bound, T: Ties> Task<'a, M, B, T> {
         }))
     }
 
+    /// Makes nodes done until a goal is: the stated walk, or all that is reached.
+    fn search_stated(
+        &self,
+        alloc: Global,
+        table: &mut Labels,
+        front: &mut Front,
+        order: &mut Vec<u32>,
+    ) -> Result<Found, AllocError>
+        requires ready { M.ready self.now.m.now }
+        requires sound { IsSound (M.graph self.now.m.now) }
+        requires starts { All (λ s. s < (M.graph self.now.m.now).count) self.now.starts.now }
+        requires bound { IsBound (M.graph self.now.m.now) self.now.goals.now (B.low_of self.now.b.now) }
+        requires marked { (v : ℕ) → (Contains self.now.marks.now v ↔ Contains self.now.goals.now v) }
+        requires state { IsState (M.graph self.now.m.now) self.now.starts.now self.now.goals.now
+            (B.low_of self.now.b.now) table.old front.old 0 0 0 (M.graph self.now.m.now).arity }
+        ensures answers { IfOk result (AnswersStated (M.graph self.now.m.now) self.now.starts.now self.now.goals.now) }
+        ensures size { length table.new ≡ length table.old }
+    {
+        let mut finished: u32 = 0;
+        'search: while let Some(entry) = front.pop()? {
+            let Some(found) = waiting(table, entry.node) else {
+                continue;
+            };
+            let label = Label {
+                price: found.price,
+                rank: finished + 1,
+                origin: found.origin,
+            };
+            place(table, order, entry.node, label)?;
+            if self.is_goal(entry, label.price) {
+                let walk = self.stated_end(alloc, table, front, order, entry.node, label)?;
+                return Ok(Found::Walk(walk));
+            }
+            finished += 1;
+            self.relax(table, front, entry.node, label)?;
+        }
+        let nodes = table.nodes(alloc)?;
+        Ok(Found::Closed(Reach {
+            nodes: List::from_vec(nodes),
+        }))
+    }
+
     /// A least walk, or all that is reached.
     pub(crate) fn run(&self, alloc: Global, table: &mut Labels) -> Result<Found, AllocError>
         requires ready { M.ready self.now.m.now }
@@ -446,5 +493,24 @@ impl<'a, M: Moves, B: Bound, T: Ties> Task<'a, M, B, T> {
         let mut order = Vec::new(alloc);
         self.seed(table, &mut front)?;
         self.search(alloc, table, &mut front, &mut order)
+    }
+
+    /// The stated walk, or all that is reached.
+    pub(crate) fn run_stated(&self, alloc: Global, table: &mut Labels) -> Result<Found, AllocError>
+        requires ready { M.ready self.now.m.now }
+        requires sound { IsSound (M.graph self.now.m.now) }
+        requires bound { IsBound (M.graph self.now.m.now) self.now.goals.now (B.low_of self.now.b.now) }
+        requires starts { All (λ s. s < (M.graph self.now.m.now).count) self.now.starts.now }
+        requires marked { (v : ℕ) → (Contains self.now.marks.now v ↔ Contains self.now.goals.now v) }
+        requires size { length table.old ≡ (M.graph self.now.m.now).count }
+        requires blank { (v : ℕ) → label_at table.old v ≡ None }
+        requires none_done { done_count table.old ≡ 0 }
+        ensures answers { IfOk result (AnswersStated (M.graph self.now.m.now) self.now.starts.now self.now.goals.now) }
+        ensures size { length table.new ≡ length table.old }
+    {
+        let mut front = Front::new(alloc);
+        let mut order = Vec::new(alloc);
+        self.seed(table, &mut front)?;
+        self.search_stated(alloc, table, &mut front, &mut order)
     }
 }

@@ -3,6 +3,8 @@ use Rattle.wave_search.proofs.Table.{within}
 use Rattle.wave_search.proofs.Steps.{whole}
 use Rattle.wave_search.proofs.Run.{node_in, node_below, price_small, origin_small, room, none_in, put_keeps, state_now}
 use Rattle.wave_search.proofs.Run.{skipped, taken_now, falls}
+use Rattle.wave_search.proofs.Run.{nothing_now}
+use Rattle.wave_search.proofs.Settling.{exact_past, exact_none}
 use Rattle.wave_search.proofs.task.Task.settle.Goals as goal
 
 pub waiting-requires-clause-node : goal.waiting-requires-clause-node
@@ -138,3 +140,13 @@ relax-requires-in-Some-clause-bound g c = c.requires.bound
 
 pub relax-requires-in-Some-clause-sound : goal.relax-requires-in-Some-clause-sound
 relax-requires-in-Some-clause-sound g c = c.requires.sound
+
+pub returns-clause-exact : goal.returns-clause-exact
+returns-clause-exact g c = exact_none c.settle.invariant.state c.args.last.price
+    (nothing_now c.settle.front c.pop.new.self _ c.in_ok-entry.ensures c.in_default.is)
+
+pub returns-then-entry-last-clause-exact : goal.returns-then-entry-last-clause-exact
+returns-then-entry-last-clause-exact g c = exact_past c.settle.invariant.state c.args.last.price c.in-Some.entry
+    c.pop.new.self
+    (taken_now c.settle.front c.pop.new.self _ c.in-Some.entry c.in_ok-entry.ensures c.in-Some.is)
+    c.if-entry-last.true

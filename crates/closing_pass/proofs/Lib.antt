@@ -4,3 +4,6 @@ pub mod Staying
 pub mod Closings
 pub mod Ending
 pub mod Readiness
+pub mod Aside
+pub mod Gate
+pub mod Ids

@@ -1,2 +1,5 @@
 pub mod Closing
 pub mod Steps
+pub mod Settled
+pub mod Gate
+pub mod Ids

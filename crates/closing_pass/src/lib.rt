@@ -6,5 +6,7 @@ mod close;
 mod closed;
 mod ends;
 mod join;
+mod laws;
 
 pub use closed::{Closed, close_out};
+pub use laws::{ids_change_nothing, one_way_out, stays_within};

@@ -64,7 +64,10 @@ use Rattle.board_offers.specs.Items.{reshaped, item_at}
 use Rattle.board_offers.specs.Items.{after_shoves}
 use Rattle.board_offers.proofs.Lists.{all_from, pairs_append}
 use Rattle.std.proofs.lemmas.Option.{get_or_from_slice_get}
-use Rattle.std.proofs.lemmas.List.Elements.{All-append}
+use Rattle.std.proofs.lemmas.List.Elements.{All-append, Contains-append_left, Contains-append_right}
+use Rattle.geo_kernel.specs.declared.point.Point.{Point}
+use Rattle.std.proofs.Common.{cond, not}
+use Rattle.board_offers.specs.Items.{names}
 use Rattle.least_offer.proofs.Replacing.{zip_ids, zip_right, wire_same, chain_same, to_board, wire_within, left_id}
 use Rattle.least_offer.proofs.Replacing.{right_id, all_replaced, pairs_replaced, shoved_or_not, either_way, same_some}
 use Rattle.least_offer.proofs.Adding.{all_added, added_agree, own_agree, added_inside, all_addable, leads_across}
@@ -124,6 +127,24 @@ uncleared b o takes =
     (λ i. without (takes.no_rip i ++ map (λ (s : Shoved). s.id) (takes.no_shove i)) b.items ++ replaced_from b.design
     (given b) (length (given b) + length o.add) (takes.no_shove i))
     ∙ append-nil (without [] b.items) ∙ none_named b.items
+
+-- an item that isn't named stays
+kept_on : (ids : List ℕ) (items : List Item) (a : Item) → Contains items a → names ids a.id ≡ false
+    → Contains (without ids items) a
+kept_on ids [] a (k, within, is) e = absurd (omega (arith, within))
+kept_on ids (x ∷ items) a (zero, within, is) e =
+    here x a (without ids items) (names ids x.id) (ap (λ (y : Item). names ids y.id) is ∙ e) is
+  where
+    here : (x a : Item) (rest : List Item) (b : Bool) → b ≡ false → x ≡ a
+        → Contains (cond (not b) (x ∷ rest) rest) a
+    here x a rest true n is = absurd (true≢false n)
+    here x a rest false n is = (zero, omega arith, is)
+kept_on ids (x ∷ items) a (suc k, within, is) e =
+    later x a (without ids items) (names ids x.id) (kept_on ids items a (k, omega (arith, within), is) e)
+  where
+    later : (x a : Item) (rest : List Item) (b : Bool) → Contains rest a → Contains (cond (not b) (x ∷ rest) rest) a
+    later x a rest true h = h
+    later x a rest false (k, within, is) = (suc k, omega (arith, within), is)
 
 -- ---- the copper of a walk, against items of which each move's probe and the first disc agree with all
 pub record Stands (d : Design) (m : Mesh) (net : ℕ) (base : List Item) (nodes : List ℕ)
@@ -422,6 +443,241 @@ module _ (m : Mesh) (via_cost : ℕ) (b : BoardOf) (o : Offer)
                 (λ a there stays. all_added d o.net (λ (n : Item). Agrees d n a) (length (given b)) o.add
                 (λ i. on_add b.items s (λ (x : Metal). Agrees d (laid_item d o.net i x) a) (s.agree i a there)));
           }
+
+    -- ---- one item is taken out, without a penalty
+    module _ (none : o.penalty ≡ None) (id : ℕ) (rip_is : o.rip ≡ id ∷ []) (no_shove : o.shoves ≡ [])
+        (way : HasIdInWay d b.items (added d (given b) o) id) where
+      stands_cleared : Stands d m o.net (cleared b o) j.walk.nodes j.walk.moves
+      stands_cleared = stands d m o.net via_cost (cleared b o) j.starts j.goals j.walk j.start j.rest fits starts_there
+          (walk_by None none) j.nodes_are (first_legal None none)
+
+      -- what stays is on the cleared board
+      stays_on : (a : Item) → Contains b.items a → (Contains o.rip a.id → ⊥) → Contains (cleared b o) a
+      stays_on a there stays = Contains-append_left (without (gone o) b.items) (replaced d (given b) o) a
+          (kept_on (gone o) b.items a there (elim (true_or_false (names (gone o) a.id)) [
+            | inl named ↦ absurd (stays (subst (λ (xs : List ℕ). Contains xs a.id)
+                (ap (λ (ss : List Shoved). o.rip ++ map (λ (t : Shoved). t.id) ss) no_shove ∙ append-nil o.rip)
+                (named_in (gone o) a.id named)))
+            | inr free ↦ free
+          ]))
+
+      only : (x : ℕ) → Contains o.rip x → id ≡ x
+      only x there = elim (in_cons id x [] (subst (λ (xs : List ℕ). Contains xs x) rip_is there)) [
+        | inl e ↦ e
+        | inr rest ↦ absurd (in_none x rest)
+      ]
+
+      any_is : {X : Type 0} (P : X → Type 0) (xs : List X) → All P xs → Any (λ (x : X). ¬ (P x)) xs → ⊥
+      any_is P xs all (k, x, within, is, fails) = fails (subst P is (all k x within))
+
+      one_net : (x y : ℕ) → Some x ≡ Some y → x ≡ y
+      one_net x y e = cc
+
+      -- it isn't of the net: its own copper agrees
+      other_than : way.item.net ≢ Some o.net
+      other_than e =
+          let made = (is_given way.item way.there).made way.in_way.routed in
+          let net_is : made.net ≡ o.net = one_net made.net o.net (sym (ap (λ (x : Item). x.net) made.made) ∙ e) in
+          let is : way.item ≡ laid_item d o.net way.item.id way.item.metal =
+          made.made ∙ ap (λ (n : ℕ). laid_item d n way.item.id way.item.metal) net_is in
+          any_is (λ (n : Item). Agrees d n way.item) (added d (given b) o)
+          (subst (λ (x : Item). All (λ (n : Item). Agrees d n x) (added d (given b) o)) (sym is)
+          (own_agree d o.net (λ i k x c. own d o.net i k x c) (length (given b)) way.item.id o.add way.item.metal))
+          way.in_way.clashes
+
+      rips_it : RipsInTheWay (known b) o
+      rips_it = record {
+        each = λ k x within.
+            let at = get_or o.rip k x in
+            let is : id ≡ at = only at (Contains-get_or o.rip k x within) in
+            some_and (slice_get (given b) at) way.item (IsInTheWay (known b) o)
+            (subst (λ (y : ℕ). slice_get (given b) y ≡ Some way.item) (way.id_is ∙ is) (given_at way.item way.there))
+            (record { routed = way.in_way.routed; other_net = other_than; disagrees = way.in_way.clashes });
+      }
+
+      pub may_take_out : MayBeMade b o
+      may_take_out =
+          let s = stands_cleared in
+          record {
+            formed = formed (cleared b o) s no_shove
+                (subst (λ (ids : List ℕ). AllPairs (λ (x y : ℕ). x ≢ y) ids) (sym rip_is)
+                (λ i k x before within. absurd (omega (arith, before, within)))) rips_it;
+            clear = clear (cleared b o) s no_shove
+                (λ x there. record { item = way.item; there = way.there; id_is = way.id_is ∙ only x there })
+                (λ a there stays. all_added d o.net (λ (n : Item). Agrees d n a) (length (given b)) o.add
+                (λ i. on_add (cleared b o) s (λ (x : Metal). Agrees d (laid_item d o.net i x) a)
+                (s.agree i a (stays_on a there stays))));
+          }
+
+    -- ---- one item is moved aside, without a penalty
+    module _ (none : o.penalty ≡ None) (item : Item) (item_in : Contains b.items item) (wire : shove.IsWire item.metal)
+        (r : ℕ) (way_up : Bool) (chain : List Point) (fit : shove.IsShove b.design m b.items item r way_up chain)
+        (shoves_are : o.shoves ≡ record { id = item.id; chain = chain } ∷ []) (no_rip : o.rip ≡ [])
+        (way : IsInWayOf b.design (added b.design (given b) o) item) where
+      abbrev moved_by : Shoved
+      moved_by = record { id = item.id; chain = chain }
+
+      abbrev moved_id : ℕ
+      moved_id = length (given b) + length o.add
+
+      abbrev moved : Item
+      moved = shove.reshaped d moved_id chain item
+
+      gone_it : gone o ≡ item.id ∷ []
+      gone_it = λ i. no_rip i ++ map (λ (t : Shoved). t.id) (shoves_are i)
+
+      moved_is : replaced d (given b) o ≡ moved ∷ []
+      moved_is = ap (replaced_from d (given b) moved_id) shoves_are
+          ∙ ap (λ (a : Item). reshaped d moved_id chain a ∷ [])
+          (get_or_from_slice_get (given b) item.id item _ (given_at item item_in))
+          ∙ ap (λ (a : Item). a ∷ []) (sym (to_board d moved_id chain item))
+
+      only_it : (t : Shoved) → Contains o.shoves t → moved_by ≡ t
+      only_it t there = elim (in_cons moved_by t [] (subst (λ (ss : List Shoved). Contains ss t) shoves_are there)) [
+        | inl e ↦ e
+        | inr rest ↦ absurd (in_none t rest)
+      ]
+
+      one_left : (x : ℕ) → Contains (gone o) x → item.id ≡ x
+      one_left x there = elim (in_cons item.id x [] (subst (λ (xs : List ℕ). Contains xs x) gone_it there)) [
+        | inl e ↦ e
+        | inr rest ↦ absurd (in_none x rest)
+      ]
+
+      stands_moved : Stands d m o.net (cleared b o) j.walk.nodes j.walk.moves
+      stands_moved = stands d m o.net via_cost (cleared b o) j.starts j.goals j.walk j.start j.rest fits starts_there
+          (walk_by None none) j.nodes_are (first_legal None none)
+
+      moved_in : Contains (cleared b o) moved
+      moved_in = Contains-append_right (without (gone o) b.items) (replaced d (given b) o) moved
+          (subst (λ (xs : List Item). Contains xs moved) (sym moved_is) (zero, omega arith, refl))
+
+      other_in : (a : Item) → Contains b.items a → (item.id ≡ a.id → ⊥) → Contains (cleared b o) a
+      other_in a there apart_id = Contains-append_left (without (gone o) b.items) (replaced d (given b) o) a
+          (kept_on (gone o) b.items a there (elim (true_or_false (names (gone o) a.id)) [
+            | inl named ↦ absurd (apart_id (one_left a.id (named_in (gone o) a.id named)))
+            | inr free ↦ free
+          ]))
+
+      added_with : (a : Item) → Contains (cleared b o) a → All (λ (n : Item). Agrees d n a) (added d (given b) o)
+      added_with a there = all_added d o.net (λ (n : Item). Agrees d n a) (length (given b)) o.add
+          (λ i. on_add (cleared b o) stands_moved (λ (x : Metal). Agrees d (laid_item d o.net i x) a)
+          (stands_moved.agree i a there))
+
+      any_of : {X : Type 0} (P : X → Type 0) (xs : List X) → All P xs → Any (λ (x : X). ¬ (P x)) xs → ⊥
+      any_of P xs all (k, x, within, is, fails) = fails (subst P is (all k x within))
+
+      net_one : (x y : ℕ) → Some x ≡ Some y → x ≡ y
+      net_one x y e = cc
+
+      -- it isn't of the net: its own copper agrees
+      of_other : item.net ≢ Some o.net
+      of_other e =
+          let made = (is_given item item_in).made way.routed in
+          let net_is : made.net ≡ o.net = net_one made.net o.net (sym (ap (λ (x : Item). x.net) made.made) ∙ e) in
+          let is : item ≡ laid_item d o.net item.id item.metal =
+          made.made ∙ ap (λ (n : ℕ). laid_item d n item.id item.metal) net_is in
+          any_of (λ (n : Item). Agrees d n item) (added d (given b) o)
+          (subst (λ (x : Item). All (λ (n : Item). Agrees d n x) (added d (given b) o)) (sym is)
+          (own_agree d o.net (λ i k x c. own d o.net i k x c) (length (given b)) item.id o.add item.metal))
+          way.clashes
+
+      shovable_it : IsShovable (known b) o moved_by item
+      shovable_it = record {
+        in_the_way = record { routed = way.routed; other_net = of_other; disagrees = way.clashes };
+        wire = wire_same item.metal wire;
+        points = enough_points m (chain_of item.metal) r way_up chain fit.shoved;
+        within = chain_within d m (chain_of item.metal) r way_up chain fits
+            (wire_within item.metal (is_given item item_in).fits.metal_fits) fit.shoved;
+        inside = subst (λ (mt : Metal). AreInside d.bounds (pieces_of d mt)) (chain_same chain item.metal) fit.fits.inside;
+      }
+
+      on_moved : (P : Item → Type 0) → P moved → All P (replaced d (given b) o)
+      on_moved P p = subst (λ (xs : List Item). All P xs) (sym moved_is) (All-cons P moved [] p (All-nil P))
+
+      formed_moved : IsWellFormed (known b) o
+      formed_moved = record {
+        timely = record { base = base; worker = worker };
+        ends = ends_are;
+        metals = metals_are (cleared b o) stands_moved;
+        across = across (cleared b o) stands_moved;
+        inside = record {
+          each = added_inside d o.net (length (given b)) o.add
+              (on_add (cleared b o) stands_moved (IsMetalInside d) stands_moved.inside);
+        };
+        once = record {
+          one_kind = inl no_rip;
+          rip_once = subst (λ (xs : List ℕ). AllPairs (λ (x y : ℕ). x ≢ y) xs) (sym no_rip)
+              (λ i k x before within. absurd (omega arith));
+          shove_once = subst (λ (ss : List Shoved). AllPairs (λ (x y : ℕ). x ≢ y) (map (λ (t : Shoved). t.id) ss))
+              (sym shoves_are) (λ i k x before within. absurd (omega (arith, before, within)));
+        };
+        rips = record {
+          each = subst (λ (xs : List ℕ). All
+              (λ x. IsSomeAnd (slice_get (given b) x) (IsInTheWay (known b) o)) xs) (sym no_rip) (All-nil _);
+        };
+        shoves = record {
+          each = subst (λ (ss : List Shoved). All (λ (t : Shoved). IsSomeAnd (slice_get (given b) t.id)
+              (IsShovable (known b) o t)) ss) (sym shoves_are)
+              (All-cons (λ (t : Shoved). IsSomeAnd (slice_get (given b) t.id) (IsShovable (known b) o t)) moved_by []
+              (some_and (slice_get (given b) item.id) item (IsShovable (known b) o moved_by) (given_at item item_in)
+              shovable_it) (All-nil _));
+        };
+        agree = record {
+          each = pairs_append (Agrees d) (added d (given b) o) (replaced d (given b) o)
+              (added_agree d o.net (λ i k a c. own d o.net i k a c) (length (given b)) o.add)
+              (subst (λ (xs : List Item). AllPairs (Agrees d) xs) (sym moved_is)
+              (λ i k x before within. absurd (omega (arith, before, within))))
+              (λ n n_in. on_moved (Agrees d n)
+              (All-contains (λ (x : Item). Agrees d x moved) (added d (given b) o) n (added_with moved moved_in) n_in));
+        };
+      }
+
+      -- what touched it touches it still
+      touched : (a : Item) → Contains b.items a → (item.id ≡ a.id → ⊥) → AreTouching item a
+          → AreTouching (after_shoves d o.shoves item) (after_shoves d o.shoves a)
+      touched a there apart_id touch = elim (shoved_or_not d o.shoves item) [
+        | inr none_is ↦ absurd (none_is.others moved_by
+            (subst (λ (ss : List Shoved). Contains ss moved_by) (sym shoves_are) (zero, omega arith, refl)) refl)
+        | inl t ↦ elim (shoved_or_not d o.shoves a) [
+          | inl u ↦ absurd (apart_id (ap (λ (x : Shoved). x.id) (only_it u.by u.by_in) ∙ u.id_is))
+          | inr free ↦ subst (λ (y : Item × Item). AreTouching y.0 y.1) (λ k. (
+            (ap (λ (x : Shoved). shove.reshaped d item.id x.chain item) (only_it t.by t.by_in)
+                ∙ to_board d item.id t.by.chain item ∙ sym t.after) k,
+            sym free.after k,
+          )) (fit.fits.touches a there (λ e. apart_id (sym e)) touch)
+        ]
+      ]
+
+      pub may_move_aside : MayBeMade b o
+      may_move_aside = record {
+        formed = formed_moved;
+        clear = λ x. record {
+          there = λ named. elim (in_cons o.from x (o.to ∷ gone o) (named_in (wanted o) x named)) [
+            | inl is_from ↦ subst (λ (y : ℕ). is_on y b.items ≡ true) (j.from_anchored.id_is
+                ∙ is_from) (on_board b.items j.from_anchored.item j.from_anchored.there)
+            | inr later ↦ elim (in_cons o.to x (gone o) later) [
+              | inl is_to ↦ subst (λ (y : ℕ). is_on y b.items ≡ true) (j.to_anchored.id_is
+                  ∙ is_to) (on_board b.items j.to_anchored.item j.to_anchored.there)
+              | inr left ↦ subst (λ (y : ℕ). is_on y b.items ≡ true) (one_left x left) (on_board b.items item item_in)
+            ]
+          ];
+          agrees = λ a there is stays.
+              let apart_id : item.id ≡ a.id → ⊥ = λ e. true≢false (sym (in_named (gone o) x
+              (subst (λ (xs : List ℕ). Contains xs x) (sym gone_it) (zero, omega arith, e ∙ is))) ∙ stays) in
+              All-append (λ (n : Item). Agrees d n a) (added d (given b) o) (replaced d (given b) o)
+              (added_with a (other_in a there apart_id))
+              (on_moved (λ (n : Item). Agrees d n a) (left_id d item.id moved_id item.net
+              (shove.with_chain chain item.metal) a (fit.fits.agrees a there (λ e. apart_id (sym e)))));
+          joined = λ a there is t t_in apart_id old old_is touch.
+              let by_id : item.id ≡ t.id = ap (λ (y : Shoved). y.id) (only_it t t_in) in
+              let same : item ≡ old = same_some item old (sym (given_at item item_in)
+              ∙ ap (λ (y : ℕ). slice_get (given b) y) by_id ∙ old_is) in
+              subst (λ (y : Item). AreTouching (after_shoves d o.shoves y) (after_shoves d o.shoves a)) same
+              (touched a there (λ e. apart_id (sym by_id ∙ e ∙ is))
+              (subst (λ (y : Item). AreTouching y a) (sym same) touch));
+        };
+      }
 
     -- ---- what is in the way is ripped
     module _ (penalty : ℕ) (some : o.penalty ≡ Some penalty) where
@@ -723,3 +979,17 @@ module _ (m : Mesh) (via_cost : ℕ) (b : BoardOf) (o : Offer)
             | inr rips ↦ may_rip
                 (joined_by m via_cost b o l) penalty e way.ids way.in_way rips.rips_are rips.no_shove
           ]
+
+  -- an offer without a penalty that takes out one item in its way
+  pub may_take_one : (l : IsLeastOffer m via_cost b o) → o.penalty ≡ None → (id : ℕ) → o.rip ≡ id ∷ [] → o.shoves ≡ []
+      → HasIdInWay d b.items (added d (given b) o) id → MayBeMade b o
+  may_take_one l none id rip_is no_shove way = may_take_out (joined_by m via_cost b o l) none id rip_is no_shove way
+
+  -- and one that moves one item aside
+  pub may_move_one : (l : IsLeastOffer m via_cost b o) → o.penalty ≡ None → (item : Item) → Contains b.items item
+      → shove.IsWire item.metal → (r : ℕ) (way_up : Bool) (chain : List Point)
+      → shove.IsShove b.design m b.items item r way_up chain
+      → o.shoves ≡ record { id = item.id; chain = chain } ∷ [] → o.rip ≡ []
+      → IsInWayOf b.design (added b.design (given b) o) item → MayBeMade b o
+  may_move_one l none item item_in wire r way_up chain fit shoves_are no_rip way =
+      may_move_aside (joined_by m via_cost b o l) none item item_in wire r way_up chain fit shoves_are no_rip way

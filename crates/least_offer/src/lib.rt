@@ -2,7 +2,7 @@
 //! calls that do nothing.
 #![tactic(auto)]
 
-ghost use Rattle.std.specs.Prelude.{◌≡◌, ◌≤◌, ◌<◌, ℕ, List as Seq, [], length, Some, None};
+ghost use Rattle.std.specs.Prelude.{◌≡◌, ◌≤◌, ◌<◌, ℕ, List as Seq, [], ◌∷◌, length, Some, None};
 ghost use Rattle.pcb_model.specs.Copper.{Ascends};
 ghost use Rattle.pcb_model.specs.Plain.{IsPlainCopper};
 ghost use Rattle.route_lattice.specs.Mesh.{Mesh};
@@ -12,7 +12,10 @@ ghost use Rattle.pcb_board.specs.Boards.{BoardOf};
 ghost use Rattle.pcb_board.specs.declared.answer.Answer.{Answer as OneAnswer};
 ghost use Rattle.pcb_board.specs.Answers.{Step};
 ghost use Rattle.pcb_board.specs.Keeping.{IsBoard, Grows};
-ghost use Rattle.ripup.specs.Rips.{AreIdsInWay};
+ghost use Rattle.ripup.specs.Rips.{AreIdsInWay, HasIdInWay, IsInWayOf};
+ghost use Rattle.shove.specs.Shoves.{IsWire, IsShove};
+ghost use Rattle.geo_kernel.specs.declared.point.Point.{Point as OnePoint};
+ghost use Rattle.std.specs.Prelude.{Bool, Contains};
 ghost use Rattle.board_offers.specs.Items.{added, added_from};
 ghost use Rattle.pcb_board.specs.Boards.{given};
 ghost use Rattle.least_offer.specs.Late.{IsFair};
@@ -35,6 +38,31 @@ pub fn least_offers_may_be_made()
         → IsPlainCopper b.design → FitsDesign b.design m → o.base ≤ length b.history → o.worker ≤ CLOSER
         → o.net < length b.design.nets → IsLeastOffer m via_cost b o → (o.penalty ≡ None → TakesNothing o)
         → MayBeMade b o }
+{
+    own_copper_agrees();
+    joining_falls();
+}
+
+/// So is a least offer without a penalty that takes out one item, which is in its way.
+pub fn one_may_be_taken_out()
+    ensures { (m : Mesh) (via_cost : ℕ) (b : BoardOf) (o : OneOffer) (id : ℕ) → IsBoard b → Ascends b.items
+        → IsPlainCopper b.design → FitsDesign b.design m → o.base ≤ length b.history → o.worker ≤ CLOSER
+        → o.net < length b.design.nets → IsLeastOffer m via_cost b o → o.penalty ≡ None → o.rip ≡ id ∷ []
+        → o.shoves ≡ [] → HasIdInWay b.design b.items (added b.design (given b) o) id → MayBeMade b o }
+{
+    own_copper_agrees();
+    joining_falls();
+}
+
+/// So is one that moves one run of a wire in its way aside by a line.
+pub fn one_may_be_moved_aside()
+    ensures { (m : Mesh) (via_cost : ℕ) (b : BoardOf) (o : OneOffer) (item : OneItem) (r : ℕ) (up : Bool)
+        (chain : Seq OnePoint) → IsBoard b → Ascends b.items → IsPlainCopper b.design → FitsDesign b.design m
+        → o.base ≤ length b.history → o.worker ≤ CLOSER → o.net < length b.design.nets
+        → IsLeastOffer m via_cost b o → o.penalty ≡ None → Contains b.items item → IsWire item.metal
+        → IsShove b.design m b.items item r up chain
+        → o.shoves ≡ (record { id = item.id; chain = chain }) ∷ [] → o.rip ≡ []
+        → IsInWayOf b.design (added b.design (given b) o) item → MayBeMade b o }
 {
     own_copper_agrees();
     joining_falls();

@@ -9,6 +9,7 @@ pub mod Paths
 pub mod Parity
 pub mod Firsts
 pub mod Solid
+pub mod Staying
 pub mod Moves
 pub mod Keeping
 pub mod Growing

@@ -72,12 +72,12 @@ pub count_odd : (f : Segment → Bool) (gs : List Segment) → count_by f gs % 2
 count_odd f [] = refl
 count_odd f (g ∷ gs) = ap (λ n. n % 2) (count_first f g gs) ∙ bit_more (f g) (odd f gs) (count_by f gs) (count_odd f gs)
 
-told_by_odd : (f h : Segment → Bool) (gs hs : List Segment) → odd f gs ≡ odd h hs → (count_by f gs % 2 ≡ 1)
+pub told_by_odd : (f h : Segment → Bool) (gs hs : List Segment) → odd f gs ≡ odd h hs → (count_by f gs % 2 ≡ 1)
     → (count_by h hs % 2 ≡ 1)
 told_by_odd f h gs hs e c = count_odd h hs ∙ ap bit (sym e) ∙ sym (count_odd f gs) ∙ c
 
 -- ---- n times the links
-last_of-map : (f : Point → Point) (p : Point) (ps : List Point) → last_of (f p) (map f ps) ≡ f (last_of p ps)
+pub last_of-map : (f : Point → Point) (p : Point) (ps : List Point) → last_of (f p) (map f ps) ≡ f (last_of p ps)
 last_of-map f p [] = refl
 last_of-map f p (q ∷ qs) = last_of-map f q qs
 
@@ -101,7 +101,7 @@ module _ (g : Segment) (k n i : ℕ) (some : 0 < k) (positive : 0 < n) (l : i �
       (same_parity (stretched n g.from) (point_at n i g) (stretched n (last_of q qs)) (map (stretched n) (q ∷ qs))
       (last_of-map (stretched n) q qs) (none_cross (last_of q qs) (q ∷ qs) h))
 
-  area_same : (loops : List (List Point)) → All (Keeps k g) (area_segments loops) →
+  pub area_same : (loops : List (List Point)) → All (Keeps k g) (area_segments loops) →
       odd (is_right (stretched n g.from)) (area_segments (map (map (stretched n)) loops))
       ≡ odd (is_right (point_at n i g)) (area_segments (map (map (stretched n)) loops))
   area_same [] h = refl
@@ -207,7 +207,7 @@ module _ (n : ℕ) (positive : 0 < n) where
       ap (λ r. odd (is_right (stretched n p)) (links r (map (stretched n) (q ∷ qs)))) (last_of-map (stretched n) q qs)
       ∙ links_stretched p (last_of q qs) (q ∷ qs)
 
-  area_stretched : (p : Point) (loops : List (List Point))
+  pub area_stretched : (p : Point) (loops : List (List Point))
       → odd (is_right (stretched n p)) (area_segments (map (map (stretched n)) loops))
       ≡ odd (is_right p) (area_segments loops)
   area_stretched p [] = refl
@@ -226,10 +226,10 @@ module _ (loops : List (List Point)) (k : ℕ) (some : 0 < k) where
       (sym (area_same g k n i some positive l loops keeps) ∙ area_stretched n positive g.from loops) in_it)
 
   -- the end of the segment, as its point at 1/1
-  end_point : (a b : ℤ) → pos 0 *ℤ a +ℤ pos 1 *ℤ b ≡ pos 1 *ℤ b
+  pub end_point : (a b : ℤ) → pos 0 *ℤ a +ℤ pos 1 *ℤ b ≡ pos 1 *ℤ b
   end_point a b = ring (a ∷ b ∷ []) (lit 0 ⊗ x0 ⊕ lit 1 ⊗ x1) (lit 1 ⊗ x1) tt
 
-  same_point : (x y x' y' : ℤ) → x ≡ x' → y ≡ y' → (let p : Point = record { x = x; y = y } in p)
+  pub same_point : (x y x' y' : ℤ) → x ≡ x' → y ≡ y' → (let p : Point = record { x = x; y = y } in p)
       ≡ record { x = x'; y = y' }
   same_point x y x' y' e f = cc
 

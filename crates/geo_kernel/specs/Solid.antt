@@ -3,7 +3,7 @@ use Rattle.std.specs.Prelude.{ℕ, pos, ◌-◌, ◌<◌, ◌≤◌, ◌+ℤ◌,
 use Rattle.geo_kernel.specs.declared.point.Point.{Point}
 use Rattle.geo_kernel.specs.declared.spine.Spine.{Spine}
 use Rattle.geo_kernel.specs.declared.spine.Spine.TheVariants.{Chain, Area}
-use Rattle.geo_kernel.specs.Spine.{Segment, spine_segments, IsInside}
+use Rattle.geo_kernel.specs.Spine.{Segment, chain_segments, spine_segments, IsInside}
 
 -- the point n times as far from the origin
 abbrev pub stretched : ℕ → Point → Point
@@ -33,3 +33,11 @@ IsSimple (Area (loop ∷ more ∷ loops)) = ⊥
 abbrev pub StaysOutside : Spine → Spine → Type 0
 StaysOutside s (Chain ps) = Unit {0}
 StaysOutside s (Area loops) = All (IsOutside loops) (spine_segments s)
+
+-- each rational point of the segment is inside the loops
+abbrev pub LiesInside : List (List Point) → Segment → Type 0
+LiesInside loops g = (n i : ℕ) → 0 < n → i ≤ n → IsInsideAt n (point_at n i g) loops
+
+-- so is each rational point of the segments of a chain
+abbrev pub StaysInside : List Point → List (List Point) → Type 0
+StaysInside chain loops = All (LiesInside loops) (chain_segments chain)

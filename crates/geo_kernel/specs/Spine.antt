@@ -1,6 +1,6 @@
 -- Chains and areas, by their segments.
 use Rattle.std.specs.Prelude.{ℕ, pos, ◌%◌, ◌<◌, ◌≤◌, ◌≡◌, ◌⊎◌, ◌-ℤ◌, ◌*ℤ◌, int_lt, int_le, Bool, cond, ◌&&◌, List, []}
-use Rattle.std.specs.Prelude.{◌∷◌, length, All, Any, count_by, flat_map}
+use Rattle.std.specs.Prelude.{◌∷◌, ◌++◌, length, All, Any, count_by, flat_map}
 use Rattle.geo_kernel.specs.declared.point.Point.{Point}
 use Rattle.geo_kernel.specs.declared.spine.Spine.{Spine}
 use Rattle.geo_kernel.specs.declared.spine.Spine.TheVariants.{Chain, Area}
@@ -49,6 +49,11 @@ last_of p (q ∷ qs) = last_of q qs
 abbrev pub loop_segments : List Point → List Segment
 loop_segments [] = []
 loop_segments (p ∷ ps) = links (last_of p ps) (p ∷ ps)
+
+-- a loop as a chain that ends where it begins
+abbrev pub closed : List Point → List Point
+closed [] = []
+closed (p ∷ ps) = (p ∷ ps) ++ p ∷ []
 
 -- the segments of all loops
 abbrev pub area_segments : List (List Point) → List Segment

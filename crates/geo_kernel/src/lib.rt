@@ -19,7 +19,7 @@ pub use interior::{first_point, inside};
 pub use keep::{
     on_spine, points_keep, spine_keeps, spine_keeps_moved, spine_touch, spine_touch_moved,
 };
-pub use laws::{keeping_is_symmetric, keeps_less};
+pub use laws::{edges_hold, keeping_is_symmetric, keeps_less};
 pub use list::{List, Name};
 pub use point::{Point, Rect4};
 pub use rect::{box_of, parted};

@@ -12,3 +12,4 @@ mod places;
 
 pub use laws::{island_items_own, islands_are_one, joining_falls, others_change_nothing};
 pub use net::{Island, is_whole, islands};
+pub use pad::pad_of;

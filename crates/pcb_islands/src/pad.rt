@@ -72,7 +72,7 @@ fn place_of_pad(fixed: &[Item], pin: u32) -> Option<usize>
 }
 
 /// The pad of a pin.
-pub(crate) fn pad_of(d: &Design, pin: u32) -> &Item
+pub fn pad_of(d: &Design, pin: u32) -> &Item
     requires sound { IsSound d.now }
     requires pin { IsSome (slice_get d.now.pins pin) }
     ensures { IsPadOf d.entry.now pin result.now }

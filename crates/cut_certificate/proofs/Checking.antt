@@ -6,10 +6,10 @@ use Rattle.std.proofs.lemmas.Bool.{cases_lt}
 use Rattle.std.proofs.lemmas.List.{get_or_default}
 use Rattle.std.proofs.lemmas.List.Elements.{All-contains, Contains-get_or}
 use Rattle.pcb_model.specs.declared.item.Item.{Item}
-use Rattle.pcb_model.specs.declared.design.Design.{Design}
 use Rattle.pcb_model.specs.Copper.{Ascends}
 use Rattle.pcb_islands.specs.declared.net.Island.{Island}
-use Rattle.route_lattice.specs.Mesh.{Mesh, node_count}
+use Rattle.route_lattice.specs.Mesh.{node_count}
+use Rattle.route_lattice.specs.Ground.{GroundOf}
 use Rattle.route_lattice.specs.Anchors.{Anchors}
 use Rattle.cut_certificate.specs.Cuts.{IsStart, IsGoal, HoldsStartsOf, HoldsNoneOf, HoldsNoneOfIsland}
 
@@ -47,15 +47,15 @@ module _ (items : List Item) (up : Ascends items) where
     of_none none = (λ _ a q f. absurd (All-contains (λ (b : Item). b.id ≡ id → ⊥) items a none q f), λ _. refl)
 
 -- ---- starts and goals
-module _ (d : Design) (m : Mesh) (items : List Item) (nodes : List ℕ) where
-  starts_from : (island : Island) → All (HoldsStartsOf d m items island.net nodes) island.items → (node : ℕ)
-      → IsStart d m items island node → Contains nodes node
+module _ (on : GroundOf) (nodes : List ℕ) where
+  starts_from : (island : Island) → All (HoldsStartsOf on island.net nodes) island.items → (node : ℕ)
+      → IsStart on.d on.lat on.items island node → Contains nodes node
   starts_from island each node s =
-      All-contains (HoldsStartsOf d m items island.net nodes) island.items s.anchors.item.id each s.anchors.asked
+      All-contains (HoldsStartsOf on island.net nodes) island.items s.anchors.item.id each s.anchors.asked
       s.anchors.item s.anchors.there refl node s.there s.anchors.anchors s.legal
 
-  starts_to : (island : Island) → ((node : ℕ) → IsStart d m items island node → Contains nodes node)
-      → All (HoldsStartsOf d m items island.net nodes) island.items
+  starts_to : (island : Island) → ((node : ℕ) → IsStart on.d on.lat on.items island node → Contains nodes node)
+      → All (HoldsStartsOf on island.net nodes) island.items
   starts_to island starts k id h a p e node there anchors legal = starts node (record {
     there = there;
     anchors = record {
@@ -67,19 +67,19 @@ module _ (d : Design) (m : Mesh) (items : List Item) (nodes : List ℕ) where
     legal = legal;
   })
 
-  goals_from : (others : List Island) → All (HoldsNoneOfIsland d m items nodes) others → (node : ℕ)
-      → IsGoal d m items others node → Contains nodes node → ⊥
+  goals_from : (others : List Island) → All (HoldsNoneOfIsland on nodes) others → (node : ℕ)
+      → IsGoal on.d on.lat on.items others node → Contains nodes node → ⊥
   goals_from others each node g c =
       let o = g.anchors in
-      let none : HoldsNoneOfIsland d m items nodes o.1 =
-      subst (HoldsNoneOfIsland d m items nodes) o.3 (each o.0 o.1 o.2) in
-      All-contains (λ v. Anchors d m v o.4.item → ⊥) nodes node
-      (All-contains (HoldsNoneOf d m items nodes) o.1.items o.4.item.id none o.4.asked o.4.item o.4.there refl) c
+      let none : HoldsNoneOfIsland on nodes o.1 =
+      subst (HoldsNoneOfIsland on nodes) o.3 (each o.0 o.1 o.2) in
+      All-contains (λ v. Anchors on.d on.lat v o.4.item → ⊥) nodes node
+      (All-contains (HoldsNoneOf on nodes) o.1.items o.4.item.id none o.4.asked o.4.item o.4.there refl) c
       o.4.anchors
 
-  goals_to : (others : List Island) → All (λ v. v < node_count m) nodes
-      → ((node : ℕ) → IsGoal d m items others node → Contains nodes node → ⊥)
-      → All (HoldsNoneOfIsland d m items nodes) others
+  goals_to : (others : List Island) → All (λ v. v < node_count on.lat) nodes
+      → ((node : ℕ) → IsGoal on.d on.lat on.items others node → Contains nodes node → ⊥)
+      → All (HoldsNoneOfIsland on nodes) others
   goals_to others in_lattice out k o h j id lt a p e i v il anchors =
       let other : Island = get_or others k o in
       out (get_or nodes i v) (record {
@@ -100,11 +100,11 @@ module _ (d : Design) (m : Mesh) (items : List Item) (nodes : List ℕ) where
 
   -- what is tested of the ids of an island, and of the islands
   pub starts_say : (island : Island) (t : Bool)
-      → (IsTrue t ↔ All (HoldsStartsOf d m items island.net nodes) island.items)
-      → IsTrue t ↔ ((node : ℕ) → IsStart d m items island node → Contains nodes node)
+      → (IsTrue t ↔ All (HoldsStartsOf on island.net nodes) island.items)
+      → IsTrue t ↔ ((node : ℕ) → IsStart on.d on.lat on.items island node → Contains nodes node)
   starts_say island t says = (λ h. starts_from island (says.0 h), λ h. says.1 (starts_to island h))
 
-  pub goals_say : (others : List Island) → All (λ v. v < node_count m) nodes → (t : Bool)
-      → (IsTrue t ↔ All (HoldsNoneOfIsland d m items nodes) others)
-      → IsTrue t ↔ ((node : ℕ) → IsGoal d m items others node → Contains nodes node → ⊥)
+  pub goals_say : (others : List Island) → All (λ v. v < node_count on.lat) nodes → (t : Bool)
+      → (IsTrue t ↔ All (HoldsNoneOfIsland on nodes) others)
+      → IsTrue t ↔ ((node : ℕ) → IsGoal on.d on.lat on.items others node → Contains nodes node → ⊥)
   goals_say others there t says = (λ h. goals_from others (says.0 h), λ h. says.1 (goals_to others there h))

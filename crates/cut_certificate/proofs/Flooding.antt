@@ -81,7 +81,7 @@ module _ (graph : MoveGraph) (starts : List ℕ) where
   -- ---- a flood ends
   module _ (f : Fill) (flood : IsFlood graph starts f) (empty : length f.waiting ≡ 0) where
     -- where none waits, walks stay among the marked nodes
-    stays_in : (hs : List Hop) (a b : ℕ) → IsMarked f.marks a → Leads graph a hs b → IsMarked f.marks b
+    pub stays_in : (hs : List Hop) (a b : ℕ) → IsMarked f.marks a → Leads graph a hs b → IsMarked f.marks b
     stays_in [] a b m p = subst (IsMarked f.marks) p m
     stays_in (h ∷ hs) a b m p = elim (flood.spread a h m p.0) [
       | inl c ↦ absurd (omega (arith, c.1, empty))

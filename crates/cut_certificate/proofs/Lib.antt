@@ -2,6 +2,8 @@ pub mod Marking
 pub mod Gaining
 pub mod Leading
 pub mod Flooding
+mod Turning
+pub mod Backing
 pub mod Each
 pub mod Same
 pub mod Search

@@ -14,6 +14,7 @@ use Rattle.pcb_model.specs.Copper.{Finds}
 use Rattle.pcb_islands.specs.declared.net.Island.{Island}
 use Rattle.pcb_islands.specs.Islands.{AreIslands}
 use Rattle.route_lattice.specs.Mesh.{Mesh, node_count}
+use Rattle.route_lattice.specs.Ground.{GroundOf}
 use Rattle.route_lattice.specs.Ways.{way, way_count}
 use Rattle.route_lattice.specs.Walks.{Hop, Leads, IsReach}
 use Rattle.route_lattice.specs.Anchors.{Anchors, AnchorsAmong}
@@ -97,24 +98,25 @@ pub record CutsOff (d : Design) (m : Mesh) (items : List Item) (via_cost : ℕ) 
 
 -- ---- steps of a check and of a search
 -- each node that anchors the item, and whose disc is legal, is among the nodes
-abbrev pub HoldsStarts : Design → Mesh → List Item → ℕ → List ℕ → Item → Type 0
-HoldsStarts d m items net nodes a =
-    (node : ℕ) → node < node_count m → Anchors d m node a → IsLegalNode d m items net node → Contains nodes node
+abbrev pub HoldsStarts : GroundOf → ℕ → List ℕ → Item → Type 0
+HoldsStarts on net nodes a =
+    (node : ℕ) → node < node_count on.lat → Anchors on.d on.lat node a → IsLegalNode on.d on.lat on.items net node
+    → Contains nodes node
 
 -- each item with this id is held so
-abbrev pub HoldsStartsOf : Design → Mesh → List Item → ℕ → List ℕ → ℕ → Type 0
-HoldsStartsOf d m items net nodes id = (a : Item) → Contains items a → a.id ≡ id → HoldsStarts d m items net nodes a
+abbrev pub HoldsStartsOf : GroundOf → ℕ → List ℕ → ℕ → Type 0
+HoldsStartsOf on net nodes id = (a : Item) → Contains on.items a → a.id ≡ id → HoldsStarts on net nodes a
 
 -- none of the nodes anchors the item
-abbrev pub HoldsNone : Design → Mesh → List ℕ → Item → Type 0
-HoldsNone d m nodes a = All (λ node. Anchors d m node a → ⊥) nodes
+abbrev pub HoldsNone : GroundOf → List ℕ → Item → Type 0
+HoldsNone on nodes a = All (λ node. Anchors on.d on.lat node a → ⊥) nodes
 
-abbrev pub HoldsNoneOf : Design → Mesh → List Item → List ℕ → ℕ → Type 0
-HoldsNoneOf d m items nodes id = (a : Item) → Contains items a → a.id ≡ id → HoldsNone d m nodes a
+abbrev pub HoldsNoneOf : GroundOf → List ℕ → ℕ → Type 0
+HoldsNoneOf on nodes id = (a : Item) → Contains on.items a → a.id ≡ id → HoldsNone on nodes a
 
 -- none of the nodes anchors an item of the island
-abbrev pub HoldsNoneOfIsland : Design → Mesh → List Item → List ℕ → Island → Type 0
-HoldsNoneOfIsland d m items nodes o = All (HoldsNoneOf d m items nodes) o.items
+abbrev pub HoldsNoneOfIsland : GroundOf → List ℕ → Island → Type 0
+HoldsNoneOfIsland on nodes o = All (HoldsNoneOf on nodes) o.items
 
 -- the id is that of an item of some of the islands
 abbrev pub IsAmong : List Island → ℕ → Type 0

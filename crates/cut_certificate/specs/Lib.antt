@@ -1,4 +1,5 @@
 pub mod Goals
+pub mod Backwards
 pub mod Marks
 pub mod Border
 pub mod Cuts

@@ -3,7 +3,6 @@
 
 ghost use Rattle.std.specs.Prelude.{◌≡◌, ◌↔◌, ◌<◌, ℕ, length, All, Contains, IsTrue, Some, slice_get};
 ghost use Rattle.std.specs.List.Sorted.{IsStrictlyIncreasing};
-ghost use Rattle.pcb_model.specs.Copper.{Ascends};
 ghost use Rattle.pcb_model.specs.Sound.{IsSound, IsItemOf};
 ghost use Rattle.route_lattice.specs.Mesh.{node_count};
 ghost use Rattle.route_lattice.specs.Fits.{FitsDesign};
@@ -19,179 +18,7 @@ use crate::cut::{Block, Cut};
 use geo_kernel::List;
 use pcb_islands::Island;
 use pcb_model::{Copper, Design, Item};
-use route_lattice::{Lattice, LegalMoves, legal_node};
-
-fn start_in<C: Copper>(
-    lat: &Lattice,
-    d: &Design,
-    c: &C,
-    net: u32,
-    nodes: &[u32],
-    item: &Item,
-    node: u32,
-) -> bool
-    requires sound { IsSound d.now }
-    requires fits { FitsDesign d.now lat.now }
-    requires net { net < length d.now.nets }
-    requires serves { C.serves c.now d.now }
-    requires ascends { IsStrictlyIncreasing nodes.now }
-    requires item { IsItemOf d.now item.now }
-    requires node { node < node_count lat.now }
-    ensures { IsTrue result
-        ↔ (Anchors d.now lat.now node item.now → IsLegalNode d.now lat.now (C.items c.now) net node
-        → Contains nodes.now node) }
-{
-    if !lat.anchor(d, node, item) {
-        return true;
-    }
-    if has(nodes, node) {
-        return true;
-    }
-    !legal_node(lat, d, c, net, node)
-}
-
-fn starts_in<C: Copper>(
-    lat: &Lattice,
-    d: &Design,
-    c: &C,
-    net: u32,
-    nodes: &[u32],
-    item: &Item,
-) -> bool
-    requires sound { IsSound d.now }
-    requires fits { FitsDesign d.now lat.now }
-    requires net { net < length d.now.nets }
-    requires serves { C.serves c.now d.now }
-    requires ascends { IsStrictlyIncreasing nodes.now }
-    requires item { IsItemOf d.now item.now }
-    ensures { IsTrue result ↔ HoldsStarts d.now lat.now (C.items c.now) net nodes.now item.now }
-{
-    for node in 0..lat.count() {
-        if !start_in(lat, d, c, net, nodes, item, node) {
-            return false;
-        }
-    }
-    true
-}
-
-fn starts_of_in<C: Copper>(
-    lat: &Lattice,
-    d: &Design,
-    c: &C,
-    net: u32,
-    nodes: &[u32],
-    id: u64,
-) -> bool
-    requires sound { IsSound d.now }
-    requires fits { FitsDesign d.now lat.now }
-    requires net { net < length d.now.nets }
-    requires serves { C.serves c.now d.now }
-    requires in_order { Ascends (C.items c.now) }
-    requires ascends { IsStrictlyIncreasing nodes.now }
-    ensures { IsTrue result ↔ HoldsStartsOf d.now lat.now (C.items c.now) net nodes.now id }
-{
-    match c.item(id) {
-        None => true,
-        Some(item) => starts_in(lat, d, c, net, nodes, item),
-    }
-}
-
-fn all_starts_in<C: Copper>(
-    lat: &Lattice,
-    d: &Design,
-    c: &C,
-    net: u32,
-    nodes: &[u32],
-    ids: &[u64],
-) -> bool
-    requires sound { IsSound d.now }
-    requires fits { FitsDesign d.now lat.now }
-    requires net { net < length d.now.nets }
-    requires serves { C.serves c.now d.now }
-    requires in_order { Ascends (C.items c.now) }
-    requires ascends { IsStrictlyIncreasing nodes.now }
-    ensures { IsTrue result ↔ All (HoldsStartsOf d.now lat.now (C.items c.now) net nodes.now) ids.now }
-{
-    for id in ids {
-        if !starts_of_in(lat, d, c, net, nodes, *id) {
-            return false;
-        }
-    }
-    true
-}
-
-fn none_anchors(lat: &Lattice, d: &Design, nodes: &[u32], item: &Item) -> bool
-    requires sound { IsSound d.now }
-    requires fits { FitsDesign d.now lat.now }
-    requires nodes { All (λ v. v < node_count lat.now) nodes.now }
-    requires item { IsItemOf d.now item.now }
-    ensures { IsTrue result ↔ HoldsNone d.now lat.now nodes.now item.now }
-{
-    for node in nodes {
-        if lat.anchor(d, *node, item) {
-            return false;
-        }
-    }
-    true
-}
-
-fn none_anchors_of<C: Copper>(lat: &Lattice, d: &Design, c: &C, nodes: &[u32], id: u64) -> bool
-    requires sound { IsSound d.now }
-    requires fits { FitsDesign d.now lat.now }
-    requires serves { C.serves c.now d.now }
-    requires in_order { Ascends (C.items c.now) }
-    requires nodes { All (λ v. v < node_count lat.now) nodes.now }
-    ensures { IsTrue result ↔ HoldsNoneOf d.now lat.now (C.items c.now) nodes.now id }
-{
-    match c.item(id) {
-        None => true,
-        Some(item) => none_anchors(lat, d, nodes, item),
-    }
-}
-
-fn none_anchors_among<C: Copper>(
-    lat: &Lattice,
-    d: &Design,
-    c: &C,
-    nodes: &[u32],
-    ids: &[u64],
-) -> bool
-    requires sound { IsSound d.now }
-    requires fits { FitsDesign d.now lat.now }
-    requires serves { C.serves c.now d.now }
-    requires in_order { Ascends (C.items c.now) }
-    requires nodes { All (λ v. v < node_count lat.now) nodes.now }
-    ensures { IsTrue result ↔ All (HoldsNoneOf d.now lat.now (C.items c.now) nodes.now) ids.now }
-{
-    for id in ids {
-        if !none_anchors_of(lat, d, c, nodes, *id) {
-            return false;
-        }
-    }
-    true
-}
-
-fn islands_out<C: Copper>(
-    lat: &Lattice,
-    d: &Design,
-    c: &C,
-    nodes: &[u32],
-    others: &[Island],
-) -> bool
-    requires sound { IsSound d.now }
-    requires fits { FitsDesign d.now lat.now }
-    requires serves { C.serves c.now d.now }
-    requires in_order { Ascends (C.items c.now) }
-    requires nodes { All (λ v. v < node_count lat.now) nodes.now }
-    ensures { IsTrue result ↔ All (HoldsNoneOfIsland d.now lat.now (C.items c.now) nodes.now) others.now }
-{
-    for other in others {
-        if !none_anchors_among(lat, d, c, nodes, other.items.as_slice()) {
-            return false;
-        }
-    }
-    true
-}
+use route_lattice::{Ground, Lattice};
 
 fn is_named(island: &Island, cut: &Cut) -> bool
     ensures { IsTrue result ↔ ((cut.now.net ≡ island.now.net) × (slice_get island.now.pins 0 ≡ Some cut.now.pin)) }
@@ -205,33 +32,128 @@ fn is_named(island: &Island, cut: &Cut) -> bool
     }
 }
 
-fn all_below(nodes: &[u32], count: u32) -> bool
+pub(crate) fn all_below(nodes: &[u32], count: u32) -> bool
     ensures { IsTrue result ↔ All (λ v. v < count) nodes.now }
 {
     nodes.iter().all(|v| *v < count)
 }
 
-/// Whether the blocks are, in order, exactly the moves of the net that lead out of the nodes, each with what shuts it.
-fn has_border<C: Copper>(
-    lat: &Lattice,
-    d: &Design,
-    c: &C,
+/// Nodes of a lattice that are said to be a cut of a net: they ascend.
+#[derive(Drop)]
+struct CutNodes<'a, C: Copper> {
+    on: Ground<'a, C>,
     net: u32,
-    nodes: &[u32],
-    blocked: &[Block],
-) -> bool
-    requires sound { IsSound d.now }
-    requires fits { FitsDesign d.now lat.now }
-    requires net { net < length d.now.nets }
-    requires serves { C.serves c.now d.now }
-    requires ascends { IsStrictlyIncreasing nodes.now }
-    requires nodes { All (λ v. v < node_count lat.now) nodes.now }
-    ensures { IsTrue result
-        ↔ AreBlocks (way d.now lat.now net) (way_count d.now lat.now net)
-        (IsShutBy d.now lat.now (C.items c.now) net) nodes.now blocked.now }
-{
-    let moves = LegalMoves::of(lat, d, c, net, 0);
-    are_blocks(&moves, nodes, blocked)
+    nodes: &'a [u32],
+    ghost net_there: { net < length on.d.nets },
+    ghost ascend: { IsStrictlyIncreasing nodes.now },
+    ghost there: { All (λ v. v < node_count on.lat) nodes.now },
+}
+
+impl<C: Copper> CutNodes<'_, C> {
+    fn start_in(&self, item: &Item, node: u32) -> bool
+        requires item { IsItemOf self.now.on.d item.now }
+        requires node { node < node_count self.now.on.lat }
+        ensures { IsTrue result ↔ (Anchors self.now.on.d self.now.on.lat node item.now
+            → IsLegalNode self.now.on.d self.now.on.lat self.now.on.items self.now.net node
+            → Contains self.now.nodes.now node) }
+    {
+        if !self.on.anchor(node, item) {
+            return true;
+        }
+        if has(self.nodes, node) {
+            return true;
+        }
+        !self.on.is_legal_node(self.net, node)
+    }
+
+    fn starts_in(&self, item: &Item) -> bool
+        requires item { IsItemOf self.now.on.d item.now }
+        ensures { IsTrue result ↔ HoldsStarts self.now.on self.now.net self.now.nodes.now item.now }
+    {
+        for node in 0..self.on.count() {
+            if !self.start_in(item, node) {
+                return false;
+            }
+        }
+        true
+    }
+
+    fn starts_of_in(&self, id: u64) -> bool
+        ensures { IsTrue result ↔ HoldsStartsOf self.now.on self.now.net self.now.nodes.now id }
+    {
+        self.on.in_order();
+        match self.on.item(id) {
+            None => true,
+            Some(item) => self.starts_in(item),
+        }
+    }
+
+    fn all_starts_in(&self, ids: &[u64]) -> bool
+        ensures { IsTrue result ↔ All (HoldsStartsOf self.now.on self.now.net self.now.nodes.now) ids.now }
+    {
+        for id in ids {
+            if !self.starts_of_in(*id) {
+                return false;
+            }
+        }
+        true
+    }
+
+    fn none_anchors(&self, item: &Item) -> bool
+        requires item { IsItemOf self.now.on.d item.now }
+        ensures { IsTrue result ↔ HoldsNone self.now.on self.now.nodes.now item.now }
+    {
+        for node in self.nodes {
+            if self.on.anchor(*node, item) {
+                return false;
+            }
+        }
+        true
+    }
+
+    fn none_anchors_of(&self, id: u64) -> bool
+        ensures { IsTrue result ↔ HoldsNoneOf self.now.on self.now.nodes.now id }
+    {
+        self.on.in_order();
+        match self.on.item(id) {
+            None => true,
+            Some(item) => self.none_anchors(item),
+        }
+    }
+
+    fn none_anchors_among(&self, ids: &[u64]) -> bool
+        ensures { IsTrue result ↔ All (HoldsNoneOf self.now.on self.now.nodes.now) ids.now }
+    {
+        for id in ids {
+            if !self.none_anchors_of(*id) {
+                return false;
+            }
+        }
+        true
+    }
+
+    fn islands_out(&self, others: &[Island]) -> bool
+        ensures { IsTrue result ↔ All (HoldsNoneOfIsland self.now.on self.now.nodes.now) others.now }
+    {
+        for other in others {
+            if !self.none_anchors_among(other.items.as_slice()) {
+                return false;
+            }
+        }
+        true
+    }
+
+    /// Whether the blocks are, in order, exactly the moves of the net that lead out of the nodes, each with what shuts
+    /// it.
+    fn has_border(&self, blocked: &[Block]) -> bool
+        ensures { IsTrue result
+            ↔ AreBlocks (way self.now.on.d self.now.on.lat self.now.net) (way_count self.now.on.d
+            self.now.on.lat self.now.net)
+            (IsShutBy self.now.on.d self.now.on.lat self.now.on.items self.now.net) self.now.nodes.now blocked.now }
+    {
+        let moves = self.on.moves(self.net, 0);
+        are_blocks(&moves, self.nodes, blocked)
+    }
 }
 
 /// Whether the cut is one between the island and the others. It takes no memory.
@@ -250,6 +172,7 @@ pub fn check_cut<C: Copper>(
     ensures { IsTrue result ↔ IsCut d.now lat.now (C.items c.now) island.now others.now cut.now }
 {
     c.in_order();
+    let on = Ground { lat, d, c };
     let nodes = cut.reach.nodes.as_slice();
     if !is_named(island, cut) {
         return false;
@@ -260,13 +183,18 @@ pub fn check_cut<C: Copper>(
     if !all_below(nodes, lat.count()) {
         return false;
     }
-    if !all_starts_in(lat, d, c, island.net, nodes, island.items.as_slice()) {
+    let held = CutNodes {
+        on,
+        net: island.net,
+        nodes,
+    };
+    if !held.all_starts_in(island.items.as_slice()) {
         return false;
     }
-    if !islands_out(lat, d, c, nodes, others.as_slice()) {
+    if !held.islands_out(others.as_slice()) {
         return false;
     }
-    has_border(lat, d, c, island.net, nodes, cut.blocked.as_slice())
+    held.has_border(cut.blocked.as_slice())
 }
 
 /// Where a cut is, no legal walk leads from the island to one of the others. A law, on a call that does nothing.

@@ -3,6 +3,7 @@
 //! without prices and in no order. It can be checked without one.
 #![tactic(auto)]
 
+mod backwards;
 mod border;
 mod check;
 mod cut;
@@ -12,8 +13,9 @@ mod make;
 mod shut;
 mod spread;
 
+pub use backwards::Backwards;
 pub use check::{check_cut, cut_closes};
 pub use cut::{Block, Blocker, Cut};
-pub use laws::reach_tells_goals;
+pub use laws::{legal_moves_lead_back, reach_tells_goals};
 pub use make::{goals_of, make_cut, make_cut_among, make_cut_with, starts_of};
-pub use spread::flood;
+pub use spread::{are_shut_in, flood};

@@ -2,9 +2,13 @@
 //! Whether a move is open is asked last, since nothing else is dear.
 
 ghost use Rattle.std.specs.Prelude.{◌≡◌, ◌<◌, ◌+◌, ℕ, length, All, Contains, IfOk, OnOk};
-ghost use Rattle.route_lattice.specs.Walks.{IsSound, IsReach};
-ghost use Rattle.cut_certificate.specs.Marks.{Gains, IsLedTo, IsNext, IsBlank, IsFlood, fill_of};
+ghost use Rattle.std.specs.Bool.{OnTrue, OnFalse};
+ghost use Rattle.route_lattice.specs.Walks.{IsSound, IsReach, NoneLeads};
+ghost use Rattle.cut_certificate.specs.Backwards.{IsMutual};
+ghost use Rattle.cut_certificate.specs.Marks.{IsMarked, Gains, IsLedTo, IsNext, IsBlank, IsFlood, fill_of};
 
+use crate::backwards::Backwards;
+use crate::check::all_below;
 use crate::front::Front;
 use geo_kernel::List;
 use route_lattice::{Moves, Reach};
@@ -85,4 +89,69 @@ pub fn flood<M: Moves>(alloc: Global, m: &M, starts: &List<u32>) -> Result<Reach
     mark_reached(m, &mut front, starts)?;
     let nodes = front.marked(alloc, count)?;
     Ok(Reach { nodes })
+}
+
+/// Marks all nodes that open moves reach from the starts, or stops once more than `most` nodes have been followed.
+fn mark_within<M: Moves>(
+    m: &M,
+    front: &mut Front,
+    starts: &List<u32>,
+    most: u32,
+) -> Result<bool, AllocError>
+    requires ready { M.ready m.now }
+    requires sound { IsSound (M.graph m.now) }
+    requires starts { All (λ s. s < (M.graph m.now).count) starts.now }
+    requires blank { IsBlank (M.graph m.now).count (fill_of front.old) }
+    ensures flood { IfOk result (λ all. OnTrue all (IsFlood (M.graph m.now) starts.now (fill_of front.new))) }
+    ensures done { IfOk result (λ all. OnTrue all (length front.new.waiting.items ≡ 0)) }
+{
+    seed(front, starts.as_slice())?;
+    let mut left = most;
+    'flood: while let Some(node) = front.waiting.pop() {
+        if left == 0 {
+            return Ok(false);
+        }
+        left -= 1;
+        follow(m, front, node)?;
+    }
+    Ok(true)
+}
+
+/// Whether one of the nodes is marked.
+fn any_marked(front: &Front, nodes: &[u32]) -> bool
+    requires { All (λ s. s < length front.now.marks.items) nodes.now }
+    ensures { OnFalse result (All (λ s. IsMarked front.now.marks.items s → ⊥) nodes.now) }
+{
+    for s in nodes {
+        if front.has(*s) {
+            return true;
+        }
+    }
+    false
+}
+
+/// Whether some goals are shut in: open moves lead to them from at most `most` nodes, and no start is among these.
+pub fn are_shut_in<M: Moves>(
+    alloc: Global,
+    m: &M,
+    starts: &List<u32>,
+    goals: &List<u32>,
+    most: u32,
+) -> Result<bool, AllocError>
+    requires ready { M.ready m.now }
+    requires sound { IsSound (M.graph m.now) }
+    requires turns { IsMutual (M.graph m.now) }
+    requires starts { All (λ s. s < (M.graph m.now).count) starts.now }
+    ensures { IfOk result (λ shut. OnTrue shut (NoneLeads (M.graph m.now) starts.now goals.now)) }
+{
+    let count = m.count();
+    if !all_below(goals.as_slice(), count) {
+        return Ok(false);
+    }
+    let turned = Backwards { m };
+    let mut front = Front::new(alloc, count)?;
+    if !mark_within(&turned, &mut front, goals, most)? {
+        return Ok(false);
+    }
+    Ok(!any_marked(&front, starts.as_slice()))
 }

@@ -171,3 +171,17 @@ outline_within d s =
       bottom = side_within (λ (q : Point). q.y) (2 ^ 29) ps _ b.bottom wy;
       top = side_within (λ (q : Point). q.y) (2 ^ 29) ps _ b.top wy;
     }
+
+-- so is the least box of any points within 2^29
+pub least_within : (ps : List Point) → 0 < length ps → All (IsWithin (2 ^ 29)) ps → IsBoxWithin (least_box ps)
+least_within [] some w = absurd (omega arith)
+least_within (p ∷ qs) some w =
+    let ps = p ∷ qs in
+    let b = least_is p qs in
+    let wx : All (λ q. unsigned_abs q.x ≤ 2 ^ 29) ps = λ k e l. (w k e l).0 in
+    let wy : All (λ q. unsigned_abs q.y ≤ 2 ^ 29) ps = λ k e l. (w k e l).1 in record {
+      left = side_within (λ (q : Point). q.x) (2 ^ 29) ps _ b.left wx;
+      right = side_within (λ (q : Point). q.x) (2 ^ 29) ps _ b.right wx;
+      bottom = side_within (λ (q : Point). q.y) (2 ^ 29) ps _ b.bottom wy;
+      top = side_within (λ (q : Point). q.y) (2 ^ 29) ps _ b.top wy;
+    }

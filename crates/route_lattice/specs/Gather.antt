@@ -38,6 +38,13 @@ least_box (p ∷ ps) = widened (record { x0 = p.x; y0 = p.y; x1 = p.x; y1 = p.y 
 abbrev pub outline_of : Design → Rect4
 outline_of d = least_box (first_points d.bounds)
 
+-- the lower and the upper end of a box, along y where upright, else along x
+abbrev pub low_side : Bool → Rect4 → ℤ
+low_side upright r = if upright then r.y0 else r.x0
+
+abbrev pub high_side : Bool → Rect4 → ℤ
+high_side upright r = if upright then r.y1 else r.x1
+
 -- ---- pins and layers
 -- y where upright, else x
 abbrev pub coordinate : Bool → Point → ℤ

@@ -11,7 +11,7 @@ ghost use Rattle.route_lattice.specs.Parts.{IsBoxWithin};
 use geo_kernel::{List, Point, Rect4};
 use pcb_model::Design;
 
-fn box_at(p: Point) -> Rect4
+pub(crate) fn box_at(p: Point) -> Rect4
     ensures { result ≡ record { x0 = p.x; y0 = p.y; x1 = p.x; y1 = p.y } }
 {
     Rect4 {
@@ -38,7 +38,7 @@ fn grown_by(r: Rect4, p: Point) -> Rect4
 }
 
 /// The least box of a box and points.
-fn grown(start: Rect4, points: &[Point]) -> Rect4
+pub(crate) fn grown(start: Rect4, points: &[Point]) -> Rect4
     ensures { result ≡ widened start points.now }
 {
     let mut r = start;

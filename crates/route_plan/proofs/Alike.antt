@@ -7,6 +7,8 @@ use Rattle.route_lattice.specs.declared.moves.Found.{Found}
 use Rattle.route_lattice.specs.declared.moves.Found.TheVariants as found
 use Rattle.wave_search.specs.Bounds.{IsBound}
 use Rattle.cut_certificate.specs.Same.{SameMoves}
+use Rattle.cut_certificate.specs.Backwards.{HasMoveTo, IsMutual}
+use Rattle.std.proofs.Common.{◌∙◌}
 use Rattle.cut_certificate.proofs.Same.{flipped, opens_same, leads_same, reach_same}
 
 module _ (a b : MoveGraph) (s : SameMoves a b) where
@@ -52,3 +54,15 @@ module _ (a b : MoveGraph) (s : SameMoves a b) where
     falls = λ node hop x o.
         h.falls node hop (subst (λ n. node < n) (sym s.count) x) (opens_same b a (flipped a b s) node hop o);
   }
+
+  -- where moves lead back
+  pub mutual_same : IsMutual b → IsMutual a
+  mutual_same h node i m to x k e =
+      let way : HasMoveTo b to node = h node i m to (subst (λ n. node < n) s.count x)
+      (subst (λ n. i < n) s.arity k) (sym (s.leads node i) ∙ e) in
+      record {
+        index = way.index;
+        move = way.move;
+        listed = subst (λ n. way.index < n) (sym s.arity) way.listed;
+        leads = s.leads to way.index ∙ way.leads;
+      }

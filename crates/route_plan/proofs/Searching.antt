@@ -8,6 +8,7 @@ use Rattle.route_lattice.specs.Walks.{IsSound}
 use Rattle.route_lattice.specs.Legal.{CanMove, legal_graph}
 use Rattle.wave_search.specs.Around.{AreAround, low_at}
 use Rattle.wave_search.specs.Bounds.{IsBound}
+use Rattle.cut_certificate.specs.Backwards.{HasMoveTo, IsMutual}
 use Rattle.ripup.specs.Rips.{CanRip, rip_graph}
 use Rattle.pcb_board.specs.Boards.{SnapOf}
 use Rattle.route_plan.specs.Plans.{CanPlan, moves_of}
@@ -32,7 +33,23 @@ RipBound = (d : Design) (m : Mesh) (items : List Item) (net via_cost penalty : �
     → CanRip d m net via_cost penalty → AreAround m goals boxes
     → IsBound (rip_graph d m items net via_cost penalty) goals (low_at m boxes)
 
+abbrev pub LegalBack : Type 0
+LegalBack = (d : Design) (m : Mesh) (items : List Item) (net via_cost : ℕ)
+    → IsMutual (legal_graph d m items net via_cost)
+
+-- moves past routed items lead where legal ones do
+rip_back : (d : Design) (m : Mesh) (items : List Item) (net via_cost penalty : ℕ)
+    → IsMutual (legal_graph d m items net via_cost) → IsMutual (rip_graph d m items net via_cost penalty)
+rip_back d m items net via_cost penalty back node i move to h k e =
+    let way : HasMoveTo (legal_graph d m items net via_cost) to node = back node i move to h k e in
+    record { index = way.index; move = way.move; listed = way.listed; leads = way.leads }
+
 module _ (d : Design) (m : Mesh) (s : SnapOf) (net via_cost : ℕ) where
+  -- where one leads, one leads back
+  pub moves_back : (q : Option ℕ) → LegalBack → IsMutual (moves_of d m s.items net via_cost q)
+  moves_back None legal = legal d m s.items net via_cost
+  moves_back (Some p) legal = rip_back d m s.items net via_cost p (legal d m s.items net via_cost)
+
   -- the moves are between the nodes of the lattice
   pub count_is : (q : Option ℕ) → (moves_of d m s.items net via_cost q).count ≡ node_count m
   count_is None = refl

@@ -6,13 +6,14 @@ ghost use Rattle.pcb_model.specs.Sound.{IsSound};
 ghost use Rattle.pcb_model.specs.Copper.{Ascends};
 ghost use Rattle.route_lattice.specs.Mesh.{node_count};
 ghost use Rattle.route_lattice.specs.Fits.{FitsDesign};
-ghost use Rattle.route_lattice.specs.Walks.{Answers};
+ghost use Rattle.std.specs.Bool.{OnTrue};
+ghost use Rattle.route_lattice.specs.Walks.{Answers, NoneLeads};
 ghost use Rattle.cut_certificate.specs.Cuts.{IsGoal};
 ghost use Rattle.cut_certificate.specs.Same.{SameMoves};
 ghost use Rattle.route_plan.specs.Plans.{CanPlan, moves_of, FindsAnchored, IsAnchoredIn, FindsRoute};
 
 use crate::laws::rip_bound_sound;
-use cut_certificate::{goals_of, starts_of};
+use cut_certificate::{are_shut_in, flood, goals_of, legal_moves_lead_back, starts_of};
 use geo_kernel::List;
 use path_wire::{net_walks, walk_items};
 use pcb_board::Snap;
@@ -22,6 +23,9 @@ use ripup::rip_graph_sound;
 use route_lattice::{Found, Lattice, Moves, Reach, legal_graph_sound};
 use std::alloc::{AllocError, Global};
 use wave_search::{BoxBound, LayerDirections, Search, box_bound_sound};
+
+/// How many nodes are followed from goals to find that they are shut in.
+const MOST_SHUT_IN: u32 = 4_000;
 
 /// The copper of a walk, and the ids of the items that it joins.
 #[derive(Drop)]
@@ -99,6 +103,56 @@ pub(crate) struct Task<'a> {
 }
 
 impl Task<'_> {
+    /// Whether it is soon known that no walk leads from the starts to a goal, since the goals are shut in.
+    fn is_shut_in<M: Moves>(
+        &self,
+        alloc: Global,
+        moves: &M,
+        starts: &List<u32>,
+        goals: &List<u32>,
+    ) -> Result<bool, AllocError>
+        requires can_plan { CanPlan self.now.d.now self.now.lat.now self.now.snap.now self.now.net self.now.via_cost
+            self.now.penalty }
+        requires ready { M.ready moves.now }
+        requires same { SameMoves (M.graph moves.now)
+            (moves_of self.now.d.now self.now.lat.now self.now.snap.now.items self.now.net self.now.via_cost
+            self.now.penalty) }
+        requires starts { All (λ s. s < node_count self.now.lat.now) starts.now }
+        ensures none { IfOk result (λ shut. OnTrue shut (NoneLeads (M.graph moves.now) starts.now goals.now)) }
+    {
+        legal_graph_sound();
+        rip_graph_sound();
+        legal_moves_lead_back();
+        are_shut_in(alloc, moves, starts, goals, MOST_SHUT_IN)
+    }
+
+    /// All nodes that the moves of the net reach from the starts, where no walk leads to a goal.
+    fn closed<M: Moves>(
+        &self,
+        alloc: Global,
+        moves: &M,
+        starts: &List<u32>,
+        goals: &List<u32>,
+    ) -> Result<Found, AllocError>
+        requires can_plan { CanPlan self.now.d.now self.now.lat.now self.now.snap.now self.now.net self.now.via_cost
+            self.now.penalty }
+        requires ready { M.ready moves.now }
+        requires same { SameMoves (M.graph moves.now)
+            (moves_of self.now.d.now self.now.lat.now self.now.snap.now.items self.now.net self.now.via_cost
+            self.now.penalty) }
+        requires starts { All (λ s. s < node_count self.now.lat.now) starts.now }
+        requires none { NoneLeads (M.graph moves.now) starts.now goals.now }
+        ensures answers { IfOk result (Answers
+            (moves_of self.now.d.now self.now.lat.now self.now.snap.now.items self.now.net self.now.via_cost
+            self.now.penalty) starts.now goals.now) }
+    {
+        legal_graph_sound();
+        rip_graph_sound();
+        let _goals = goals;
+        let reach = flood(alloc, moves, starts)?;
+        Ok(Found::Closed(reach))
+    }
+
     /// A least walk over the moves of the net.
     fn walk<M: Moves>(
         &self,
@@ -125,6 +179,9 @@ impl Task<'_> {
         rip_graph_sound();
         box_bound_sound();
         rip_bound_sound();
+        if self.is_shut_in(alloc, moves, starts, goals)? {
+            return self.closed(alloc, moves, starts, goals);
+        }
         let bound = BoxBound::of(alloc, self.lat, goals)?;
         let ties = LayerDirections { lat: self.lat };
         search.tied_walk(alloc, moves, &bound, &ties, starts, goals)

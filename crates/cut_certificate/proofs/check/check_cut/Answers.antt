@@ -3,6 +3,7 @@ use Rattle.std.specs.Prelude.{IsTrue, ◌↔◌}
 use Rattle.std.specs.List.Sorted.{IsStrictlyIncreasing}
 use Rattle.pcb_islands.specs.declared.net.Island.{Island}
 use Rattle.route_lattice.specs.Mesh.{node_count}
+use Rattle.route_lattice.specs.Ground.{ground_of}
 use Rattle.route_lattice.specs.Ways.{way, way_count}
 use Rattle.cut_certificate.specs.declared.cut.Block.{Block}
 use Rattle.cut_certificate.specs.Border.{AreBlocks}
@@ -20,16 +21,17 @@ returns g c =
     subst (λ (y : List ℕ × ℕ). IsTrue c.all_below.result ↔ All (λ v. v < y.1) y.0)
     (λ i. (c.as_slice-nodes.ensures i, c.count.ensures.nodes i)) c.all_below.ensures in
     let starts =
-    starts_say c.args.d.now c.args.lat.now (g.C.Copper.items c.args.c.now) c.args.cut.now.reach.nodes
+    starts_say (ground_of c.args.d.now c.args.lat.now (g.C.Copper.items c.args.c.now)) c.args.cut.now.reach.nodes
     c.args.island.now c.all_starts_in.result
     (subst (λ (y : List ℕ × List ℕ). IsTrue c.all_starts_in.result
-    ↔ All (HoldsStartsOf c.args.d.now c.args.lat.now (g.C.Copper.items c.args.c.now) c.args.island.now.net y.0) y.1)
+    ↔ All (HoldsStartsOf (ground_of c.args.d.now c.args.lat.now (g.C.Copper.items c.args.c.now))
+    c.args.island.now.net y.0) y.1)
     (λ i. (c.as_slice-nodes.ensures i, c.as_slice.ensures i)) c.all_starts_in.ensures) in
     let goals =
-    goals_say c.args.d.now c.args.lat.now (g.C.Copper.items c.args.c.now) c.args.cut.now.reach.nodes
+    goals_say (ground_of c.args.d.now c.args.lat.now (g.C.Copper.items c.args.c.now)) c.args.cut.now.reach.nodes
     c.args.others.now (there.0 c.if-not-all_below.false) c.islands_out.result
     (subst (λ (y : List ℕ × List Island). IsTrue c.islands_out.result
-    ↔ All (HoldsNoneOfIsland c.args.d.now c.args.lat.now (g.C.Copper.items c.args.c.now) y.0) y.1)
+    ↔ All (HoldsNoneOfIsland (ground_of c.args.d.now c.args.lat.now (g.C.Copper.items c.args.c.now)) y.0) y.1)
     (λ i. (c.as_slice-nodes.ensures i, c.as_slice-2.ensures i)) c.islands_out.ensures) in
     let border : IsTrue c.has_border.result
     ↔ AreBlocks (way c.args.d.now c.args.lat.now c.args.island.now.net)
@@ -80,10 +82,11 @@ returns-then-not-all_below g c =
 pub returns-then-not-all_starts_in : goal.returns-then-not-all_starts_in
 returns-then-not-all_starts_in g c =
     let starts =
-    starts_say c.args.d.now c.args.lat.now (g.C.Copper.items c.args.c.now) c.args.cut.now.reach.nodes
+    starts_say (ground_of c.args.d.now c.args.lat.now (g.C.Copper.items c.args.c.now)) c.args.cut.now.reach.nodes
     c.args.island.now c.all_starts_in.result
     (subst (λ (y : List ℕ × List ℕ). IsTrue c.all_starts_in.result
-    ↔ All (HoldsStartsOf c.args.d.now c.args.lat.now (g.C.Copper.items c.args.c.now) c.args.island.now.net y.0) y.1)
+    ↔ All (HoldsStartsOf (ground_of c.args.d.now c.args.lat.now (g.C.Copper.items c.args.c.now))
+    c.args.island.now.net y.0) y.1)
     (λ i. (c.as_slice-nodes.ensures i, c.as_slice.ensures i)) c.all_starts_in.ensures) in
     refused (IsCut c.args.d.now c.args.lat.now (g.C.Copper.items c.args.c.now) c.args.island.now c.args.others.now
     c.args.cut.now)
@@ -95,66 +98,19 @@ returns-then-not-islands_out g c =
     subst (λ (y : List ℕ × ℕ). IsTrue c.all_below.result ↔ All (λ v. v < y.1) y.0)
     (λ i. (c.as_slice-nodes.ensures i, c.count.ensures.nodes i)) c.all_below.ensures in
     let goals =
-    goals_say c.args.d.now c.args.lat.now (g.C.Copper.items c.args.c.now) c.args.cut.now.reach.nodes
+    goals_say (ground_of c.args.d.now c.args.lat.now (g.C.Copper.items c.args.c.now)) c.args.cut.now.reach.nodes
     c.args.others.now (there.0 c.if-not-all_below.false) c.islands_out.result
     (subst (λ (y : List ℕ × List Island). IsTrue c.islands_out.result
-    ↔ All (HoldsNoneOfIsland c.args.d.now c.args.lat.now (g.C.Copper.items c.args.c.now) y.0) y.1)
+    ↔ All (HoldsNoneOfIsland (ground_of c.args.d.now c.args.lat.now (g.C.Copper.items c.args.c.now)) y.0) y.1)
     (λ i. (c.as_slice-nodes.ensures i, c.as_slice-2.ensures i)) c.islands_out.ensures) in
     refused (IsCut c.args.d.now c.args.lat.now (g.C.Copper.items c.args.c.now) c.args.island.now c.args.others.now
     c.args.cut.now)
     (λ i. unless c.islands_out.result _ goals c.if-not-islands_out.true i.goals_out)
 
-pub all_starts_in-requires-clause-sound : goal.all_starts_in-requires-clause-sound
-all_starts_in-requires-clause-sound g c = c.requires.sound
-
-pub all_starts_in-requires-clause-fits : goal.all_starts_in-requires-clause-fits
-all_starts_in-requires-clause-fits g c = c.requires.fits
-
-pub all_starts_in-requires-clause-net : goal.all_starts_in-requires-clause-net
-all_starts_in-requires-clause-net g c = c.requires.net
-
-pub all_starts_in-requires-clause-serves : goal.all_starts_in-requires-clause-serves
-all_starts_in-requires-clause-serves g c = c.requires.serves
-
-pub all_starts_in-requires-clause-in_order : goal.all_starts_in-requires-clause-in_order
-all_starts_in-requires-clause-in_order g c = c.in_order.ensures.ascends
-
-pub all_starts_in-requires-clause-ascends : goal.all_starts_in-requires-clause-ascends
-all_starts_in-requires-clause-ascends g c = c.ascends.ensures.0 c.if-not-ascends.false
-
-pub islands_out-requires-clause-sound : goal.islands_out-requires-clause-sound
-islands_out-requires-clause-sound g c = c.requires.sound
-
-pub islands_out-requires-clause-fits : goal.islands_out-requires-clause-fits
-islands_out-requires-clause-fits g c = c.requires.fits
-
-pub islands_out-requires-clause-serves : goal.islands_out-requires-clause-serves
-islands_out-requires-clause-serves g c = c.requires.serves
-
-pub islands_out-requires-clause-in_order : goal.islands_out-requires-clause-in_order
-islands_out-requires-clause-in_order g c = c.in_order.ensures.ascends
-
-pub islands_out-requires-clause-nodes : goal.islands_out-requires-clause-nodes
-islands_out-requires-clause-nodes g c =
-    subst (λ (n : ℕ). All (λ v. v < n) c.as_slice-nodes.result.now) c.count.ensures.nodes
-    (c.all_below.ensures.0 c.if-not-all_below.false)
-
-pub has_border-requires-clause-sound : goal.has_border-requires-clause-sound
-has_border-requires-clause-sound g c = c.requires.sound
-
-pub has_border-requires-clause-fits : goal.has_border-requires-clause-fits
-has_border-requires-clause-fits g c = c.requires.fits
-
-pub has_border-requires-clause-net : goal.has_border-requires-clause-net
-has_border-requires-clause-net g c = c.requires.net
-
-pub has_border-requires-clause-serves : goal.has_border-requires-clause-serves
-has_border-requires-clause-serves g c = c.requires.serves
-
-pub has_border-requires-clause-ascends : goal.has_border-requires-clause-ascends
-has_border-requires-clause-ascends g c = c.ascends.ensures.0 c.if-not-ascends.false
-
-pub has_border-requires-clause-nodes : goal.has_border-requires-clause-nodes
-has_border-requires-clause-nodes g c =
-    subst (λ (n : ℕ). All (λ v. v < n) c.as_slice-nodes.result.now) c.count.ensures.nodes
-    (c.all_below.ensures.0 c.if-not-all_below.false)
+pub invariant_of-on : goal.invariant_of-on
+invariant_of-on g c = record {
+  sound = c.requires.sound;
+  fits = c.requires.fits;
+  serves = c.requires.serves;
+  in_order = c.in_order.ensures.ascends;
+}

@@ -1,0 +1,84 @@
+//! Moves turned round: a flood over them from some goals finds all nodes from which open moves lead to one.
+//! A goal that is shut in is soon known to be so, however far the moves from the starts reach.
+
+ghost use Rattle.std.specs.Prelude.{◌≡◌, ◌<◌};
+ghost use Rattle.std.specs.Bool.{OnTrue, OnFalse};
+ghost use Rattle.route_lattice.specs.Walks.{IsSound};
+ghost use Rattle.cut_certificate.specs.Backwards.{backwards, LedBy, LedOver};
+
+use route_lattice::{Move, Moves};
+
+/// The moves of another set of moves, turned round.
+#[derive(Drop)]
+pub struct Backwards<'a, M: Moves> {
+    pub m: &'a M,
+}
+
+impl<M: Moves> Backwards<'_, M> {
+    /// Whether move `i` of a node is open and leads to the other one.
+    fn leads_by(&self, from: u32, to: u32, i: u32) -> bool
+        requires ready { M.ready self.now.m.now }
+        requires sound { IsSound (M.graph self.now.m.now) }
+        requires from { from < (M.graph self.now.m.now).count }
+        requires index { i < (M.graph self.now.m.now).arity }
+        ensures yes { OnTrue result (LedOver (M.graph self.now.m.now) from to i) }
+        ensures no { OnFalse result (LedOver (M.graph self.now.m.now) from to i → ⊥) }
+    {
+        let Some((_, there)) = self.m.at(from, i) else {
+            return false;
+        };
+        if there != to {
+            return false;
+        }
+        if !self.m.is_open(from, i) {
+            return false;
+        }
+        let _price = self.m.price(from, i);
+        true
+    }
+
+    /// Whether an open move leads from a node to another one.
+    fn leads(&self, from: u32, to: u32) -> bool
+        requires ready { M.ready self.now.m.now }
+        requires sound { IsSound (M.graph self.now.m.now) }
+        requires from { from < (M.graph self.now.m.now).count }
+        ensures yes { OnTrue result (LedBy (M.graph self.now.m.now) from to) }
+        ensures no { OnFalse result (LedBy (M.graph self.now.m.now) from to → ⊥) }
+    {
+        for i in 0..self.m.arity() {
+            if self.leads_by(from, to, i) {
+                return true;
+            }
+        }
+        false
+    }
+}
+
+impl<M: Moves> Moves for Backwards<'_, M> {
+    ghost graph = { λ s. backwards (M.graph s.m.now) };
+
+    ghost ready = { λ s. M.ready s.m.now × IsSound (M.graph s.m.now) };
+
+    fn count(&self) -> u32 {
+        self.m.count()
+    }
+
+    fn arity(&self) -> u32 {
+        self.m.arity()
+    }
+
+    fn at(&self, node: u32, i: u32) -> Option<(Move, u32)> {
+        self.m.at(node, i)
+    }
+
+    fn is_open(&self, node: u32, i: u32) -> bool {
+        match self.m.at(node, i) {
+            Some((_, from)) => self.leads(from, node),
+            None => false,
+        }
+    }
+
+    fn price(&self, _node: u32, _i: u32) -> u64 {
+        0
+    }
+}

@@ -4,7 +4,7 @@ use Rattle.std.proofs.Common.{arith}
 use Rattle.std.specs.Prelude.{All, AllPairs, IfSome, slice_get, unwrap_or}
 use Rattle.std.specs.Option.{IsSomeAnd, option_map_or}
 use Rattle.std.proofs.lemmas.List.{length-map}
-use Rattle.std.proofs.lemmas.List.Elements.{All-map, All-weaker}
+use Rattle.std.proofs.lemmas.List.Elements.{All-map, All-nil, All-weaker}
 use Rattle.std.proofs.lemmas.Option.{slice_get-map}
 use Rattle.geo_kernel.specs.declared.spine.Spine.{Spine}
 use Rattle.geo_kernel.specs.declared.spine.Spine.TheVariants.{Chain, Area}
@@ -18,9 +18,10 @@ use Rattle.pcb_model.specs.declared.design.Net.{Net}
 use Rattle.pcb_model.specs.declared.design.Padstack.{Padstack}
 use Rattle.pcb_model.specs.declared.design.Pin.{Pin}
 use Rattle.pcb_model.specs.declared.design.RuleSet.{RuleSet}
+use Rattle.pcb_model.specs.declared.design.ClassPair.{ClassPair}
 use Rattle.pcb_model.specs.Bounds.{AreRulesWithin, HasRulesWithin, IsBoundFit, IsDesignFit, IsFit}
 use Rattle.pcb_model.specs.Sound.{ArePinsOf, HasDistinctNames, HasFewParts, HasPrintableNames, IsFixedSound}
-use Rattle.pcb_model.specs.Sound.{IsFreeSound, IsNetSound, IsPinSound, IsPrintable, IsSound, IsUsable}
+use Rattle.pcb_model.specs.Sound.{IsFreeSound, IsNetSound, IsPairSound, IsPinSound, IsPrintable, IsSound, IsUsable}
 use Rattle.pcb_model.proofs.Within.{All-at}
 use Rattle.dsn_shapes.specs.declared.parts.Image.{Image}
 use Rattle.dsn_shapes.specs.declared.parts.Layer.{Layer}
@@ -265,6 +266,7 @@ design_fit p stacks fixed free s h =
       structure = s.structure.rules_fit.clearances_within;
       classes_within = classes_within (length p.library.stacks) p.network.classes s.network.classes;
       nets_within = nets_within p stacks s;
+      pairs_within = All-nil (λ (q : ClassPair). AreRulesWithin (2 ^ 28) q.rules);
     } in
     record {
       rules_within = rules;
@@ -323,6 +325,7 @@ sound_from p stacks s h =
       few_per = s.head.few_per;
       width_within = width_small p.structure.rules.width s.structure.rules_fit.width_within;
       class_widths_within = class_widths (length p.library.stacks) p.network.classes s.network.classes;
+      pairs = All-nil (IsPairSound (counted_from p stacks));
       padstack_layers = stacks_in_range p stacks h;
       components = components_sound p.structure.flip_last p.library p.placing.places s.placing.places;
       pins = pins_sound p stacks fixed free;

@@ -130,6 +130,7 @@ bare_with p stacks free = record {
   nets = [];
   classes = [];
   rules = record { width = None; plain = None; typed = [] };
+  pairs = [];
   via_at_smd = p.structure.via_at_smd;
   fixed = [];
   free = free;

@@ -57,6 +57,7 @@ design_with p stacks components pins nets fixed free = record {
   nets = nets;
   classes = map class_rules p.network.classes;
   rules = p.structure.rules;
+  pairs = [];
   via_at_smd = p.structure.via_at_smd;
   fixed = fixed;
   free = free;

@@ -163,6 +163,7 @@ fn bare(alloc: Global, parts: &Parts, padstacks: List<Padstack>, free: List<Free
             plain: None,
             typed: List::new(alloc),
         },
+        pairs: List::new(alloc),
         via_at_smd: parts.structure.via_at_smd,
         fixed: List::new(alloc),
         free,

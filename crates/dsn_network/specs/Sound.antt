@@ -3,6 +3,7 @@ use Rattle.std.specs.Prelude.{◌≡◌, ◌≢◌, ◌<◌, ◌≤◌, ◌^◌,
 use Rattle.std.specs.Prelude.{slice_get}
 use Rattle.std.specs.Option.{IsSomeAnd}
 use Rattle.pcb_model.specs.Sound.{IsPrintable}
+use Rattle.pcb_model.specs.declared.design.ClassPair.{ClassPair}
 use Rattle.dsn_shapes.specs.declared.parts.Image.{Image}
 use Rattle.dsn_shapes.specs.declared.parts.Library.{Library}
 use Rattle.dsn_shapes.specs.declared.parts.Network.{Network}
@@ -40,6 +41,12 @@ pub record IsReadClassSound (stacks : ℕ) (c : ReadClass) : Type 0 where
   pub vias : IfSome c.vias (λ vs. All (λ v. v < stacks) vs)
   pub rules : IsRuleSetFit c.rules
 
+-- a class pair's classes are two of so many
+pub record IsReadPairSound (classes : ℕ) (p : ClassPair) : Type 0 where
+  pub a_in_range : p.a < classes
+  pub b_in_range : p.b < classes
+  pub rules : IsRuleSetFit p.rules
+
 -- the names of nets differ, and no two nets have one pin
 pub record IsNetworkSound (lib : Library) (placing : Placing) (network : Network) : Type 0 where
   pub nets : All (IsReadNetSound lib placing (length network.classes)) network.nets
@@ -47,3 +54,4 @@ pub record IsNetworkSound (lib : Library) (placing : Placing) (network : Network
   pub few : length network.nets ≤ MOST_NETS
   pub apart : AllPairs (λ (a b : ReadNet). (r : PinRef) → Contains a.pins r → Contains b.pins r → ⊥) network.nets
   pub classes : All (IsReadClassSound (length lib.stacks)) network.classes
+  pub pairs : All (IsReadPairSound (length network.classes)) network.pairs

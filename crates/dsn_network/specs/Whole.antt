@@ -13,6 +13,7 @@ use Rattle.dsn_shapes.specs.Rules.{rule_notes}
 use Rattle.dsn_network.specs.Words.{rules_in}
 use Rattle.dsn_network.specs.Classes.{circuits_in, class_refusals, read_class_of, stray_names}
 use Rattle.dsn_network.specs.Nets.{net_of, nets_refusals}
+use Rattle.dsn_network.specs.Pairs.{pairs_of, pair_refusals}
 
 abbrev pub networks : Tree → List Tree
 networks pcb = lists (codes "network" ∷ []) (pcb ∷ [])
@@ -22,6 +23,9 @@ net_lists pcb = lists (codes "net" ∷ []) (networks pcb)
 
 abbrev pub class_lists : Tree → List Tree
 class_lists pcb = lists (codes "class" ∷ []) (networks pcb)
+
+abbrev pub pair_lists : Tree → List Tree
+pair_lists pcb = lists (codes "class_class" ∷ []) (networks pcb)
 
 -- ---- lists that are left out or passed over, beside those of the table `read_in` and `idle_in`
 -- directly in the classes and their circuits
@@ -35,35 +39,40 @@ classes_passed classes = notes_in list.Class classes + notes_in list.Class (circ
 abbrev pub rules_passed : List Tree → ℕ
 rules_passed ts = sum_by (λ t. rule_notes (rules_in (t ∷ []))) ts
 
--- all refusals beside the parts, of a network with these sections, nets and classes
-unfoldable pub network_left_out : List Tree → List Tree → List Tree → List Refusal
-network_left_out sections nets classes =
-    left_out_in sections ++ (left_out_in nets ++ classes_left_out classes)
+-- all refusals beside the parts, of a network with these sections, nets, classes and class pairs
+unfoldable pub network_left_out : List Tree → List Tree → List Tree → List Tree → List Refusal
+network_left_out sections nets classes pairs =
+    left_out_in sections ++ (left_out_in nets ++ (classes_left_out classes ++ left_out_in pairs))
 
 -- a class's name of no net is passed over too
-unfoldable pub network_passed : List Tree → List Tree → List Tree → ℕ
-network_passed sections nets classes =
+unfoldable pub network_passed : List Tree → List Tree → List Tree → List Tree → ℕ
+network_passed sections nets classes pairs =
     notes_in list.Network sections + notes_in list.Net nets
-    + (classes_passed classes + stray_names (names_at 1 nets) classes)
+    + (classes_passed classes + stray_names (names_at 1 nets) classes + notes_in list.Pair pairs)
 
 -- ---- the whole
--- all refusals of a network with these sections, nets and classes
-unfoldable pub refusals_of : ℕ → Library → Placing → List Tree → List Tree → List Tree → List Refusal
-refusals_of nm lib placing sections nets classes = network_left_out sections nets classes
+-- all refusals of a network with these sections, nets, classes and class pairs
+unfoldable pub refusals_of : ℕ → Library → Placing → List Tree → List Tree → List Tree → List Tree → List Refusal
+refusals_of nm lib placing sections nets classes pairs = network_left_out sections nets classes pairs
     ++ (nets_refusals nm lib placing nets
-    ++ flat_map (class_refusals nm (stack_names lib.stacks)) classes)
+    ++ (flat_map (class_refusals nm (stack_names lib.stacks)) classes
+    ++ flat_map (pair_refusals nm (names_at 1 classes)) pairs))
 
 -- its value
-unfoldable pub value_of : ℕ → Library → Placing → List Tree → List Tree → List Tree → Network
-value_of nm lib placing sections nets classes = record {
+unfoldable pub value_of : ℕ → Library → Placing → List Tree → List Tree → List Tree → List Tree → Network
+value_of nm lib placing sections nets classes pairs = record {
   nets = map (net_of nm lib placing classes) nets;
   classes = map (read_class_of nm (stack_names lib.stacks)) classes;
-  notes = capped (network_passed sections nets classes + (rules_passed nets + rules_passed classes));
+  pairs = flat_map (pairs_of nm (names_at 1 classes)) pairs;
+  notes = capped (network_passed sections nets classes pairs
+      + (rules_passed nets + rules_passed classes + rules_passed pairs));
 }
 
 -- the same of a design
 abbrev pub network_refusals : ℕ → Library → Placing → Tree → List Refusal
 network_refusals nm lib placing pcb = refusals_of nm lib placing (networks pcb) (net_lists pcb) (class_lists pcb)
+    (pair_lists pcb)
 
 abbrev pub network_of : ℕ → Library → Placing → Tree → Network
 network_of nm lib placing pcb = value_of nm lib placing (networks pcb) (net_lists pcb) (class_lists pcb)
+    (pair_lists pcb)

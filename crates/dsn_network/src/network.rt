@@ -21,6 +21,7 @@ use dsn_shapes::{
     Library, ListKind, NameIndex, Network, Placing, ReadFault, Refusal, Trees, names_of, pass_over,
 };
 use dsn_tree::Tree;
+use geo_kernel::List;
 use dsn_units::Scale;
 use std::alloc::{AllocError, Global};
 
@@ -177,6 +178,7 @@ fn parts_of(
     Ok(Network {
         nets,
         classes,
+        pairs: List::new(alloc),
         notes: beside.saturating_add(notes.saturating_add(in_classes)),
     })
 }

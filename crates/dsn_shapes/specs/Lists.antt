@@ -72,8 +72,7 @@ is_left_out t =
     (is_headed (codes "polyline_path") t ||
     (is_headed (codes "layer_rule") t ||
     (is_headed (codes "region") t ||
-    (is_headed (codes "class_class") t ||
-    (is_headed (codes "absolute") t && says t 1 (codes "on"))))))
+    (is_headed (codes "absolute") t && says t 1 (codes "on")))))
 
 abbrev pub left_out : Tree → List Refusal
 left_out t = if is_left_out t then refused LEFT_OUT (place_of t 0) ∷ [] else []

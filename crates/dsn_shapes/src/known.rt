@@ -38,7 +38,9 @@ pub enum ListKind {
     Net,
     /// `class`, in the network, and each `circuit` in it, which may have a `use_via`.
     Class,
-    /// `rule`, in the structure, a net or a class, and each `clearance` in it, which may have a `type`.
+    /// `class_class`, in the network.
+    Pair,
+    /// `rule`, in the structure, a net, a class or a class pair, and each `clearance` in it, which may have a `type`.
     Rule,
     /// `wiring`, in the design, and each `wire` and `via` in it.
     Wiring,
@@ -79,9 +81,10 @@ pub fn read_in(kind: ListKind) -> &'static [&'static [u8]]
         ListKind::Padstack => &[b"shape"],
         ListKind::Placement => &[b"component", b"place_control"],
         ListKind::Component => &[b"place"],
-        ListKind::Network => &[b"net", b"class"],
+        ListKind::Network => &[b"net", b"class", b"class_class"],
         ListKind::Net => &[b"pins", b"rule"],
         ListKind::Class => &[b"circuit", b"rule", b"use_via"],
+        ListKind::Pair => &[b"classes", b"rule"],
         ListKind::Rule => &[b"width", b"clearance", b"type"],
         ListKind::Wiring => &[b"wire", b"via", b"path", b"net", b"type"],
     }

@@ -106,7 +106,6 @@ pub fn is_left_out(tree: &Tree) -> bool
         || is_headed(tree, b"polyline_path")
         || is_headed(tree, b"layer_rule")
         || is_headed(tree, b"region")
-        || is_headed(tree, b"class_class")
         || is_headed(tree, b"absolute") && says(tree, 1, b"on")
 }
 

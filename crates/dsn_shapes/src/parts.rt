@@ -4,7 +4,7 @@
 
 use dsn_units::{Angle, Scale};
 use geo_kernel::{List, Name, Point, Spine, Unit};
-use pcb_model::{Metal, RuleSet};
+use pcb_model::{ClassPair, Metal, RuleSet};
 
 /// A layer; a power layer takes no wires.
 #[derive(Drop)]
@@ -142,6 +142,7 @@ pub struct ReadClass {
 pub struct Network {
     pub nets: List<ReadNet>,
     pub classes: List<ReadClass>,
+    pub pairs: List<ClassPair>,
     pub notes: u64,
 }
 

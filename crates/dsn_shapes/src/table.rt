@@ -71,3 +71,9 @@ pub const PAST_LIMIT: u8 = 23;
 
 /// There is no boundary.
 pub const NO_BOUNDARY: u8 = 24;
+
+/// No class has this name.
+pub const NO_CLASS: u8 = 25;
+
+/// A class pair hasn't two names.
+pub const BAD_PAIR: u8 = 26;

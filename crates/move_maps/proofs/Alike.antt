@@ -16,7 +16,8 @@ use Rattle.pcb_model.specs.declared.design.RuleSet.{RuleSet}
 use Rattle.pcb_model.specs.declared.design.Net.{Net}
 use Rattle.pcb_model.specs.declared.design.Design.{Design}
 use Rattle.pcb_model.specs.Rules.{typed_value, levels, first_present, with_class, class_rules, value_of, clearance_of}
-use Rattle.pcb_model.specs.Rules.{width_for, is_pair}
+use Rattle.pcb_model.specs.Rules.{width_for, is_pair, class_in, class_of, pairs_of, joint_rules, pair_rules}
+use Rattle.pcb_model.proofs.Joint.{clearance_is}
 use Rattle.pcb_model.specs.Pieces.{pieces_of, metal_of, kind_of}
 use Rattle.pcb_model.specs.Pairs.{PiecesKeep, is_same_net, is_compared, ProbeAgrees}
 use Rattle.route_lattice.specs.declared.moves.Move.{Move}
@@ -70,10 +71,27 @@ pub same_value : (d : Design) (g net : ℕ) (ka kb : Kind) → AreAlike d g net
 same_value d g net ka kb h = same_own d ka kb (slice_get d.nets g)
     (slice_get d.nets net) h.g_unruled h.net_unruled h.nets
 
+-- and one class, so that the class pairs say the same of them
+same_class_in : (a b : Option Net) → Unruled a → Unruled b → ((x y : Net) → a ≡ Some x → b ≡ Some y → AreNetsAlike x y)
+    → class_in a ≡ class_in b
+same_class_in None b h k alike = absurd h
+same_class_in (Some x) None h k alike = absurd k
+same_class_in (Some x) (Some y) h k alike = (alike x y refl refl).class_is
+
+same_class : (d : Design) (g net : ℕ) → AreAlike d g net → class_of d (Some g) ≡ class_of d (Some net)
+same_class d g net h =
+    same_class_in (slice_get d.nets g) (slice_get d.nets net) h.g_unruled h.net_unruled h.nets
+
 -- and one clearance from each other net
 pub same_clearance : (d : Design) (g net : ℕ) (ka : Kind) (b : Option ℕ) (kb : Kind) → AreAlike d g net
     → clearance_of d (Some g) ka b kb ≡ clearance_of d (Some net) ka b kb
-same_clearance d g net ka b kb h = ap (λ x. max x (value_of d b ka kb)) (same_value d g net ka kb h)
+same_clearance d g net ka b kb h =
+    sym (clearance_is d (Some g) ka b kb)
+    ∙ (ap (λ x. first_present (max x (value_of d b ka kb)) (levels ka kb (pair_rules d (Some g) b)))
+    (same_value d g net ka kb h)
+    ∙ (ap (λ c. first_present (max (value_of d (Some net) ka kb) (value_of d b ka kb))
+        (levels ka kb (joint_rules (pairs_of d c (class_of d b))))) (same_class d g net h)
+    ∙ clearance_is d (Some net) ka b kb))
 
 -- ---- moves
 -- alike nets that are there have one list of vias

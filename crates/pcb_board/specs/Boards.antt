@@ -43,6 +43,7 @@ no_design = record {
   nets = [];
   classes = [];
   rules = record { width = None; plain = None; typed = [] };
+  pairs = [];
   via_at_smd = false;
   fixed = [];
   free = [];

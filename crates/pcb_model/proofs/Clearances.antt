@@ -1,17 +1,23 @@
 -- The greatest clearance: of all nets, and of none.
 use Rattle.std.proofs.Common.{◌≡◌, ℕ, ◌<◌, ◌≤◌, ◌^◌, ◌++◌, ◌∷◌, [], length, Option, Some, None, flat_map, max, ap, sym}
-use Rattle.std.proofs.Common.{subst, inl, inr, arith, ◌+◌}
+use Rattle.std.proofs.Common.{subst, inl, inr, arith, ◌+◌, ◌⊎◌, ◌∙◌, refl, List, Bool, true, false, cond, filter, slice_get, All}
+use Rattle.std.proofs.Common.{◌&&◌, ◌||◌, ◌==◌, true≢false}
+use Rattle.std.proofs.lemmas.Bool.{eqb-true}
+use Rattle.std.proofs.lemmas.List.Elements.{All-head, All-tail}
 use Rattle.std.proofs.Math.Nat.{max-le, max-eq_left}
 use Rattle.std.proofs.lemmas.Option.{slice_get_past}
 use Rattle.pcb_model.specs.declared.item.Kind.{Kind}
 use Rattle.pcb_model.specs.declared.item.Kind.TheVariants.{Wire, Via, Pin, Smd, Area}
 use Rattle.pcb_model.specs.declared.design.Net.{Net}
+use Rattle.pcb_model.specs.declared.design.ClassPair.{ClassPair}
 use Rattle.pcb_model.specs.declared.rules.Side.{Side}
 use Rattle.pcb_model.specs.Near.{IsSideOf, side_value}
 use Rattle.pcb_model.specs.declared.design.Design.{Design}
-use Rattle.pcb_model.specs.Rules.{value_of, levels, first_present, with_class}
-use Rattle.pcb_model.specs.Bounds.{IsValue, AreValuesWithin, HasRulesWithin, IsGreatestClearance}
+use Rattle.pcb_model.specs.Rules.{value_of, value_to, levels, first_present, with_class, class_in, class_of, is_of}
+use Rattle.pcb_model.specs.Rules.{pairs_of, joint_rules, pair_rules, rule_sets, typed_value}
+use Rattle.pcb_model.specs.Bounds.{IsValue, AreValuesWithin, IsPairWithin, HasRulesWithin, IsGreatestClearance}
 use Rattle.pcb_model.proofs.Far.{clearances_within}
+use Rattle.pcb_model.proofs.Joint.{pairs_swapped, value_is}
 use Rattle.pcb_model.proofs.First.{cases_lt as below_or_from}
 
 -- what holds of each kind holds of any
@@ -41,14 +47,159 @@ within_all d m none nets (Some n) = elim (below_or_from n (length d.nets)) [
   }
 ]
 
-pub greatest_is : (d : Design) (m : ℕ) → IsValue d m → AreValuesWithin d None m
-    → ((n : ℕ) → n < length d.nets → AreValuesWithin d (Some n) m) → IsGreatestClearance d m
-greatest_is d m v none nets =
-    let all = within_all d m none nets in
+-- ---- class pairs
+-- no pair is between a net and none
+none_between : (d : Design) (x : Option ℕ) → pairs_of d x None ≡ []
+none_between d None = refl
+none_between d (Some a) = refl
+
+no_pair : (d : Design) (net : Option ℕ) (ka kb : Kind) → value_to d net None ka kb ≡ value_of d net ka kb
+no_pair d net ka kb =
+    ap (λ ps. first_present 0 (flat_map (levels ka kb) (joint_rules ps ∷ rule_sets d net)))
+    (none_between d (class_of d net))
+
+-- a net's value towards none
+pub one_value : (d : Design) (net : Option ℕ) (ka kb : Kind) (m : ℕ) → m ≡ value_of d net ka kb → IsValue d m
+one_value d net ka kb m e =
+    record { net = net; to = None; one = ka; other = kb; is = no_pair d net ka kb ∙ sym e }
+
+taken_first : (least : ℕ) (t p : Option ℕ) (vs : List (Option ℕ)) → least < first_present least (t ∷ p ∷ [])
+    → first_present 0 (t ∷ p ∷ vs) ≡ first_present least (t ∷ p ∷ [])
+taken_first least (Some v) p vs h = refl
+taken_first least None (Some w) vs h = refl
+taken_first least None None vs h = absurd (omega (arith, h))
+
+pub not_above : (least : ℕ) (t p : Option ℕ)
+    → first_present 0 (t ∷ p ∷ []) ≤ max least (first_present least (t ∷ p ∷ []))
+not_above least (Some v) p = omega arith
+not_above least None (Some w) = omega arith
+not_above least None None = omega arith
+
+in_both : (m x : ℕ) (t p : Option ℕ) → x ≤ m → first_present 0 (t ∷ p ∷ []) ≤ m → first_present x (t ∷ p ∷ []) ≤ m
+in_both m x (Some v) p h k = k
+in_both m x None (Some w) h k = k
+in_both m x None None h k = h
+
+-- what the pairs of two classes say, where two nets are of these
+pub pair_value : (d : Design) (p : ClassPair) (a b : ℕ) (ka kb : Kind) (least next : ℕ)
+    → class_of d (Some a) ≡ Some p.a → class_of d (Some b) ≡ Some p.b
+    → next ≡ first_present least (levels ka kb (joint_rules (filter (is_of p.a p.b) d.pairs))) → least < next
+    → IsValue d next
+pair_value d p a b ka kb least next e f is h =
+    let r = joint_rules (filter (is_of p.a p.b) d.pairs) in
+    let rules : pair_rules d (Some a) (Some b) ≡ r = λ i. joint_rules (pairs_of d (e i) (f i)) in
     record {
-      within = record { each = λ a b ka kb. max-le ((all a).each ka kb) ((all b).each ka kb) };
-      reached = (v.net, v.net, v.one, v.other, subst (λ (w : ℕ). max w w ≡ m) (sym v.is) (max-eq_left (omega arith)));
+      net = Some a;
+      to = Some b;
+      one = ka;
+      other = kb;
+      is = ap (λ s. first_present 0 (flat_map (levels ka kb) (s ∷ rule_sets d (Some a)))) rules
+          ∙ (taken_first least (typed_value ka kb r.typed) r.plain (flat_map (levels ka kb) (rule_sets d (Some a)))
+          (subst (λ (v : ℕ). least < v) is h)
+          ∙ sym is);
     }
+
+-- ---- the pairs of two classes: none, or one that some nets' pair is
+kept_at : {X : Type 0} (test : X → Bool) (P : X → Type 0) (x : X) (xs : List X) (b : Bool) → test x ≡ b → P x
+    → (filter test xs ≡ []) ⊎ ((y : X) × P y × (test y ≡ true))
+    → (filter test (x ∷ xs) ≡ []) ⊎ ((y : X) × P y × (test y ≡ true))
+kept_at test P x xs true is h rest = inr (x, h, is)
+kept_at test P x xs false is h (inl e) =
+    inl (ap (λ (b : Bool). cond b (x ∷ filter test xs) (filter test xs)) is ∙ e)
+kept_at test P x xs false is h (inr s) = inr s
+
+first_kept : {X : Type 0} (test : X → Bool) (P : X → Type 0) (xs : List X) → All P xs
+    → (filter test xs ≡ []) ⊎ ((x : X) × P x × (test x ≡ true))
+first_kept test P [] h = inl refl
+first_kept test P (x ∷ xs) h =
+    kept_at test P x xs (test x) refl (All-head P x xs h) (first_kept test P xs (All-tail P x xs h))
+
+parts : (x y z w : Bool) → ((x && y) || (z && w)) ≡ true
+    → ((x ≡ true) × (y ≡ true)) ⊎ ((z ≡ true) × (w ≡ true))
+parts true true z w h = inl (refl, refl)
+parts true false true true h = inr (refl, refl)
+parts true false true false h = absurd (true≢false (sym h))
+parts true false false w h = absurd (true≢false (sym h))
+parts false y true true h = inr (refl, refl)
+parts false y true false h = absurd (true≢false (sym h))
+parts false y false w h = absurd (true≢false (sym h))
+
+module _ (d : Design) (m : ℕ) (pairs : All (IsPairWithin d m) d.pairs) (one other : Kind) where
+  abbrev Within : List ClassPair → Type 0
+  Within ps = first_present 0 (levels one other (joint_rules ps)) ≤ m
+
+  nothing : Within []
+  nothing = omega arith
+
+  -- of the classes x and y
+  classes_within : (a b x y : ℕ) → class_of d (Some a) ≡ Some x → class_of d (Some b) ≡ Some y
+      → Within (pairs_of d (Some x) (Some y))
+  classes_within a b x y e f = elim (first_kept (is_of x y) (IsPairWithin d m) d.pairs pairs) [
+    | inl none ↦ subst Within (sym none) nothing
+    | inr s ↦ let p = s.0 in
+        elim (parts (p.a == x) (p.b == y) (p.a == y) (p.b == x) s.2) [
+          | inl h ↦
+              let u : p.a ≡ x = eqb-true p.a x h.0 in
+              let v : p.b ≡ y = eqb-true p.b y h.1 in
+              subst Within (λ i. pairs_of d (Some (u i)) (Some (v i)))
+              (s.1.each a b (e ∙ ap Some (sym u)) (f ∙ ap Some (sym v)) one other)
+          | inr h ↦
+              let u : p.a ≡ y = eqb-true p.a y h.0 in
+              let v : p.b ≡ x = eqb-true p.b x h.1 in
+              subst Within (pairs_swapped d (Some y) (Some x)) (subst Within (λ i. pairs_of d (Some (u i)) (Some (v i)))
+              (s.1.each b a (f ∙ ap Some (sym u)) (e ∙ ap Some (sym v)) one other))
+        ]
+  ]
+
+  of_nets : (a b : ℕ) (x y : Option ℕ) → class_of d (Some a) ≡ x → class_of d (Some b) ≡ y → Within (pairs_of d x y)
+  of_nets a b None y e f = nothing
+  of_nets a b (Some x) None e f = nothing
+  of_nets a b (Some x) (Some y) e f = classes_within a b x y e f
+
+  between_within : (a b : Option ℕ) → Within (pairs_of d (class_of d a) (class_of d b))
+  between_within None b = nothing
+  between_within (Some a) None = subst Within (sym (none_between d (class_of d (Some a)))) nothing
+  between_within (Some a) (Some b) = of_nets a b (class_of d (Some a)) (class_of d (Some b)) refl refl
+
+  value_to_below : (a b : Option ℕ) → value_of d a one other ≤ m → value_to d a b one other ≤ m
+  value_to_below a b h =
+      let r = pair_rules d a b in
+      subst (λ (v : ℕ). v ≤ m) (value_is d a b one other)
+      (in_both m (value_of d a one other) (typed_value one other r.typed) r.plain h (between_within a b))
+
+pub greatest_is : (d : Design) (m : ℕ) → IsValue d m → AreValuesWithin d None m
+    → ((n : ℕ) → n < length d.nets → AreValuesWithin d (Some n) m) → All (IsPairWithin d m) d.pairs
+    → IsGreatestClearance d m
+greatest_is d m v none nets pairs =
+    let all : (a b : Option ℕ) (ka kb : Kind) → value_to d a b ka kb ≤ m = λ a b ka kb.
+    value_to_below d m pairs ka kb a b ((within_all d m none nets a).each ka kb) in
+    record {
+      within = record { each = λ a b ka kb. max-le (all a b ka kb) (all b a ka kb) };
+      reached = (
+        v.net,
+        v.to,
+        v.one,
+        v.other,
+        subst (λ (w : ℕ). max w (value_to d v.to v.net v.one v.other) ≡ m) (sym v.is)
+            (max-eq_left (all v.to v.net v.one v.other)),
+      );
+    }
+
+-- what is within m is within what is more
+pub pair_more : (d : Design) (m r : ℕ) → m ≤ r → (p : ClassPair) → IsPairWithin d m p → IsPairWithin d r p
+pair_more d m r h p w =
+    record { each = λ a b e f one other. let v = w.each a b e f one other in omega (arith, h, v) }
+
+-- no net is of the class
+pub no_net : (d : Design) (nets : List Net) (m : ℕ) (p : ClassPair) → nets ≡ d.nets
+    → ((i : ℕ) → class_in (slice_get nets i) ≡ Some p.a → ⊥) ⊎ ((i : ℕ) → class_in (slice_get nets i) ≡ Some p.b → ⊥)
+    → IsPairWithin d m p
+no_net d nets m p is (inl none) = record {
+  each = λ a b e f one other. absurd (none a (subst (λ (ns : List Net). class_in (slice_get ns a) ≡ Some p.a) (sym is) e));
+}
+no_net d nets m p is (inr none) = record {
+  each = λ a b e f one other. absurd (none b (subst (λ (ns : List Net). class_in (slice_get ns b) ≡ Some p.b) (sym is) f));
+}
 
 -- a clearance that some nets have is within what the rules are
 pub greatest_within : (d : Design) (m : ℕ) → HasRulesWithin (2 ^ 28) d → IsGreatestClearance d m → m ≤ 2 ^ 28

@@ -3,6 +3,7 @@ pub mod Answered
 pub mod First
 pub mod Probes
 pub mod Inside
+pub mod Joint
 pub mod Growing
 pub mod Extents
 pub mod Far

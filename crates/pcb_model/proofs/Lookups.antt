@@ -37,7 +37,7 @@ not_true true = (λ t. sym t, λ e. sym e)
 not_true false = (λ t. refl, λ e. refl)
 
 -- ---- rules
-two_levels : (a b : Option ℕ) (rest : ℕ) (vs : List (Option ℕ))
+pub two_levels : (a b : Option ℕ) (rest : ℕ) (vs : List (Option ℕ))
     → first_present (first_present rest vs) (a ∷ b ∷ []) ≡ first_present rest (a ∷ b ∷ vs)
 two_levels None None rest vs = refl
 two_levels None (Some y) rest vs = refl

@@ -16,7 +16,7 @@ use Rattle.pcb_model.specs.declared.design.Typed.{Typed}
 use Rattle.pcb_model.specs.declared.design.RuleSet.{RuleSet}
 use Rattle.pcb_model.specs.declared.design.Design.{Design}
 use Rattle.pcb_model.specs.Rules.{is_kind, is_pair, names_pair, names_one, last_value, typed_value, first_present}
-use Rattle.pcb_model.specs.Rules.{levels, rule_sets, value_of, clearance_of}
+use Rattle.pcb_model.specs.Rules.{levels, rule_sets, value_to, pair_rules, clearance_of}
 use Rattle.pcb_model.specs.Pairs.{PieceKeeps, PiecesKeep, PieceTouches, TouchesSome, PiecesTouch, is_same_net}
 use Rattle.pcb_model.specs.Pairs.{is_compared, must_keep, must_stay_off, Agrees, AreTouching}
 
@@ -64,14 +64,15 @@ typed_swapped ka kb ts =
 levels_swapped : (ka kb : Kind) (rs : RuleSet) → levels ka kb rs ≡ levels kb ka rs
 levels_swapped ka kb rs = λ i. typed_swapped ka kb rs.typed i ∷ rs.plain ∷ []
 
-value_swapped : (d : Design) (net : Option ℕ) (ka kb : Kind) → value_of d net ka kb ≡ value_of d net kb ka
-value_swapped d net ka kb =
-    ap (λ (f : RuleSet → List (Option ℕ)). first_present 0 (flat_map f (rule_sets d net)))
+value_swapped : (d : Design) (net other : Option ℕ) (ka kb : Kind)
+    → value_to d net other ka kb ≡ value_to d net other kb ka
+value_swapped d net other ka kb =
+    ap (λ (f : RuleSet → List (Option ℕ)). first_present 0 (flat_map f (pair_rules d net other ∷ rule_sets d net)))
     (λ i rs. levels_swapped ka kb rs i)
 
 clearance_swapped : (d : Design) (a : Option ℕ) (ka : Kind) (b : Option ℕ) (kb : Kind)
     → clearance_of d a ka b kb ≡ clearance_of d b kb a ka
-clearance_swapped d a ka b kb = omega (arith, value_swapped d a ka kb, value_swapped d b ka kb)
+clearance_swapped d a ka b kb = omega (arith, value_swapped d a b ka kb, value_swapped d b a ka kb)
 
 -- ---- the nets and metals
 same_bools : (b c : Bool) → (b ≡ true → c ≡ true) → (c ≡ true → b ≡ true) → b ≡ c

@@ -5,15 +5,17 @@ use Prim.Native.Nat.{zero, suc}
 use Rattle.std.specs.Prelude.{IfSome}
 use Rattle.std.specs.Option.{option_or, option_map, option_to_list}
 use Rattle.std.specs.List.{find}
-use Rattle.std.proofs.lemmas.List.Elements.{All-append, All-head, All-tail, All-nil, All-cons}
+use Rattle.std.proofs.lemmas.List.Elements.{All-append, All-head, All-tail, All-nil, All-cons, All-filter}
 use Rattle.std.proofs.lemmas.List.{reverse-append}
 use Rattle.pcb_model.specs.declared.item.Kind.{Kind}
 use Rattle.pcb_model.specs.declared.design.Typed.{Typed}
 use Rattle.pcb_model.specs.declared.design.RuleSet.{RuleSet}
 use Rattle.pcb_model.specs.declared.design.Net.{Net}
+use Rattle.pcb_model.specs.declared.design.ClassPair.{ClassPair}
 use Rattle.pcb_model.specs.declared.design.Design.{Design}
 use Rattle.pcb_model.specs.Rules.{names_pair, names_one, last_value, typed_value, first_present, levels, class_rules}
-use Rattle.pcb_model.specs.Rules.{with_class, net_rules, rule_sets, value_of, clearance_of}
+use Rattle.pcb_model.specs.Rules.{with_class, net_rules, rule_sets, value_of, value_to, clearance_of, class_of, is_of}
+use Rattle.pcb_model.specs.Rules.{pairs_of, pair_rules, joint_rules, last_plain}
 use Rattle.pcb_model.specs.Bounds.{AreRulesWithin, HasRulesWithin}
 
 pub All-at : {X : Type 0} (P : X → Type 0) (xs : List X) (i : ℕ) → All P xs → IfSome (slice_get xs i) P
@@ -95,10 +97,51 @@ value_within m d net ka kb h =
     (All-append (AreRulesWithin m) (net_rules d net) (d.rules ∷ []) (rules_within m d net h)
     (All-cons (AreRulesWithin m) d.rules [] h.structure (All-nil (AreRulesWithin m)))))
 
+-- ---- class pairs
+abbrev PairWithin : ℕ → ClassPair → Type 0
+PairWithin m p = AreRulesWithin m p.rules
+
+or_within : (m : ℕ) (a b : Option ℕ) → IsAtMost m a → IsAtMost m b → IsAtMost m (option_or a b)
+or_within m None b h k = k
+or_within m (Some x) b h k = h
+
+plain_joint : (m : ℕ) (ps : List ClassPair) → All (PairWithin m) ps → IsAtMost m (last_plain ps)
+plain_joint m [] h = tt
+plain_joint m (p ∷ ps) h =
+    or_within m (last_plain ps) p.rules.plain (plain_joint m ps (All-tail (PairWithin m) p ps h))
+    (All-head (PairWithin m) p ps h).plain_within
+
+typed_joint : (m : ℕ) (ps : List ClassPair) → All (PairWithin m) ps
+    → All (λ (t : Typed). t.value ≤ m) (joint_rules ps).typed
+typed_joint m [] h = All-nil (λ (t : Typed). t.value ≤ m)
+typed_joint m (p ∷ ps) h =
+    All-append (λ (t : Typed). t.value ≤ m) p.rules.typed (joint_rules ps).typed
+    (All-head (PairWithin m) p ps h).typed_within (typed_joint m ps (All-tail (PairWithin m) p ps h))
+
+pub joint_within : (m : ℕ) (ps : List ClassPair) → All (PairWithin m) ps → AreRulesWithin m (joint_rules ps)
+joint_within m ps h = record { plain_within = plain_joint m ps h; typed_within = typed_joint m ps h }
+
+pairs_within_of : (m : ℕ) (d : Design) (x y : Option ℕ) → HasRulesWithin m d → All (PairWithin m) (pairs_of d x y)
+pairs_within_of m d None y h = All-nil (PairWithin m)
+pairs_within_of m d (Some a) None h = All-nil (PairWithin m)
+pairs_within_of m d (Some a) (Some b) h = All-filter (is_of a b) (PairWithin m) d.pairs h.pairs_within
+
+pub value_to_within : (m : ℕ) (d : Design) (net other : Option ℕ) (ka kb : Kind) → HasRulesWithin m d
+    → value_to d net other ka kb ≤ m
+value_to_within m d net other ka kb h =
+    let r = pair_rules d net other in
+    first m (flat_map (levels ka kb) (r ∷ rule_sets d net)) (all_levels m ka kb (r ∷ rule_sets d net)
+    (All-cons (AreRulesWithin m) r (rule_sets d net)
+    (joint_within m (pairs_of d (class_of d net) (class_of d other))
+    (pairs_within_of m d (class_of d net) (class_of d other) h))
+    (All-append (AreRulesWithin m) (net_rules d net) (d.rules ∷ []) (rules_within m d net h)
+    (All-cons (AreRulesWithin m) d.rules [] h.structure (All-nil (AreRulesWithin m))))))
+
 max_within : (m x y : ℕ) → x ≤ m → y ≤ m → max x y ≤ m
 max_within m x y h k = omega arith
 
 pub clearance_within : (m : ℕ) (d : Design) (a : Option ℕ) (ka : Kind) (b : Option ℕ) (kb : Kind) → HasRulesWithin m d
     → clearance_of d a ka b kb ≤ m
 clearance_within m d a ka b kb h =
-    max_within m (value_of d a ka kb) (value_of d b ka kb) (value_within m d a ka kb h) (value_within m d b ka kb h)
+    max_within m (value_to d a b ka kb) (value_to d b a ka kb) (value_to_within m d a b ka kb h)
+    (value_to_within m d b a ka kb h)

@@ -1,5 +1,5 @@
 -- How large the numbers of a design and of its items may be.
-use Rattle.std.specs.Prelude.{◌≡◌, ℕ, ◌≤◌, ◌<◌, ◌^◌, List, Option, length, All, IfSome}
+use Rattle.std.specs.Prelude.{◌≡◌, ℕ, ◌≤◌, ◌<◌, ◌^◌, List, Option, Some, length, All, IfSome}
 use Rattle.geo_kernel.specs.declared.point.Point.{Point}
 use Rattle.geo_kernel.specs.Plane.{IsWithin}
 use Rattle.geo_kernel.specs.Spine.{IsWellFormed, IsSpineWithin}
@@ -11,11 +11,12 @@ use Rattle.pcb_model.specs.declared.item.Metal.TheVariants.{Wire, Via, Pad, Ban}
 use Rattle.pcb_model.specs.declared.design.Padstack.{Padstack}
 use Rattle.pcb_model.specs.declared.design.Typed.{Typed}
 use Rattle.pcb_model.specs.declared.design.RuleSet.{RuleSet}
+use Rattle.pcb_model.specs.declared.design.ClassPair.{ClassPair}
 use Rattle.pcb_model.specs.declared.design.Net.{Net}
 use Rattle.pcb_model.specs.declared.design.Design.{Design}
 use Rattle.pcb_model.specs.declared.item.Kind.{Kind}
 use Rattle.pcb_model.specs.Pieces.{pieces_of, metal_of}
-use Rattle.pcb_model.specs.Rules.{value_of, clearance_of}
+use Rattle.pcb_model.specs.Rules.{value_of, value_to, clearance_of, class_of, between_of}
 
 -- no clearance of the rules is above m
 pub record AreRulesWithin (m : ℕ) (rs : RuleSet) : Type 0 where
@@ -27,21 +28,28 @@ pub record HasRulesWithin (m : ℕ) (d : Design) : Type 0 where
   pub structure : AreRulesWithin m d.rules
   pub classes_within : All (AreRulesWithin m) d.classes
   pub nets_within : All (λ (n : Net). AreRulesWithin m n.rules) d.nets
+  pub pairs_within : All (λ (p : ClassPair). AreRulesWithin m p.rules) d.pairs
 
 -- no clearance between two nets is above m
 pub record HasClearancesWithin (m : ℕ) (d : Design) : Type 0 where
   pub each : (a b : Option ℕ) (ka kb : Kind) → clearance_of d a ka b kb ≤ m
 
--- some net, or none, has the value for some pair of kinds
+-- some net, or none, has the value towards some net, or none, for some pair of kinds
 pub record IsValue (d : Design) (m : ℕ) : Type 0 where
   pub net : Option ℕ
+  pub to : Option ℕ
   pub one : Kind
   pub other : Kind
-  pub is : value_of d net one other ≡ m
+  pub is : value_to d net to one other ≡ m
 
 -- no value of the net is above m
 pub record AreValuesWithin (d : Design) (net : Option ℕ) (m : ℕ) : Type 0 where
   pub each : (one other : Kind) → value_of d net one other ≤ m
+
+-- no value that the class pairs give two nets of the pair's classes is above m
+pub record IsPairWithin (d : Design) (m : ℕ) (p : ClassPair) : Type 0 where
+  pub each : (a b : ℕ) → class_of d (Some a) ≡ Some p.a → class_of d (Some b) ≡ Some p.b → (one other : Kind)
+      → between_of d p one other ≤ m
 
 -- no clearance between two nets is above m, and there is one of m
 pub record IsGreatestClearance (d : Design) (m : ℕ) : Type 0 where

@@ -16,6 +16,7 @@ use Rattle.pcb_model.specs.declared.design.Component.{Component}
 use Rattle.pcb_model.specs.declared.design.Pin.{Pin}
 use Rattle.pcb_model.specs.declared.design.Net.{Net}
 use Rattle.pcb_model.specs.declared.design.RuleSet.{RuleSet}
+use Rattle.pcb_model.specs.declared.design.ClassPair.{ClassPair}
 use Rattle.pcb_model.specs.declared.design.FreeWire.{FreeWire}
 use Rattle.pcb_model.specs.declared.design.Design.{Design}
 use Rattle.pcb_model.specs.Pieces.{pieces_of}
@@ -77,6 +78,11 @@ pub record IsNetSound (d : Design) (n : Net) : Type 0 where
   pub few_vias : length n.vias ≤ 2 ^ 26
   pub vias_usable : All (λ v. IsSomeAnd (slice_get d.padstacks v) (λ (s : Padstack). IsUsable s.pieces)) n.vias
   pub width_within : IfSome n.rules.width (λ w. w ≤ 2 ^ 28)
+
+-- a class pair's classes are in range
+pub record IsPairSound (d : Design) (p : ClassPair) : Type 0 where
+  pub a_in_range : p.a < length d.classes
+  pub b_in_range : p.b < length d.classes
 
 pub record IsPinSound (d : Design) (p : Pin) : Type 0 where
   pub within : IsWithin (2 ^ 29) p.centre
@@ -149,6 +155,7 @@ pub record IsSound (d : Design) : Type 0 where
   pub few_per : d.per ≤ MOST_PER
   pub width_within : IfSome d.rules.width (λ w. w ≤ 2 ^ 28)
   pub class_widths_within : All (λ (rs : RuleSet). IfSome rs.width (λ w. w ≤ 2 ^ 28)) d.classes
+  pub pairs : All (IsPairSound d) d.pairs
   pub padstack_layers : All (λ (s : Padstack). All (IsLayerOf d) s.pieces) d.padstacks
   pub components : All IsComponentSound d.components
   pub pins : All (IsPinSound d) d.pins

@@ -20,6 +20,14 @@ pub struct RuleSet {
     pub typed: List<Typed>,
 }
 
+/// The rules between the nets of one class and those of another, or of the same.
+#[derive(Drop)]
+pub struct ClassPair {
+    pub a: u32,
+    pub b: u32,
+    pub rules: RuleSet,
+}
+
 /// A placed pin.
 #[derive(Drop)]
 pub struct Pin {
@@ -88,6 +96,7 @@ pub struct Design {
     pub nets: List<Net>,
     pub classes: List<RuleSet>,
     pub rules: RuleSet,
+    pub pairs: List<ClassPair>,
     pub via_at_smd: bool,
     pub fixed: List<Item>,
     pub free: List<FreeWire>,
@@ -112,6 +121,7 @@ impl Drop for Design {
             nets: _,
             classes: _,
             rules: _,
+            pairs: _,
             via_at_smd: _,
             fixed: _,
             free: _,

@@ -1,14 +1,14 @@
 //! The greatest clearance of a design, in nm: how far copper can be asked to keep from other copper.
 //! A net without rules of its own has those of the structure, so each net is looked at, and none.
 
-ghost use Rattle.std.specs.Prelude.{◌≤◌, ◌^◌};
+ghost use Rattle.std.specs.Prelude.{◌≡◌, ◌↔◌, ℕ, ◌≤◌, ◌^◌, IsTrue, Some, length, slice_get, MatchOption};
 ghost use Rattle.pcb_model.specs.declared.item.Kind.{Kind as OneKind};
-ghost use Rattle.pcb_model.specs.Rules.{value_of};
+ghost use Rattle.pcb_model.specs.Rules.{value_of, between_of, class_in, class_of};
 ghost use Rattle.pcb_model.specs.Sound.{IsSound};
-ghost use Rattle.pcb_model.specs.Bounds.{IsValue, AreValuesWithin, IsGreatestClearance};
+ghost use Rattle.pcb_model.specs.Bounds.{IsValue, AreValuesWithin, IsPairWithin, IsGreatestClearance};
 
-use crate::rules::value;
-use crate::{Design, Kind};
+use crate::rules::{in_pairs, value};
+use crate::{ClassPair, Design, Kind, Net};
 
 // The greater of a number and the value of a net for two kinds.
 fn raised(d: &Design, net: Option<u32>, ka: Kind, kb: Kind, least: u64) -> u64
@@ -49,6 +49,92 @@ fn raised_by_net(d: &Design, net: Option<u32>, least: u64) -> u64
     raised_by_kind(d, net, Kind::Area, smd)
 }
 
+fn has_class(n: &Net, class: u32) -> bool
+    ensures { IsTrue result ↔ (n.now.class ≡ Some class) }
+{
+    match n.class {
+        Some(c) => c == class,
+        None => false,
+    }
+}
+
+// The first net of a class.
+fn net_of(nets: &[Net], class: u32) -> Option<u32>
+    requires { length nets.now ≤ 2 ^ 26 }
+    ensures { MatchOption result ((i : ℕ) → class_in (slice_get nets.now i) ≡ Some class → ⊥)
+        (λ i. class_in (slice_get nets.now i) ≡ Some class) }
+{
+    for i in 0..nets.len() {
+        if has_class(&nets[i], class) {
+            return Some(i as u32);
+        }
+    }
+    None
+}
+
+// The greater of a number and the value that the class pairs give the classes of a pair, which some nets have.
+fn raised_between(d: &Design, p: &ClassPair, a: u32, b: u32, ka: Kind, kb: Kind, least: u64) -> u64
+    requires reached { IsValue d.now least }
+    requires a_is { class_of d.now (Some a) ≡ Some p.now.a }
+    requires b_is { class_of d.now (Some b) ≡ Some p.now.b }
+    ensures value { between_of d.now p.now ka kb ≤ result }
+    ensures least { least ≤ result }
+    ensures reached { IsValue d.now result }
+{
+    let next = in_pairs(d.pairs.as_slice(), p.a, p.b, ka, kb, least);
+    if next > least { next } else { least }
+}
+
+// The greatest of a number and the values of a pair for a kind and any other.
+fn raised_between_kind(d: &Design, p: &ClassPair, a: u32, b: u32, kind: Kind, least: u64) -> u64
+    requires reached { IsValue d.now least }
+    requires a_is { class_of d.now (Some a) ≡ Some p.now.a }
+    requires b_is { class_of d.now (Some b) ≡ Some p.now.b }
+    ensures values { (other : OneKind) → between_of d.now p.now kind other ≤ result }
+    ensures least { least ≤ result }
+    ensures reached { IsValue d.now result }
+{
+    let wire = raised_between(d, p, a, b, kind, Kind::Wire, least);
+    let via = raised_between(d, p, a, b, kind, Kind::Via, wire);
+    let pin = raised_between(d, p, a, b, kind, Kind::Pin, via);
+    let smd = raised_between(d, p, a, b, kind, Kind::Smd, pin);
+    raised_between(d, p, a, b, kind, Kind::Area, smd)
+}
+
+// The greatest of a number and the values of a pair.
+fn raised_by_nets(d: &Design, p: &ClassPair, a: u32, b: u32, least: u64) -> u64
+    requires reached { IsValue d.now least }
+    requires a_is { class_of d.now (Some a) ≡ Some p.now.a }
+    requires b_is { class_of d.now (Some b) ≡ Some p.now.b }
+    ensures values { (one other : OneKind) → between_of d.now p.now one other ≤ result }
+    ensures least { least ≤ result }
+    ensures reached { IsValue d.now result }
+{
+    let wire = raised_between_kind(d, p, a, b, Kind::Wire, least);
+    let via = raised_between_kind(d, p, a, b, Kind::Via, wire);
+    let pin = raised_between_kind(d, p, a, b, Kind::Pin, via);
+    let smd = raised_between_kind(d, p, a, b, Kind::Smd, pin);
+    raised_between_kind(d, p, a, b, Kind::Area, smd)
+}
+
+// The greatest of a number and the values of a pair, where both of its classes have nets.
+fn raised_by_pair(d: &Design, p: &ClassPair, least: u64) -> u64
+    requires reached { IsValue d.now least }
+    requires few_nets { length d.now.nets ≤ 2 ^ 26 }
+    ensures values { IsPairWithin d.now result p.now }
+    ensures least { least ≤ result }
+    ensures reached { IsValue d.now result }
+{
+    let nets = d.nets.as_slice();
+    match net_of(nets, p.a) {
+        Some(a) => match net_of(nets, p.b) {
+            Some(b) => raised_by_nets(d, p, a, b, least),
+            None => least,
+        },
+        None => least,
+    }
+}
+
 /// The greatest value in nm that `clearance` gives for the design.
 pub fn greatest_clearance(d: &Design) -> u64
     requires { IsSound d.now }
@@ -58,6 +144,9 @@ pub fn greatest_clearance(d: &Design) -> u64
     let mut greatest = raised_by_net(d, None, value(d, None, Kind::Wire, Kind::Wire));
     for net in 0..d.nets.len() as u32 {
         greatest = raised_by_net(d, Some(net), greatest);
+    }
+    for p in d.pairs.as_slice() {
+        greatest = raised_by_pair(d, p, greatest);
     }
     greatest
 }

@@ -21,7 +21,8 @@ mod steps;
 
 pub use copper::Copper;
 pub use design::{
-    BoardLayer, Component, Design, FreeWire, Net, Padstack, Pin, RuleSet, SesScale, Typed,
+    BoardLayer, ClassPair, Component, Design, FreeWire, Net, Padstack, Pin, RuleSet, SesScale,
+    Typed,
 };
 pub use greatest::greatest_clearance;
 pub use item::{Item, Kind, Metal, Piece, Probe};

@@ -4,19 +4,19 @@
 pub const MOST_LAYERS: u64 = 32;
 
 /// Nets of a design.
-pub const MOST_NETS: u64 = 65_536;
+pub const MOST_NETS: u64 = 131_072;
 
 /// Pins of a design.
-pub const MOST_PINS: u64 = 262_144;
+pub const MOST_PINS: u64 = 524_288;
 
 /// Items that a design begins with: its boundaries, keepouts and pins, and the wires and vias of its wiring.
-pub const MOST_ITEMS: u64 = 1_048_576;
+pub const MOST_ITEMS: u64 = 2_097_152;
 
 /// Vertices of one shape.
-pub const MOST_VERTICES: u64 = 4_096;
+pub const MOST_VERTICES: u64 = 16_384;
 
 /// Units of a resolution, as 10 in `(resolution um 10)`.
 pub const MOST_PER: u32 = 1_000_000;
 
 /// Bytes of a file that a program reads.
-pub const MOST_BYTES: u64 = 33_554_432;
+pub const MOST_BYTES: u64 = 67_108_864;

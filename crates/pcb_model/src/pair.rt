@@ -8,7 +8,7 @@ ghost use Rattle.pcb_model.specs.Pairs.{PieceKeeps, KeepsFrom, TouchesSome, Piec
 ghost use Rattle.pcb_model.specs.Pairs.{is_same_net, is_banned as is_banned_by, is_compared as are_compared};
 ghost use Rattle.pcb_model.specs.Pairs.{must_keep as must_keep_of, must_stay_off as must_stay_off_of, Agrees};
 
-use crate::rules::{same_pair, value};
+use crate::rules::{clearance_from, same_pair, value};
 use crate::{Design, Item, Kind, Metal, Piece, Steps};
 use geo_kernel::{spine_keeps, spine_touch};
 use std::sync::ledger::Ledger;
@@ -144,7 +144,7 @@ fn keeps(d: &Design, own: u64, a: &Item, b: &Item) -> bool
         → PiecesKeep (clearance_of d.now a.now.net a.now.kind b.now.net b.now.kind) a.now.pieces b.now.pieces) }
 {
     if must_keep(a, b) {
-        let c = own.max(value(d, b.net, a.kind, b.kind));
+        let c = clearance_from(d, own, a.net, a.kind, b.net, b.kind);
         pieces_keep(c, a.pieces.as_slice(), b.pieces.as_slice())
     } else {
         true

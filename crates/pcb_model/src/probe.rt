@@ -15,7 +15,7 @@ ghost use Rattle.pcb_model.specs.Board.{AreInside};
 
 use crate::legal::inside_each;
 use crate::pair::same_net;
-use crate::rules::{same_kind, value};
+use crate::rules::{clearance_from, same_kind, value};
 use crate::{Design, Item, Kind, Metal, Piece, Probe, Steps};
 use geo_kernel::{List, Point, first_point, points_keep, spine_keeps_moved, spine_touch_moved};
 use std::sync::ledger::Ledger;
@@ -81,7 +81,7 @@ fn wire_ok(
         b.now }
 {
     if wire_must_keep(net, b) {
-        let c = own.max(value(d, b.net, Kind::Wire, b.kind));
+        let c = clearance_from(d, own, Some(net), Kind::Wire, b.net, b.kind);
         chain_keeps_all(c, layer, width, points, b.pieces.as_slice())
     } else {
         true
@@ -190,7 +190,7 @@ fn via_keeps(d: &Design, own: u64, net: u32, ps: &[Piece], at: Point, b: &Item) 
         b.now.pieces) }
 {
     if via_must_keep(net, b) {
-        let c = own.max(value(d, b.net, Kind::Via, b.kind));
+        let c = clearance_from(d, own, Some(net), Kind::Via, b.net, b.kind);
         moved_keep(c, ps, at, b.pieces.as_slice())
     } else {
         true

@@ -1,16 +1,18 @@
 //! Clearances and widths in nm, by the rules of nets, classes and the structure.
 //! Source: SPECCTRA reference, rule, class and net descriptors.
 
-ghost use Rattle.std.specs.Prelude.{◌≡◌, ℕ, ◌≤◌, ◌^◌, All, map, flat_map};
+ghost use Rattle.std.specs.Prelude.{◌≡◌, ℕ, ◌≤◌, ◌^◌, All, map, flat_map, filter};
 ghost use Rattle.pcb_model.specs.declared.design.RuleSet.{RuleSet as TheRules};
 ghost use Rattle.pcb_model.specs.declared.design.Net.{Net as TheNet};
+ghost use Rattle.pcb_model.specs.declared.design.ClassPair.{ClassPair as ThePair};
 ghost use Rattle.pcb_model.specs.declared.design.Typed.{Typed as TheTyped};
 ghost use Rattle.pcb_model.specs.Bounds.{AreRulesWithin, HasRulesWithin};
 ghost use Rattle.pcb_model.specs.Near.{IsSideOf, side_value};
 ghost use Rattle.pcb_model.specs.Rules.{is_kind, is_pair, names_pair, names_one, last_value, value_of};
 ghost use Rattle.pcb_model.specs.Rules.{clearance_of, width_for, first_present, levels, class_rules, net_rules};
+ghost use Rattle.pcb_model.specs.Rules.{class_of, is_of, joint_rules, pair_rules};
 
-use crate::{Design, Kind, Net, RuleSet, Typed};
+use crate::{ClassPair, Design, Kind, Net, RuleSet, Typed};
 
 pub(crate) fn same_kind(a: Kind, b: Kind) -> bool
     ensures { result ≡ is_kind a b }
@@ -118,12 +120,78 @@ pub(crate) fn value(d: &Design, net: Option<u32>, ka: Kind, kb: Kind) -> u64
     in_net(d, net, ka, kb, in_rules(&d.rules, ka, kb, 0))
 }
 
+fn class_of_net(d: &Design, net: Option<u32>) -> Option<u32>
+    ensures { result ≡ class_of d.now net }
+{
+    match net {
+        Some(i) => match d.nets.as_slice().get(i as usize) {
+            Some(n) => n.class,
+            None => None,
+        },
+        None => None,
+    }
+}
+
+fn is_of_classes(p: &ClassPair, a: u32, b: u32) -> bool
+    ensures { result ≡ is_of a b p.now }
+{
+    p.a == a && p.b == b || p.a == b && p.b == a
+}
+
+// The value of the class pairs of two classes, or `rest` where they have none.
+pub(crate) fn in_pairs(pairs: &[ClassPair], a: u32, b: u32, ka: Kind, kb: Kind, rest: u64) -> u64
+    ensures { result ≡ first_present rest (levels ka kb (joint_rules (filter (is_of a b) pairs.now))) }
+{
+    let mut exact = None;
+    let mut wide = None;
+    let mut plain = None;
+    for p in pairs {
+        if is_of_classes(p, a, b) {
+            let ts = p.rules.typed.as_slice();
+            exact = last_exact(ts, ka, kb).or(exact);
+            wide = last_wide(ts, ka, kb).or(wide);
+            plain = p.rules.plain.or(plain);
+        }
+    }
+    exact.or(wide).or(plain).unwrap_or(rest)
+}
+
+// The value of the class pairs of two nets, or `rest` where they have none.
+fn between(d: &Design, a: Option<u32>, b: Option<u32>, ka: Kind, kb: Kind, rest: u64) -> u64
+    ensures { result ≡ first_present rest (levels ka kb (pair_rules d.now a b)) }
+{
+    let pairs = d.pairs.as_slice();
+    if pairs.is_empty() {
+        return rest;
+    }
+    match (class_of_net(d, a), class_of_net(d, b)) {
+        (Some(x), Some(y)) => in_pairs(pairs, x, y, ka, kb, rest),
+        _ => rest,
+    }
+}
+
+// The clearance of two nets, of which `own` is the first one's value whatever the other is.
+pub(crate) fn clearance_from(
+    d: &Design,
+    own: u64,
+    a: Option<u32>,
+    ka: Kind,
+    b: Option<u32>,
+    kb: Kind,
+) -> u64
+    requires { own ≡ value_of d.now a ka kb }
+    ensures { result ≡ clearance_of d.now a ka b kb }
+{
+    between(d, a, b, ka, kb, own.max(value(d, b, ka, kb)))
+}
+
 /// The distance in nm that copper of the net `a` and of kind `ka` keeps from copper of the net `b` and of kind `kb`:
-/// the greater of the values of the two nets. A net that is None, or out of range, has the values of the structure.
+/// that of the class pairs of their two classes, or else the greater of the values of the two nets. A net that is
+/// None, or out of range, has the values of the structure.
 pub fn clearance(d: &Design, a: Option<u32>, ka: Kind, b: Option<u32>, kb: Kind) -> u64
     ensures { result ≡ clearance_of d.now a ka b kb }
 {
-    value(d, a, ka, kb).max(value(d, b, ka, kb))
+    clearance_from(d, value(d, a, ka, kb), a, ka, b, kb)
 }
 
 /// The width in nm of a net that no rule gives one.
@@ -252,6 +320,21 @@ fn reach_of_nets(nets: &[Net], least: u64) -> u64
     greatest
 }
 
+fn reach_of_pairs(pairs: &[ClassPair], least: u64) -> u64
+    requires rules { All (λ (p : ThePair). AreRulesWithin (2 ^ 28) p.rules) pairs.now }
+    requires least_within { least ≤ 2 ^ 28 }
+    ensures reaches { All (λ (p : ThePair). AreRulesWithin result p.rules) pairs.now }
+    ensures least { least ≤ result }
+    ensures within { result ≤ 2 ^ 28 }
+    ensures lowest { (m : ℕ) → least ≤ m → All (λ (p : ThePair). AreRulesWithin m p.rules) pairs.now → result ≤ m }
+{
+    let mut greatest = least;
+    for p in pairs {
+        greatest = reach_of_rules(&p.rules, greatest);
+    }
+    greatest
+}
+
 /// A distance in nm that no clearance of the design is above: the greatest that any of its rules names.
 pub fn reach_of(d: &Design) -> u64
     requires { HasRulesWithin (2 ^ 28) d.now }
@@ -261,5 +344,6 @@ pub fn reach_of(d: &Design) -> u64
 {
     let structure = reach_of_rules(&d.rules, 0);
     let classes = reach_of_classes(d.classes.as_slice(), structure);
-    reach_of_nets(d.nets.as_slice(), classes)
+    let nets = reach_of_nets(d.nets.as_slice(), classes);
+    reach_of_pairs(d.pairs.as_slice(), nets)
 }

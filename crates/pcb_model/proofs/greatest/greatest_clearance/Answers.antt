@@ -1,17 +1,29 @@
-use Rattle.std.proofs.Common.{arith, None}
-use Rattle.pcb_model.proofs.Clearances.{greatest_is, greatest_within, values_more, nets_more}
+use Rattle.std.proofs.Common.{◌<◌, ◌≤◌, List, length, get_or, Some, None, take, arith, subst}
+use Rattle.pcb_model.specs.declared.design.ClassPair.{ClassPair}
+use Rattle.std.proofs.lemmas.List.Elements.{All-more}
+use Rattle.pcb_model.specs.Bounds.{IsPairWithin}
+use Rattle.pcb_model.proofs.Growing.{All-weaken, All-whole}
+use Rattle.pcb_model.proofs.Clearances.{greatest_is, greatest_within, values_more, nets_more, pair_more}
 use Rattle.pcb_model.proofs.greatest.greatest_clearance.Goals as goal
 
 pub returns-clause-greatest : goal.returns-clause-greatest
 returns-clause-greatest c =
-    greatest_is c.args.d.now c.loop-net.greatest c.loop-net.invariant.value c.loop-net.invariant.none
-    (λ n h. c.loop-net.invariant.nets n (omega (arith, h, c.len-net-end.ensures, c.loop-net-test.false)))
+    let i = c.loop-p.invariant in
+    let P = IsPairWithin c.args.d.now c.loop-p.greatest in
+    greatest_is c.args.d.now c.loop-p.greatest i.value i.none i.nets
+    (All-whole P c.args.d.now.pairs c.loop-p.p-index
+    (subst (λ (ps : List ClassPair). length ps ≤ c.loop-p.p-index) c.as_slice-p-items.ensures
+    (omega (arith, c.loop-p-test.false))) i.pairs)
 
 pub returns-clause-within : goal.returns-clause-within
 returns-clause-within c =
-    greatest_within c.args.d.now c.loop-net.greatest c.requires.fits.rules_within
-    (greatest_is c.args.d.now c.loop-net.greatest c.loop-net.invariant.value c.loop-net.invariant.none
-    (λ n h. c.loop-net.invariant.nets n (omega (arith, h, c.len-net-end.ensures, c.loop-net-test.false))))
+    let i = c.loop-p.invariant in
+    let P = IsPairWithin c.args.d.now c.loop-p.greatest in
+    greatest_within c.args.d.now c.loop-p.greatest c.requires.fits.rules_within
+    (greatest_is c.args.d.now c.loop-p.greatest i.value i.none i.nets
+    (All-whole P c.args.d.now.pairs c.loop-p.p-index
+    (subst (λ (ps : List ClassPair). length ps ≤ c.loop-p.p-index) c.as_slice-p-items.ensures
+    (omega (arith, c.loop-p-test.false))) i.pairs))
 
 pub loop-net-preserved : goal.loop-net-preserved
 loop-net-preserved c =
@@ -28,3 +40,24 @@ pub loop-net-init : goal.loop-net-init
 loop-net-init c =
     let e = c.raised_by_net-greatest.ensures in
     record { value = e.reached; none = e.values; nets = λ n h. absurd (omega (arith, h)) }
+
+pub loop-p-preserved : goal.loop-p-preserved
+loop-p-preserved c =
+    let d = c.args.d.now in
+    let g = c.loop-p.greatest in
+    let r = c.raised_by_pair-greatest.result in
+    let e = c.raised_by_pair-greatest.ensures in
+    let i = c.loop-p.invariant in
+    let P = IsPairWithin d r in
+    let s = c.as_slice-p-items.ensures in
+    let there : c.loop-p.p-index < length d.pairs =
+    subst (λ (ps : List ClassPair). c.loop-p.p-index < length ps) s c.loop-p-test.true in
+    let p = c.p-item.result in
+    record {
+      value = e.reached;
+      none = values_more d None g r e.least i.none;
+      nets = λ n h. values_more d (Some n) g r e.least (i.nets n h);
+      pairs = All-more P d.pairs c.loop-p.p-index p there
+          (All-weaken (IsPairWithin d g) P (take c.loop-p.p-index d.pairs) (pair_more d g r e.least) i.pairs)
+          (subst (λ (ps : List ClassPair). P (get_or ps c.loop-p.p-index p)) s (subst P c.p-item.is e.values));
+    }

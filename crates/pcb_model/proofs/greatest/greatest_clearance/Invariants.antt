@@ -1,5 +1,5 @@
-use Rattle.std.proofs.Common.{ℕ, ◌<◌, Some, None}
-use Rattle.pcb_model.specs.Bounds.{IsValue, AreValuesWithin}
+use Rattle.std.proofs.Common.{ℕ, ◌<◌, All, Some, None, take, length}
+use Rattle.pcb_model.specs.Bounds.{IsValue, AreValuesWithin, IsPairWithin}
 use Rattle.pcb_model.proofs.greatest.greatest_clearance.Given as goal
 
 abbrev pub invariant-loop-net : goal.invariant-loop-net
@@ -7,4 +7,12 @@ invariant-loop-net l = record {
   value : IsValue l.d l.greatest;
   none : AreValuesWithin l.d None l.greatest;
   nets : (n : ℕ) → n < l.net → AreValuesWithin l.d (Some n) l.greatest;
+}
+
+abbrev pub invariant-loop-p : goal.invariant-loop-p
+invariant-loop-p l = record {
+  value : IsValue l.d l.greatest;
+  none : AreValuesWithin l.d None l.greatest;
+  nets : (n : ℕ) → n < length l.d.nets → AreValuesWithin l.d (Some n) l.greatest;
+  pairs : All (IsPairWithin l.d l.greatest) (take l.p-index l.d.pairs);
 }

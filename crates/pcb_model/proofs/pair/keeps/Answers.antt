@@ -1,5 +1,5 @@
 use Rattle.std.proofs.Common.{arith, ◌^◌, ◌≡◌, ℕ, List, sym, subst, ◌∙◌, All}
-use Rattle.pcb_model.proofs.Within.{value_within}
+use Rattle.pcb_model.proofs.Within.{clearance_within}
 use Rattle.pcb_model.specs.declared.item.Piece.{Piece}
 use Rattle.pcb_model.specs.Pairs.{PiecesKeep}
 use Rattle.pcb_model.specs.Rules.{clearance_of}
@@ -11,21 +11,19 @@ pub pieces_keep-requires-clause-c_within : goal.pieces_keep-requires-clause-c_wi
 pieces_keep-requires-clause-c_within c =
     omega (
       arith,
-      c.max-c.ensures,
-      c.value.ensures,
-      c.requires.own_is,
-      value_within (2 ^ 28) c.args.d.now c.args.a.now.net c.args.a.now.kind c.args.b.now.kind c.requires.rules,
-      value_within (2 ^ 28) c.args.d.now c.args.b.now.net c.args.a.now.kind c.args.b.now.kind c.requires.rules,
+      c.clearance_from-c.ensures,
+      clearance_within (2 ^ 28) c.args.d.now c.args.a.now.net c.args.a.now.kind c.args.b.now.net c.args.b.now.kind
+          c.requires.rules,
     )
 
 pub returns-then-must_keep : goal.returns-then-must_keep
 returns-then-must_keep c =
-    let clear : c.max-c.result
+    let clear : c.clearance_from-c.result
     ≡ clearance_of c.args.d.now c.args.a.now.net c.args.a.now.kind c.args.b.now.net c.args.b.now.kind =
-    omega (arith, c.max-c.ensures, c.value.ensures, c.requires.own_is) in
+    c.clearance_from-c.ensures in
     let F : ℕ → Type 0 = λ n. PiecesKeep n c.args.a.now.pieces c.args.b.now.pieces in
-    let G : List Piece → Type 0 = λ ps. PiecesKeep c.max-c.result ps c.as_slice-then-must_keep.result.now in
-    let H : List Piece → Type 0 = λ rs. PiecesKeep c.max-c.result c.args.a.now.pieces rs in
+    let G : List Piece → Type 0 = λ ps. PiecesKeep c.clearance_from-c.result ps c.as_slice-then-must_keep.result.now in
+    let H : List Piece → Type 0 = λ rs. PiecesKeep c.clearance_from-c.result c.args.a.now.pieces rs in
     let s = c.as_slice.ensures in
     let u = c.as_slice-then-must_keep.ensures in (
       λ t m. subst F clear (subst H u (subst G s (c.pieces_keep.ensures.0 t))),

@@ -5,7 +5,7 @@ use Rattle.std.specs.Prelude.{◌==◌, not}
 use Rattle.std.specs.List.{enumerate_from, count_by}
 use Rattle.std.proofs.lemmas.List.Sums.{length-filter}
 use Rattle.pcb_model.specs.declared.design.Net.{Net}
-use Rattle.route_report.specs.declared.facts.Facts.{Facts}
+use Rattle.route_run.specs.declared.facts.Facts.{Facts}
 use Rattle.route_report.specs.Report.{cuts_of, is_complete, is_open}
 use Rattle.route_report.specs.Tallies.{AreCounts}
 

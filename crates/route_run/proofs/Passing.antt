@@ -25,7 +25,7 @@ use Rattle.least_offer.specs.Least.{IsLeastOffer}
 use Rattle.route_plan.specs.Plans.{IsWhole}
 use Rattle.searcher_pool.specs.Passes.{Between, IsJoinOf, IsShutOn, IsSpent, PassOf}
 use Rattle.searcher_pool.specs.Passes.{Grows as GrowsBy}
-use Rattle.route_report.specs.declared.facts.PassLine.{PassLine}
+use Rattle.route_run.specs.declared.facts.PassLine.{PassLine}
 use Rattle.route_run.specs.declared.passes.Made.{Made}
 use Rattle.route_run.specs.Runs.{AreLeast, ArePasses, AreTooLate, HasSeveral, IsOpenCount, IsPass}
 use Rattle.route_run.specs.Runs.{IsWorkedOff, RunOf, entries_after, pass_at}

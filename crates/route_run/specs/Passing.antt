@@ -20,7 +20,7 @@ use Rattle.cut_certificate.specs.declared.cut.Cut.{Cut}
 use Rattle.closing_pass.specs.declared.closed.Closed.{Closed}
 use Rattle.closing_pass.specs.Closing.{IsClosedOut}
 use Rattle.searcher_pool.specs.Passes.{PassOf, Grows, IsSpent}
-use Rattle.route_report.specs.declared.facts.PassLine.{PassLine}
+use Rattle.route_run.specs.declared.facts.PassLine.{PassLine}
 use Rattle.route_run.specs.declared.connections.OpenNets.{OpenNets}
 use Rattle.route_run.specs.declared.passes.Made.{Made}
 use Rattle.route_run.specs.declared.run.Kept.{Kept}

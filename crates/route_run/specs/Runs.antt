@@ -18,8 +18,8 @@ use Rattle.route_plan.specs.Plans.{IsWhole}
 use Rattle.cut_certificate.specs.declared.cut.Cut.{Cut}
 use Rattle.closing_pass.specs.Closing.{Closes, AreEnds}
 use Rattle.searcher_pool.specs.Passes.{PassOf, Between, IsJoinOf, IsShutOn, IsSpent}
-use Rattle.route_report.specs.declared.facts.PassLine.{PassLine}
-use Rattle.route_report.specs.declared.facts.Facts.{Facts}
+use Rattle.route_run.specs.declared.facts.PassLine.{PassLine}
+use Rattle.route_run.specs.declared.facts.Facts.{Facts}
 
 -- what a run goes by: the price of a via in nm, how many workers there are, and how many passes there may be
 pub record RunOf : Type 0 where

@@ -5,8 +5,8 @@ ghost use Rattle.std.specs.Prelude.{◌≡◌, ◌+◌, ◌<◌, ◌≤◌, ◌^
 ghost use Rattle.route_run.specs.Runs.{IsBest, entries_after as entries_behind};
 ghost use Rattle.route_run.specs.Passing.{IsBestOf, GoesBack};
 
+use crate::facts::PassLine;
 use pcb_board::{BackFault, Board};
-use route_report::PassLine;
 use std::alloc::AllocError;
 
 // Of the best so far and the next one, the better.

@@ -12,12 +12,12 @@ ghost use Rattle.route_run.specs.Passing.{IsOneMore, IsReady, StandsAfter};
 ghost use Rattle.board_offers.specs.declared.offer.TheConstants.{CLOSER};
 
 use crate::connections::{OpenNets, look_over};
-use desk_io::Gate;
+use crate::facts::PassLine;
+use board_turn::Gate;
 use geo_kernel::List;
 use pcb_board::Board;
 use route_lattice::Lattice;
 use route_plan::{Sight, look};
-use route_report::PassLine;
 use searcher_pool::{full_passes_are_spent, is_full, passes_are_least, run_pass_from};
 use std::alloc::{AllocError, Global};
 use std::sync::Wait;

@@ -15,9 +15,8 @@ ghost use Rattle.board_offers.specs.declared.offer.TheConstants.{CLOSER};
 
 use crate::log::WorkerLog;
 use crate::worker::{Job, Worker, work};
-use board_turn::{Claimer, Counter, Pass, Turn};
+use board_turn::{Claimer, Counter, Gate, Pass, Turn};
 use crossbeam_utils::CachePadded;
-use desk_io::Gate;
 use geo_kernel::List;
 use std::alloc::{AllocError, Global};
 use std::sync::Wait;

@@ -12,8 +12,7 @@ ghost use Rattle.searcher_pool.specs.Working.{HasSeen, HasFixed};
 ghost use Rattle.board_offers.specs.declared.offer.TheConstants.{CLOSER};
 
 use crate::log::OfferNote;
-use board_turn::{Claimer, Counter, Pass, Turn, events_keep};
-use desk_io::Gate;
+use board_turn::{Claimer, Counter, Gate, Pass, Turn, events_keep};
 use least_offer::late_offers_are_fair;
 use move_maps::MoveMaps;
 use pcb_board::{Answer, Offer, Snap, boards_serve, copy_offer, ids_stay};

@@ -11,7 +11,7 @@ use Rattle.dsn_route.specs.declared.status.Status.{Status}
 use Rattle.dsn_route.specs.declared.status.Status.TheVariants.{Complete, SomeOpen}
 use Rattle.dsn_route.specs.Status.{ended_of}
 use Rattle.dsn_route.specs.Answers.{HasWritten, Leaves, report_for}
-use Rattle.dsn_route.specs.Said.{IsVerdict}
+use Rattle.dsn_route.specs.inner.Said.{IsVerdict}
 
 module _ (command : Command) (b : BoardOf) (facts : Facts) (desk later : DeskState) (sink after : SinkState)
     (has : HasWritten command b desk later) where

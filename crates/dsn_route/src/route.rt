@@ -7,12 +7,12 @@ ghost use Rattle.pcb_model.specs.Sound.{IsSound};
 ghost use Rattle.pcb_model.specs.Plain.{IsPlainCopper};
 ghost use Rattle.route_lattice.specs.Mesh.{node_count};
 ghost use Rattle.route_words.specs.Words.{texts, command_of, IsWithin};
-ghost use Rattle.route_run.specs.Passing.{IsTask};
+ghost use Rattle.route_run.specs.Runs.{IsTask};
 ghost use Rattle.dsn_design.specs.Reading.{HasDesign};
 ghost use Rattle.dsn_route.specs.Lines.{number_of as number_told};
 ghost use Rattle.dsn_route.specs.Commands.{knobs_of as knobs_told, mesh_of, IsText};
 ghost use Rattle.dsn_route.specs.Answers.{Answers};
-ghost use Rattle.dsn_route.specs.Said.{RoutesDesign, IsInputOf};
+ghost use Rattle.dsn_route.specs.inner.Said.{RoutesDesign, IsInputOf};
 ghost use Rattle.dsn_route.specs.Due.{IsMissing, IsHeldInput, IsRead, IsLong, IsUnfit, IsOver, IsTooFine, IsRoutable};
 ghost use Rattle.dsn_route.specs.Due.{IsDue, IsDueAfterRead, HasNoFault, IsDone};
 

@@ -1,3 +1,2 @@
 pub mod Report
-pub mod Naming
-pub mod Tallies
+pub mod inner

@@ -3,7 +3,7 @@
 
 ghost use Rattle.std.specs.Prelude.{◌≡◌, ◌+◌, ◌<◌, ◌≤◌, ◌^◌, IfOk, length};
 ghost use Rattle.route_run.specs.Runs.{IsBest, entries_after as entries_behind};
-ghost use Rattle.route_run.specs.Passing.{IsBestOf, GoesBack};
+ghost use Rattle.route_run.specs.inner.Passing.{IsBestOf, GoesBack};
 
 use crate::facts::PassLine;
 use pcb_board::{BackFault, Board};

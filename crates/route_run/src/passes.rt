@@ -6,9 +6,10 @@ ghost use Rattle.route_plan.specs.Sights.{IsSeenOn};
 ghost use Rattle.route_lattice.specs.Fits.{FitsDesign};
 ghost use Rattle.route_lattice.specs.Mesh.{Mesh};
 ghost use Rattle.route_run.specs.Runs.{run_from, pass_at, penalty_of as penalty_at, HaveEnded};
-ghost use Rattle.route_run.specs.Passing.{IsTask, AreOpenOn, AreWorkedOff, IsMade, EndsBy, HasPassed, Stays};
+ghost use Rattle.route_run.specs.inner.Passing.{AreOpenOn, AreWorkedOff, IsMade, EndsBy, HasPassed, Stays};
+ghost use Rattle.route_run.specs.Runs.{IsTask};
 ghost use Rattle.pcb_board.specs.Keeping.{IsBoard};
-ghost use Rattle.route_run.specs.Passing.{IsOneMore, IsReady, StandsAfter};
+ghost use Rattle.route_run.specs.inner.Passing.{IsOneMore, IsReady, StandsAfter};
 ghost use Rattle.board_offers.specs.declared.offer.TheConstants.{CLOSER};
 
 use crate::connections::{OpenNets, look_over};

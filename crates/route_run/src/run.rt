@@ -7,7 +7,8 @@ ghost use Rattle.pcb_model.specs.Plain.{IsPlainCopper};
 ghost use Rattle.cut_certificate.specs.declared.cut.Cut.{Cut as OneCut};
 ghost use Rattle.closing_pass.specs.Closing.{IsClosedOut};
 ghost use Rattle.route_run.specs.Runs.{IsRun, complete_from, run_from};
-ghost use Rattle.route_run.specs.Passing.{IsTask, IsKept, IsFinished, told_of};
+ghost use Rattle.route_run.specs.inner.Passing.{IsKept, IsFinished, told_of};
+ghost use Rattle.route_run.specs.Runs.{IsTask};
 ghost use Rattle.board_offers.specs.declared.offer.TheConstants.{CLOSER};
 
 use crate::facts::{Facts, PassLine, all_cuts, complete_nets};

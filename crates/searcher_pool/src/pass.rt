@@ -8,8 +8,9 @@ ghost use Rattle.move_maps.specs.Maps.{AreMapsOf};
 ghost use Rattle.route_plan.specs.Sights.{IsSeenOn};
 ghost use Rattle.board_turn.specs.Turns.{passes_of, opening};
 ghost use Rattle.searcher_pool.specs.Passes.{IsPassed, Grows};
-ghost use Rattle.searcher_pool.specs.Working.{pass_of, pass_from, IsTask, IsTurnOf, HasFixed};
-ghost use Rattle.searcher_pool.specs.Crews.{AreRooms};
+ghost use Rattle.searcher_pool.specs.inner.Working.{pass_of, IsTurnOf, HasFixed};
+ghost use Rattle.searcher_pool.specs.Passes.{pass_from, IsTask};
+ghost use Rattle.searcher_pool.specs.inner.Crews.{AreRooms};
 ghost use Rattle.board_offers.specs.declared.offer.TheConstants.{CLOSER};
 
 use crate::crew::{Crew, crew_works, dismiss, searches, staff};

@@ -6,9 +6,10 @@ ghost use Rattle.pcb_board.specs.Boards.{BoardOf};
 ghost use Rattle.route_plan.specs.Sights.{IsLater, IsSeenOn, IsSightOf};
 ghost use Rattle.route_plan.specs.Plans.{CanPlan, IsSnapOf, Plans};
 ghost use Rattle.board_turn.specs.Turns.{opening};
-ghost use Rattle.searcher_pool.specs.Working.{pass_of, IsTurnOf, IsReady, IsDrawn, IsPlanned, IsAfter, Attempts};
-ghost use Rattle.searcher_pool.specs.Working.{attempt_of, EndsSeen, EndsDrawn, IsSeated, MayWork, Worked};
-ghost use Rattle.searcher_pool.specs.Working.{HasSeen, HasFixed};
+ghost use Rattle.searcher_pool.specs.inner.Working.{pass_of, IsTurnOf, IsReady, IsDrawn, IsPlanned, IsAfter};
+ghost use Rattle.searcher_pool.specs.inner.Working.{Attempts};
+ghost use Rattle.searcher_pool.specs.inner.Working.{attempt_of, EndsSeen, EndsDrawn, IsSeated, MayWork, Worked};
+ghost use Rattle.searcher_pool.specs.inner.Working.{HasSeen, HasFixed};
 ghost use Rattle.board_offers.specs.declared.offer.TheConstants.{CLOSER};
 
 use crate::log::OfferNote;

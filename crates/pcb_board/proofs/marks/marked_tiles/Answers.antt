@@ -8,7 +8,7 @@ use Rattle.pcb_model.specs.declared.item.Item.{Item}
 use Rattle.pcb_model.specs.Bounds.{HasClearancesWithin}
 use Rattle.pcb_tiles.specs.Tiling.{IsArea}
 use Rattle.pcb_tiles.specs.Spread.{Spread}
-use Rattle.pcb_board.specs.Turning.{is_marked}
+use Rattle.pcb_board.specs.inner.Turning.{is_marked}
 use Rattle.pcb_board.proofs.Opening.{fronts}
 use Rattle.pcb_board.proofs.Turns.{passes_more, fails_more}
 use Rattle.pcb_board.proofs.marks.marked_tiles.Goals as goal

@@ -3,7 +3,7 @@ use Rattle.std.specs.List.{filter}
 use Rattle.pcb_model.specs.declared.item.Item.{Item}
 use Rattle.pcb_model.specs.Bounds.{HasClearancesWithin}
 use Rattle.pcb_tiles.specs.Tiling.{IsArea}
-use Rattle.pcb_board.specs.Turning.{is_marked}
+use Rattle.pcb_board.specs.inner.Turning.{is_marked}
 use Rattle.pcb_board.proofs.marks.marked_tiles.Given as goal
 
 abbrev pub invariant-loop-item : goal.invariant-loop-item

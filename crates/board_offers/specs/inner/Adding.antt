@@ -1,4 +1,4 @@
--- What private functions that judge an offer give: clauses in terms of the added items. No public contract cites this.
+-- What private functions that judge an offer give: clauses in terms of the added items.
 use Rattle.std.specs.Prelude.{◌≡◌, ◌≢◌, ℕ, ◌≤◌, ◌^◌, List, [], ◌∷◌, ◌++◌, length, All, Any, Some, slice_get}
 use Rattle.std.specs.Option.{IsSomeAnd}
 use Rattle.geo_kernel.specs.Plane.{IsWithin}

@@ -11,7 +11,7 @@ use Rattle.searcher_pool.specs.declared.log.WorkerLog.{WorkerLog}
 use Rattle.searcher_pool.specs.declared.pass.Rooms.{Rooms}
 use Rattle.searcher_pool.specs.declared.worker.Worker.{Worker}
 use Rattle.searcher_pool.specs.Passes.{PassOf}
-use Rattle.searcher_pool.specs.Working.{Knows, EndsDrawn, MayWork, Worked}
+use Rattle.searcher_pool.specs.inner.Working.{Knows, EndsDrawn, MayWork, Worked}
 
 -- what a pass needs beside the turn: memory for each worker's searches, room for workers and logs, and all seats at a
 -- counter of its tasks

@@ -1,25 +1,12 @@
--- How a board finds the items after some of its entries: what private functions give.
-use Rattle.std.specs.Prelude.{◌≡◌, ◌≢◌, ℕ, ◌+◌, ◌<◌, ◌≤◌, Bool, true, false, List, [], ◌∷◌, length, take, slice_get}
+-- How a board finds the items after some of its entries.
+use Rattle.std.specs.Prelude.{◌≡◌, ◌≢◌, ℕ, ◌+◌, ◌<◌, ◌≤◌, Bool, true, false, List, [], ◌∷◌, length, slice_get}
 use Rattle.std.specs.Prelude.{slice_index_or, Some}
 use Rattle.pcb_model.specs.declared.item.Item.{Item}
 use Rattle.board_offers.specs.declared.offer.Offer.{Offer}
 use Rattle.board_offers.specs.Items.{names, is_on, gone}
 use Rattle.pcb_board.specs.declared.answer.Entry.{Entry}
 use Rattle.pcb_board.specs.declared.answer.Entry.TheVariants.{Join, Back}
-use Rattle.pcb_board.specs.Boards.{BoardOf, past, replayed}
-
--- how many items were given an id by the first n entries
-abbrev pub given_after : BoardOf → ℕ → ℕ
-given_after b n = length (past b.design b.start (take n b.history)).given
-
--- the ids of a join's new items are the next ones; a back goes back
-abbrev pub IsNumbered : BoardOf → ℕ → Entry → Type 0
-IsNumbered b k (Join o first after) =
-    (first ≡ given_after b k) × (after ≡ first + (length o.add + length o.shoves))
-IsNumbered b k (Back to) = to ≤ k
-
-pub record AreNumbered (b : BoardOf) : Type 0 where
-  pub each : (k : ℕ) (e : Entry) → slice_get b.history k ≡ Some e → IsNumbered b k e
+use Rattle.pcb_board.specs.Boards.{BoardOf, replayed}
 
 -- entry k + 1 is a join
 pub record IsJoinAt (b : BoardOf) (k : ℕ) : Type 0 where

@@ -5,7 +5,7 @@ use Rattle.pcb_model.specs.declared.item.Metal.TheVariants.{Pad}
 use Rattle.pcb_model.specs.declared.design.Design.{Design}
 use Rattle.pcb_islands.specs.declared.net.Island.{Island}
 use Rattle.pcb_islands.specs.Islands.{AreIdsJoined, AreIslandsOf, HasItemAt}
-use Rattle.pcb_islands.specs.Numbers.{place_at}
+use Rattle.pcb_islands.specs.inner.Numbers.{place_at}
 
 -- ---- pads
 -- a pad of the pin stands at this place

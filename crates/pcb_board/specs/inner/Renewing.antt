@@ -1,16 +1,8 @@
--- The index of the entries that placed or removed each id, and how an entry renews it.
+-- How an entry renews the index of the entries that placed or removed each id.
 use Rattle.std.specs.Prelude.{◌≡◌, ℕ, ◌<◌, ◌≤◌, true, false, List, length, slice_index_or}
-use Rattle.pcb_model.specs.declared.item.Item.{Item}
 use Rattle.pcb_board.specs.declared.answer.Entry.{Entry}
 use Rattle.pcb_board.specs.declared.answer.Entry.TheVariants.{Join, Back}
 use Rattle.board_offers.specs.Items.{names}
-use Rattle.pcb_board.specs.Boards.{BoardOf, IsLast, Changes, given}
-
--- the items ever given, and for each id the last entry that placed or removed it
-pub record AreIndexed (b : BoardOf) (items : List Item) (changed : List ℕ) : Type 0 where
-  pub items_are : items ≡ given b
-  pub all : length changed ≡ length items
-  pub last : (x n : ℕ) → x < length items → IsLast (Changes b x) (length b.history) (slice_index_or changed x n)
 
 -- below n the named ids get the number and the others keep theirs; from n on all have the number
 pub record IsRenewed (ids : List ℕ) (n number : ℕ) (changed later : List ℕ) (total : ℕ) : Type 0 where

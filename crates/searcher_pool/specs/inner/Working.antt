@@ -1,10 +1,8 @@
 -- What one worker keeps while it works.
-use Rattle.std.specs.Prelude.{◌≡◌, ℕ, ◌+◌, ◌-◌, ◌<◌, ◌≤◌, ◌^◌, List, [], ◌∷◌, ◌++◌, length, flat_map, sum_by}
+use Rattle.std.specs.Prelude.{◌≡◌, ℕ, ◌+◌, ◌-◌, ◌<◌, ◌≤◌, List, [], ◌∷◌, ◌++◌, length, flat_map, sum_by}
 use Rattle.std.specs.Prelude.{All, AllPairs, Any, false, cond, Option, Some, IfSome, slice_get}
 use Rattle.pcb_model.specs.declared.design.Design.{Design}
-use Rattle.pcb_model.specs.Plain.{IsPlainCopper}
-use Rattle.route_lattice.specs.Mesh.{Mesh, node_count}
-use Rattle.route_lattice.specs.Fits.{FitsDesign}
+use Rattle.route_lattice.specs.Mesh.{node_count}
 use Rattle.move_maps.specs.Maps.{AreMapsOf}
 use Rattle.pcb_board.specs.declared.answer.Answer.{Answer}
 use Rattle.pcb_board.specs.declared.answer.Answer.TheVariants.{Committed, Stale}
@@ -29,26 +27,10 @@ use Rattle.searcher_pool.specs.declared.worker.Attempt.TheVariants.{Ended, Joine
 use Rattle.searcher_pool.specs.Passes.{PassOf, IsTold, IsSpent, EndsTask}
 use Rattle.searcher_pool.specs.Passes.{named, IsStale, IsStaleOf, IsFullAnswer}
 use Rattle.board_offers.specs.declared.offer.TheConstants.{CLOSER}
-
-abbrev pub pass_from : Mesh → ℕ → ℕ → List ℕ → Option ℕ → PassOf
-pass_from m via_cost workers tasks penalty = record {
-  lattice = m;
-  via_cost = via_cost;
-  workers = workers;
-  tasks = tasks;
-  penalty = penalty;
-}
+use Rattle.searcher_pool.specs.Passes.{IsTask, pass_from}
 
 abbrev pub pass_of : Job → PassOf
 pass_of j = pass_from j.lat.now j.via_cost j.workers j.tasks.now j.penalty
-
--- what is given fits the design
-pub record IsTask (p : PassOf) (d : Design) : Type 0 where
-  pub plain : IsPlainCopper d
-  pub fits : FitsDesign d p.lattice
-  pub cost : p.via_cost ≤ 2 ^ 30
-  pub small_penalty : IfSome p.penalty (λ q. q ≤ 2 ^ 30)
-  pub nets : All (λ net. net < length d.nets) p.tasks
 
 -- the turn over the board of the pass, with a pass of the turn for each worker
 pub record IsTurnOf (p : PassOf) (t : TurnOf) : Type 0 where

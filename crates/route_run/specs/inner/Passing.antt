@@ -1,5 +1,5 @@
 -- What the private functions of a run keep and answer.
-use Rattle.std.specs.Prelude.{◌≡◌, ◌⊎◌, ℕ, ◌+◌, ◌-◌, ◌<◌, ◌≤◌, ◌^◌, Bool, IfSome, IsTrue, not, vec_len}
+use Rattle.std.specs.Prelude.{◌≡◌, ◌⊎◌, ℕ, ◌+◌, ◌-◌, ◌<◌, ◌≤◌, Bool, IfSome, IsTrue, not, vec_len}
 use Rattle.std.specs.Prelude.{List, [], ◌∷◌, ◌++◌, flat_map, length, sum_by, slice_get, slice_index_or}
 use Rattle.std.specs.Prelude.{All, Contains, Option, Some}
 use Rattle.pcb_model.specs.declared.item.Item.{Item}
@@ -7,7 +7,6 @@ use Rattle.pcb_model.specs.declared.design.Design.{Design}
 use Rattle.pcb_islands.specs.declared.net.Island.{Island}
 use Rattle.pcb_islands.specs.Islands.{AreIslands}
 use Rattle.route_lattice.specs.Mesh.{Mesh, node_count}
-use Rattle.route_lattice.specs.Fits.{FitsDesign}
 use Rattle.route_plan.specs.declared.sight.Sight.{Sight}
 use Rattle.route_plan.specs.Sights.{IsSeenOn}
 use Rattle.board_offers.specs.declared.offer.Offer.{Offer}
@@ -28,11 +27,6 @@ use Rattle.route_run.specs.declared.run.Routed.{Routed}
 use Rattle.route_run.specs.declared.passes.Stand.{Stand}
 use Rattle.route_run.specs.Runs.{RunOf, IsOpenCount, HasSeveral, IsWorkedOff, ArePasses, AreLeast, HaveEnded, IsBest}
 use Rattle.route_run.specs.Runs.{complete_from, entries_after}
-
--- the lattice fits the design, and the price of a via is small
-pub record IsTask (d : Design) (m : Mesh) (via_cost : ℕ) : Type 0 where
-  pub fits : FitsDesign d m
-  pub small_cost : via_cost ≤ 2 ^ 30
 
 -- ---- what is open
 -- so many connections of the net are open

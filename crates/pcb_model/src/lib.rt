@@ -12,6 +12,7 @@ pub mod limits;
 mod make;
 mod near;
 mod pair;
+pub mod pieces;
 mod plain;
 mod probe;
 mod rules;

@@ -4,7 +4,7 @@ use Rattle.pcb_model.specs.Pieces.{moved_piece}
 use Rattle.pcb_model.specs.Bounds.{IsFit}
 use Rattle.pcb_model.proofs.Answered.{holds_here, found_here, missed_here, all_missed}
 use Rattle.pcb_model.proofs.Probes.{Any-map, Any-unmap}
-use Rattle.pcb_model.proofs.probe.moved_touch.Goals as goal
+use Rattle.pcb_model.proofs.pieces.moved_touch.Goals as goal
 
 pub moved_touches_some-requires-clause-p_fit : goal.moved_touches_some-requires-clause-p_fit
 moved_touches_some-requires-clause-p_fit c =

@@ -1,5 +1,5 @@
 use Rattle.std.proofs.lemmas.Bool.{eqb-true}
-use Rattle.pcb_model.proofs.probe.moved_piece_touches.Goals as goal
+use Rattle.pcb_model.proofs.pieces.moved_piece_touches.Goals as goal
 
 pub returns-then-p-r : goal.returns-then-p-r
 returns-then-p-r c = (

@@ -1,7 +1,7 @@
 use Rattle.std.proofs.Common.{◌≡◌, ℕ, ◌+◌, ◌*◌, max, arith, sym, subst, refl}
 use Rattle.geo_kernel.specs.Spine.{SpinesKeep}
 use Rattle.geo_kernel.specs.declared.spine.Spine.TheVariants.{Chain}
-use Rattle.pcb_model.proofs.probe.chain_keeps.Goals as goal
+use Rattle.pcb_model.proofs.pieces.chain_keeps.Goals as goal
 
 pub returns : goal.returns
 returns c =

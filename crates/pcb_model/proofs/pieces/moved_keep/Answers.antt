@@ -5,7 +5,7 @@ use Rattle.pcb_model.specs.Pieces.{moved_piece}
 use Rattle.pcb_model.specs.Bounds.{IsFit}
 use Rattle.pcb_model.proofs.Answered.{holds_here, failed_here, passed_here, all_passed}
 use Rattle.pcb_model.proofs.Probes.{All-unmap}
-use Rattle.pcb_model.proofs.probe.moved_keep.Goals as goal
+use Rattle.pcb_model.proofs.pieces.moved_keep.Goals as goal
 
 pub moved_keeps_all-requires-clause-p_fit : goal.moved_keeps_all-requires-clause-p_fit
 moved_keeps_all-requires-clause-p_fit c =

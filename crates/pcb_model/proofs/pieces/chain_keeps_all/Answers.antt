@@ -2,7 +2,7 @@ use Rattle.pcb_model.specs.Pairs.{PieceKeeps}
 use Rattle.pcb_model.specs.Pieces.{wire_piece}
 use Rattle.pcb_model.specs.Bounds.{IsFit}
 use Rattle.pcb_model.proofs.Answered.{holds_here, failed_here, passed_here, all_passed}
-use Rattle.pcb_model.proofs.probe.chain_keeps_all.Goals as goal
+use Rattle.pcb_model.proofs.pieces.chain_keeps_all.Goals as goal
 
 pub chain_keeps-requires-clause-r_fit : goal.chain_keeps-requires-clause-r_fit
 chain_keeps-requires-clause-r_fit c =

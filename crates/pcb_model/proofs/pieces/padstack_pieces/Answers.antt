@@ -1,7 +1,7 @@
 use Rattle.std.proofs.Common.{sym, ap, ◌∙◌}
 use Rattle.pcb_model.specs.Pieces.{pieces_in}
 use Rattle.pcb_model.proofs.Lookups.{got, got_none}
-use Rattle.pcb_model.proofs.probe.padstack_pieces.Goals as goal
+use Rattle.pcb_model.proofs.pieces.padstack_pieces.Goals as goal
 
 pub returns-in-Some : goal.returns-in-Some
 returns-in-Some c =

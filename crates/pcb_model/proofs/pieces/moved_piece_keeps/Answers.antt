@@ -1,7 +1,7 @@
 use Rattle.std.proofs.Common.{◌≡◌, ℕ, ◌+◌, ◌*◌, max, arith, sym, subst, refl}
 use Rattle.geo_kernel.specs.Spine.{SpinesKeep}
 use Rattle.geo_kernel.specs.Moved.{moved_spine}
-use Rattle.pcb_model.proofs.probe.moved_piece_keeps.Goals as goal
+use Rattle.pcb_model.proofs.pieces.moved_piece_keeps.Goals as goal
 
 pub returns : goal.returns
 returns c =

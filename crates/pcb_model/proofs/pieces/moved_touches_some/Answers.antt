@@ -2,7 +2,7 @@ use Rattle.pcb_model.specs.Pairs.{PieceTouches}
 use Rattle.pcb_model.specs.Pieces.{moved_piece}
 use Rattle.pcb_model.specs.Bounds.{IsFit}
 use Rattle.pcb_model.proofs.Answered.{holds_here, found_here, missed_here, all_missed}
-use Rattle.pcb_model.proofs.probe.moved_touches_some.Goals as goal
+use Rattle.pcb_model.proofs.pieces.moved_touches_some.Goals as goal
 
 pub moved_piece_touches-requires-clause-r_fit : goal.moved_piece_touches-requires-clause-r_fit
 moved_piece_touches-requires-clause-r_fit c =

@@ -1,11 +1,11 @@
 -- Steps of the loops over sites and entries.
-use Rattle.std.proofs.Common.{◌≡◌, ℕ, zero, suc, ◌+◌, ◌-◌, ◌*◌, ◌/◌, ◌%◌, ◌<◌, ◌≤◌, refl, sym, ap, subst, arith}
+use Rattle.std.proofs.Common.{◌≡◌, ℕ, zero, suc, ◌+◌, ◌-◌, ◌*◌, ◌<◌, ◌≤◌, refl, ap, arith}
 use Rattle.std.proofs.Common.{List, [], ◌∷◌, ◌++◌, length, drop, get_or, drop-cons, true, false, Bool, nat_le, find}
 use Rattle.std.proofs.Common.{Some}
 use Rattle.std.proofs.Math.Nat.{le-mul_of_pos_right}
 use Rattle.std.proofs.lemmas.Bool.{leb-false, lt-leb}
-use Rattle.std.specs.List.{range_with_len, swap}
-use Rattle.board_gen.specs.Board.{net_line, net_lines, next_state, shuffled}
+use Rattle.std.specs.List.{range_with_len}
+use Rattle.board_gen.specs.Board.{net_line, net_lines}
 
 pub range_next : (a b : ℕ) → a < b → range_with_len a (b - a) ≡ a ∷ range_with_len (a + 1) (b - (a + 1))
 range_next a b below = from (b - a) refl
@@ -15,12 +15,6 @@ range_next a b below = from (b - a) refl
     from (suc n) e =
         let rest : n ≡ b - (a + 1) = omega arith in
         ap (λ (m : ℕ). a ∷ range_with_len (a + 1) m) rest
-
-pub shuffled_step : (m t state : ℕ) (entries : List ℕ) → m ≡ suc t
-    → shuffled m state entries ≡ shuffled t (next_state state) (swap entries m (next_state state / 65536 % (m + 1)))
-shuffled_step m t state entries is =
-    subst (λ k. shuffled k state entries
-    ≡ shuffled t (next_state state) (swap entries k (next_state state / 65536 % (k + 1)))) (sym is) refl
 
 pub nets_end : (net : ℕ) (entries : List ℕ) → length entries ≤ 1 → net_lines net entries ≡ []
 nets_end net [] few = refl

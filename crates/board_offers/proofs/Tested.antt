@@ -36,17 +36,6 @@ module _ {X : Type 0} (P : X → Type 0) (xs : List X) (i : ℕ) where
   pub all_passed : length xs ≤ i → All P (take i xs) → IsTrue true ↔ All P xs
   all_passed past all = (λ t. subst (All P) (take_all i xs past) all, λ h. refl)
 
-  -- the first that passes, where one is sought
-  pub found : (x : X) (b : Bool) → i < length xs → x ≡ get_or xs i x → (IsTrue b ↔ P x) → b ≡ true
-      → IsTrue true ↔ Any P xs
-  found x b within is says t = (λ h. (i, x, within, sym is, says.0 t), λ h. refl)
-
-  -- one that fails then
-  pub missed : (x : X) (b : Bool) → i < length xs → x ≡ get_or xs i x → All (λ y. ¬ (P y)) (take i xs)
-      → (IsTrue b ↔ P x) → b ≡ false → All (λ y. ¬ (P y)) (take (i + 1) xs)
-  missed x b within is none says f =
-      All-more (λ y. ¬ (P y)) xs i x within none (λ p. absurd (false≢true (sym f ∙ says.1 (subst P (sym is) p))))
-
   -- none passed
   pub none_found : length xs ≤ i → All (λ y. ¬ (P y)) (take i xs) → IsTrue false ↔ Any P xs
   none_found past none = (

@@ -1,6 +1,6 @@
 -- The searches for trouble, step by step.
 use Rattle.std.proofs.Common.{◌≡◌, ◌⊎◌, inl, inr, ℕ, ◌+◌, ◌<◌, ◌≤◌, ◌^◌, ◌==◌, zero, suc, Bool, true, false, true≢false}
-use Rattle.std.proofs.Common.{Option, Some, None, refl, sym, ◌∙◌, ap, subst, List, [], ◌∷◌, ◌++◌, length, arith}
+use Rattle.std.proofs.Common.{Option, Some, None, refl, sym, ◌∙◌, ap, subst, List, [], ◌∷◌, ◌++◌, arith}
 use Rattle.std.specs.Prelude.{All, Contains, ◌||◌}
 use Rattle.std.proofs.lemmas.Bool.{cases_lt, eqb-true, eq-eqb}
 use Rattle.std.proofs.lemmas.Option.{same_Some}
@@ -174,8 +174,3 @@ three_clear d given items o r s t h k l =
     (least_both (IsThere items o) (λ x. AgreesWithNew d given items o x × StaysJoined d given items o x) r
     (least_of s t) h
     (least_both (AgreesWithNew d given items o) (StaysJoined d given items o) s t k l))
-
-pub none_parted : (d : Design) (given items : List Item) (o : Offer) → length o.shoves ≡ 0
-    → FailsLeast (StaysJoined d given items o) None
-none_parted d given items o none =
-    λ x a there e s in_shoves other old is touch. absurd (let within = in_shoves.1 in omega (arith, within, none))

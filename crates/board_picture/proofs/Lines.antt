@@ -1,9 +1,8 @@
 -- The open connections of one net more.
-use Rattle.std.proofs.Common.{◌≡◌, ◌∙◌, ℕ, ◌+◌, List, [], ◌∷◌, ◌++◌, Some, inl, inr, refl, sym, ap, subst, arith}
+use Rattle.std.proofs.Common.{◌≡◌, ◌∙◌, ℕ, ◌+◌, List, [], ◌∷◌, ◌++◌, Some, inl, inr, sym, ap, subst}
 use Rattle.std.proofs.Common.{length-append}
 use Rattle.std.specs.Prelude.{slice_get}
 use Rattle.std.proofs.lemmas.List.{flat_map_more}
-use Rattle.std.proofs.lemmas.Option.{slice_get_within}
 use Rattle.pcb_model.specs.declared.item.Item.{Item}
 use Rattle.pcb_model.specs.declared.design.Design.{Design}
 use Rattle.pcb_islands.specs.declared.net.Island.{Island}
@@ -11,15 +10,6 @@ use Rattle.pcb_islands.specs.Islands.{AreIslands}
 use Rattle.pcb_islands.proofs.Elements.{look_cases}
 use Rattle.board_picture.specs.declared.open.OpenLine.{OpenLine}
 use Rattle.board_picture.specs.Open.{lines_of, AreOpenUpTo}
-
-pub lines_none : (d : Design) (items : List Item) → AreOpenUpTo d items 0 []
-lines_none d items = record {
-  found = [];
-  found_all = refl;
-  islands = λ net own at. absurd
-      (let w = slice_get_within {A = List Island} [] net own at in omega (arith, w));
-  lines_are = refl;
-}
 
 module _ (d : Design) (items : List Item) (n : ℕ) (lines : List OpenLine) (own : List Island)
     (are : AreOpenUpTo d items n lines) (is : AreIslands d items n own) where

@@ -1,10 +1,10 @@
 -- What a committed offer leaves, kept parts included.
-use Rattle.std.proofs.Common.{◌≡◌, ℕ, ◌+◌, ◌<◌, ◌≤◌, Bool, true, false, cond}
+use Rattle.std.proofs.Common.{◌≡◌, ℕ, ◌+◌, ◌<◌, Bool, true, false, cond}
 use Rattle.std.proofs.Common.{Some, sym, ◌∙◌, ap, subst, List, [], ◌∷◌, ◌++◌, length, take, arith}
 use Rattle.std.proofs.Common.{length-append}
 use Rattle.std.specs.Prelude.{All, slice_get, if◌then◌else◌}
 use Rattle.std.proofs.lemmas.List.{take-append-le}
-use Rattle.std.proofs.lemmas.List.Sums.{count_by-le-length, sum_by-append}
+use Rattle.std.proofs.lemmas.List.Sums.{sum_by-append}
 use Rattle.pcb_model.specs.declared.item.Item.{Item}
 use Rattle.pcb_model.specs.declared.design.Design.{Design}
 use Rattle.pcb_model.specs.Bounds.{IsItemFit}
@@ -56,9 +56,6 @@ pub one_more_worker : (history : List Entry) (o : Offer) (first after : ℕ)
 one_more_worker history o first after =
     sum_by-append (λ (e : Entry). cond (is_of_worker e) 1 0) history (Join o first after ∷ [])
     ∙ counted (worker_entries history) (is_worker o.worker)
-
-pub few_workers : (history : List Entry) → worker_entries history ≤ length history
-few_workers history = count_by-le-length is_of_worker history
 
 abbrev pub boarded : Design → List Item → ℕ → List Entry → List Item → BoardOf
 boarded d start cap history items = record { design = d; start = start; cap = cap; history = history; items = items }

@@ -7,7 +7,6 @@ use Rattle.pcb_model.specs.declared.item.Item.{Item}
 use Rattle.pcb_model.specs.declared.design.Design.{Design}
 use Rattle.pcb_model.specs.Bounds.{HasClearancesWithin}
 use Rattle.pcb_tiles.specs.Tiling.{IsArea}
-use Rattle.pcb_tiles.specs.Spread.{Spread}
 use Rattle.pcb_board.specs.declared.answer.Entry.{Entry}
 use Rattle.pcb_board.specs.declared.answer.Entry.TheVariants.{Back}
 use Rattle.pcb_board.specs.declared.board.Board.TheInside.{Inside}
@@ -102,39 +101,4 @@ module _ (a n : Inside) (b : BoardOf) (to : ℕ) (marks : List Bool) (view : boa
     workers_are = new.workers_are ∙ kept.workers_are ∙ sym (no_worker_more a.history to)
         ∙ sym (ap worker_entries new.history_is);
     spread = subst (IsSnapKept n.tiles) (sym new.design_is) (record { area = new.area; reach = new.reach });
-  }
-
--- ---- equal boards
-pub record AreEqual (a n : Inside) : Type 0 where
-  pub design_is : n.design ≡ a.design
-  pub cap_is : n.cap ≡ a.cap
-  pub started_is : n.started ≡ a.started
-  pub history_is : n.history ≡ a.history
-  pub given_is : n.given.items ≡ a.given.items
-  pub changed_is : n.changed.items ≡ a.changed.items
-  pub tiles_are : n.tiles ≡ a.tiles
-  pub workers_are : n.workers ≡ a.workers
-
-module _ (a n : Inside) (kept : IsIndexed a) (same : AreEqual a n) where
-  pub equal_view : board_of n ≡ board_of a
-  equal_view =
-      ap (λ (d : Design). boarded d (take n.started n.given.items) n.cap n.history n.tiles.items) same.design_is
-      ∙ ap (λ (k : ℕ). boarded a.design (take k n.given.items) n.cap n.history n.tiles.items) same.started_is
-      ∙ ap (λ (xs : List Item). boarded a.design (take a.started xs) n.cap n.history n.tiles.items) same.given_is
-      ∙ ap (λ (k : ℕ). boarded a.design (take a.started a.given.items) k n.history n.tiles.items) same.cap_is
-      ∙ ap (λ (h : List Entry). boarded a.design (take a.started a.given.items) a.cap h n.tiles.items) same.history_is
-      ∙ ap (λ (t : Spread). boarded a.design (take a.started a.given.items) a.cap a.history t.items) same.tiles_are
-
-  pub equal_indexed : IsIndexed n
-  equal_indexed = record {
-    board = subst IsBoard (sym equal_view) kept.board;
-    indexed = subst (λ (x : BoardOf). AreIndexed x n.given.items n.changed.items) (sym equal_view)
-        (subst (λ (xs : List Item). AreIndexed (board_of a) xs n.changed.items) (sym same.given_is)
-        (subst (AreIndexed (board_of a) a.given.items) (sym same.changed_is) kept.indexed));
-    numbered = subst AreNumbered (sym equal_view) kept.numbered;
-    started = let s = kept.started in let e = ap length same.given_is in let t = same.started_is in
-        omega (arith, s, e, t);
-    workers_are = same.workers_are ∙ kept.workers_are ∙ sym (ap worker_entries same.history_is);
-    spread = subst (IsSnapKept n.tiles) (sym same.design_is)
-        (subst (λ (t : Spread). IsSnapKept t a.design) (sym same.tiles_are) kept.spread);
   }

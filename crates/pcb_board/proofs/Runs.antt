@@ -83,11 +83,6 @@ makes_more b m c (y ∷ os) [] o a h step = absurd h
 makes_more b m c (y ∷ os) (x ∷ answers) o a (n, first, more) step =
     (n, first, makes_more n m c os answers o a more step)
 
-pub none_made : (b c : BoardOf) (offers left : List Offer) (done : List Answer) → left ≡ offers → done ≡ [] → c ≡ b
-    → HasMade b offers left done c
-none_made b c offers left done same none stays =
-    record { made = []; split = sym same; makes = subst (λ (xs : List Answer). Makes b [] xs c) (sym none) stays }
-
 pub one_made : (b m c : BoardOf) (offers left : List Offer) (done later : List Answer) (o : Offer) (a : Answer)
     → HasMade b offers (o ∷ left) done m → Step m o a c → later ≡ done ++ a ∷ [] → HasMade b offers left later c
 one_made b m c offers left done later o a h step is = record {

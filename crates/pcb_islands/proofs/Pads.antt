@@ -1,5 +1,5 @@
 -- The pads of a net by their pins, fixed item by fixed item.
-use Rattle.std.proofs.Common.{◌≡◌, ◌≢◌, ℕ, ◌<◌, List, [], length, Option, Some, None, refl, sym, ◌∙◌, ap, subst, inl}
+use Rattle.std.proofs.Common.{◌≡◌, ◌≢◌, ℕ, ◌<◌, List, [], length, Option, Some, None, sym, ◌∙◌, ap, subst, inl}
 use Rattle.std.proofs.Common.{inr, ◌⊎◌, arith}
 use Rattle.std.specs.Prelude.{All, Contains, AllPairs, slice_get}
 use Rattle.std.specs.Option.{IsSome, IsSomeAnd, option_map_or}
@@ -21,10 +21,6 @@ same_or_not m n = elim (below_or_same m n) [
   | inl h ↦ inr (λ e. absurd (omega arith))
   | inr k ↦ elim k [ inl h ↦ inr (λ e. absurd (omega arith)) | inr e ↦ inl e ]
 ]
-
--- a value makes an option some
-pub some_is : (o : Option ℕ) (x : ℕ) → o ≡ Some x → IsSome o
-some_is o x e = subst (λ (p : Option ℕ). IsSome p) (sym e) refl
 
 -- ---- a net's pins
 pins_at : (d : Design) (net : ℕ) (o : Option Net) → slice_get d.nets net ≡ o
@@ -74,20 +70,7 @@ net_pad d net sound pin there =
       | inr h ↦ absurd (subst (λ (o : Option Pin). IsSomeAnd o (λ (p : Pin). p.net ≡ Some net)) h.1 some)
     ]
 
--- a pin of a net is one of the design's
-pub pin_there : (d : Design) (net : ℕ) → IsSound d → (pin : ℕ) → Contains (pins_of d net) pin
-    → IsSome (slice_get d.pins pin)
-pin_there d net sound pin there = is_there (slice_get d.pins pin) ((net_pins d net sound).1 pin there)
-  where
-    is_there : (o : Option Pin) → IsSomeAnd o (λ (p : Pin). p.net ≡ Some net) → IsSome o
-    is_there (Some p) h = refl
-    is_there None h = absurd h
-
 -- ---- the place of a pad
--- an item that stands at a place and is the pad
-pub pad_at : (fixed : List Item) (pin place : ℕ) (a : Item) → slice_get fixed place ≡ Some a → a.metal ≡ Pad pin
-    → IsPadAt fixed pin place
-pad_at fixed pin place a there is_pad = record { pad = a; there = there; is_pad = is_pad }
 
 -- what stands at the place of a pad is the pad
 pub is_pad_of : (d : Design) (pin place : ℕ) (a : Item) → IsPadAt d.fixed pin place → slice_get d.fixed place ≡ Some a

@@ -2,11 +2,11 @@
 use Rattle.std.proofs.Common.{◌≡◌, inl, inr, ℕ, ◌<◌, zero, suc, false, Some, refl, sym, ◌∙◌, ap, subst}
 use Rattle.std.proofs.Common.{List, [], ◌∷◌, ◌++◌, length, get_or, arith}
 use Rattle.std.proofs.Common.{Result, Ok, Err}
-use Rattle.std.specs.Prelude.{All, OnOk, slice_get}
+use Rattle.std.specs.Prelude.{OnOk, slice_get}
 use Rattle.std.specs.List.{filter}
 use Rattle.std.proofs.lemmas.List.{append-nil}
 use Rattle.std.proofs.lemmas.List.Elements.{All-cons, All-nil, filter-append}
-use Rattle.std.proofs.lemmas.Option.{none-some, same_Some, slice_get_within, slice_get-get_or}
+use Rattle.std.proofs.lemmas.Option.{none-some, same_Some, slice_get-get_or}
 use Rattle.pcb_model.specs.declared.item.Item.{Item}
 use Rattle.pcb_model.specs.declared.design.FreeWire.{FreeWire}
 use Rattle.pcb_model.specs.declared.design.Design.{Design}
@@ -56,14 +56,6 @@ pub grown_added : {E : Type 0} (d : Design) (old new : List Item) (w : FreeWire)
     → IsFreeSound d w → IsGrown d old → OnOk r (new ≡ old ++ free_item d old w ∷ []) → OnOk r (IsGrown d new)
 grown_added d old new w (Ok x) sound wire grown is = subst (IsGrown d) (sym is) (grown_more d old w sound wire grown)
 grown_added d old new w (Err e) sound wire grown is = tt
-
--- ids are below the number of items
-pub grown_below : (d : Design) (items : List Item) → IsGrown d items → All (λ (a : Item). a.id < length items) items
-grown_below d items grown = all_from (λ (a : Item). a.id < length items) items (λ a there.
-    let f = found_at items a there in
-    let is : a.id ≡ f.place = (grown.given f.place a f.there).numbered in
-    let within : f.place < length items = slice_get_within items f.place a f.there in
-    omega (arith, is, within))
 
 -- such items serve the design
 pub grown_serves : (d : Design) (items : List Item) → IsSound d → IsGrown d items → Serves items d

@@ -2,7 +2,7 @@
 use Rattle.std.proofs.Common.{◌≡◌, ℕ, ◌+◌, ◌<◌, ◌≤◌, List, length, take, get_or, refl, sym, ◌∙◌, subst, All}
 use Rattle.std.specs.Prelude.{Contains}
 use Rattle.std.proofs.lemmas.List.{take_all}
-use Rattle.std.proofs.lemmas.List.Elements.{All-contains, All-more, Contains-get_or}
+use Rattle.std.proofs.lemmas.List.Elements.{All-contains, All-more}
 use Rattle.pcb_model.specs.declared.item.Item.{Item}
 use Rattle.pcb_model.specs.declared.design.Design.{Design}
 use Rattle.pcb_model.specs.Copper.{Ascends}
@@ -11,7 +11,7 @@ use Rattle.route_lattice.specs.Mesh.{Mesh}
 use Rattle.route_lattice.specs.Anchors.{Anchors, AnchorsAmong}
 use Rattle.cut_certificate.specs.Cuts.{IsGoal}
 use Rattle.ripup.proofs.Passing.{same_key}
-use Rattle.route_plan.specs.inner.Routes.{IsAnchored, IsAnchoredIn, NoneAnchored}
+use Rattle.route_plan.specs.inner.Routes.{NoneAnchored}
 
 module _ (d : Design) (m : Mesh) (items : List Item) (node : ℕ) where
   -- no item has the id
@@ -48,12 +48,3 @@ module _ (d : Design) (m : Mesh) (items : List Item) (node : ℕ) where
       let o = goal.anchors in
       All-contains NotIn others o.1 (subst (λ (xs : List Island). All NotIn xs) (take_all i others end) all)
       (o.0, o.2, o.3) o.4
-
-  pub found_in : (others : List Island) (i : ℕ) (o e : Island) (id : ℕ) → i < length others → o ≡ get_or others i e
-      → IsAnchored d m items o.items node id → IsAnchoredIn d m items others node id
-  found_in others i o e id within is h = record {
-    other = o;
-    other_there = subst (Contains others) (sym is)
-        (Contains-get_or others i e within);
-    anchored = h;
-  }

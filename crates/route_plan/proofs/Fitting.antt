@@ -92,9 +92,6 @@ module _ (d : Design) (m : Mesh) (items new : List Item) (a : Item) where
   pub record NoneBefore (r : ℕ) : Type 0 where
     pub each : (s : ℕ) (down : Bool) (other : List Point) → s < r → Fits d m items new a s down other → ⊥
 
-  pub none_yet : NoneBefore 0
-  none_yet = record { each = λ s down other before h. absurd (omega arith) }
-
   below_or_at : (s r : ℕ) → s < r + 1 → (s < r) ⊎ (s ≡ r)
   below_or_at zero zero h = inr refl
   below_or_at zero (suc r) h = inl (omega arith)

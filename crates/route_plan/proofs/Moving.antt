@@ -98,9 +98,6 @@ module _ (d : Design) (m : Mesh) (items new : List Item) where
   all_reshaped (id ∷ ids) (x ∷ moved) h = All-cons (IsReshaped d items) x moved (is_reshaped id x h.0)
       (all_reshaped ids moved h.1)
 
-  pub none_moved : AreMoved d m items new [] []
-  none_moved = record { each = tt; together = λ i j e before within. absurd (omega arith) }
-
   -- one more that stands with all before it
   pub one_moved : (ids : List ℕ) (i : ℕ) (x : Item) (moved more : List Item) → i < length ids
       → AreMoved d m items new (take i ids) moved

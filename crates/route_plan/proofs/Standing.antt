@@ -1,7 +1,6 @@
 -- Two moved wires that stand together.
-use Rattle.std.proofs.Common.{◌≡◌, List, sym, ap, ◌∙◌, subst, All}
+use Rattle.std.proofs.Common.{◌≡◌, List, sym, ap, ◌∙◌, subst}
 use Rattle.std.specs.Prelude.{Contains}
-use Rattle.std.proofs.lemmas.List.Elements.{All-contains}
 use Rattle.pcb_model.specs.declared.item.Item.{Item}
 use Rattle.pcb_model.specs.declared.design.Design.{Design}
 use Rattle.pcb_model.specs.Pairs.{Agrees, AreTouching}
@@ -14,10 +13,6 @@ use Rattle.route_plan.specs.inner.Ways.{shove_of, IsReshaped}
 module _ (d : Design) (items : List Item) (up : Ascends items) where
   id_kept : (a : Item) (h : IsReshaped d items a) → h.item.id ≡ a.id
   id_kept a h = sym (ap (λ (x : Item). x.id) h.moved_is)
-
-  -- the wire's item is there
-  pub still_there : (a : Item) → IsReshaped d items a → All (λ (x : Item). x.id ≡ a.id → ⊥) items → ⊥
-  still_there a h none = All-contains (λ (x : Item). x.id ≡ a.id → ⊥) items h.item none h.there (id_kept a h)
 
   one_item : (x y : Item) → Contains items x → Contains items y → x.id ≡ y.id → x ≡ y
   one_item x y x_in y_in e = same_key (λ (z : Item). z.id) items x y up x_in y_in e

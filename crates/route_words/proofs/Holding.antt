@@ -28,10 +28,6 @@ use Rattle.route_words.proofs.Routes.{route_serves, rule_at}
 use Rattle.route_words.proofs.Spelling.{words_spelt}
 use Rattle.route_words.proofs.Walking.{clear}
 
-clear_none : (ks : Kinds) → clear ks ≡ true → ks ≡ []
-clear_none [] e = refl
-clear_none (k ∷ ks) e = absurd (true≢false (sym e))
-
 -- an error that isn't want of memory comes of a fault
 unclear : (ks : Kinds) (e : Error) → IsAmong (kind_of e) ks → clear ks ≡ false
 unclear [] e among = absurd among

@@ -6,8 +6,8 @@ use Rattle.std.specs.Prelude.{Any, IfSome, slice_get}
 use Rattle.std.proofs.lemmas.List.Elements.{All-append, All-cons, All-nil, All-weaker, Contains-append_left}
 use Rattle.geo_kernel.proofs.Paths.{Any-append_first}
 use Rattle.pcb_board.specs.Boards.{BoardOf}
-use Rattle.pcb_board.specs.Keeping.{IsBoard, Grows}
-use Rattle.pcb_board.proofs.Prefix.{board_before, board_whole}
+use Rattle.pcb_board.specs.Keeping.{Grows}
+use Rattle.pcb_board.proofs.Prefix.{board_before}
 use Rattle.route_plan.specs.Plans.{IsWhole}
 use Rattle.board_turn.specs.declared.event.Event.{Event}
 use Rattle.board_turn.specs.Events.{Reaches, IsPrefix}
@@ -95,17 +95,6 @@ drawn_more p t q drawn place net notes there last ends =
     let P : ℕ → Type 0 = λ n. IfSome (slice_get p.tasks n) (EndsSeen p t q notes) in
     All-append P drawn (place ∷ []) ends (All-cons P place []
     (subst (λ (o : Option ℕ). IfSome o (EndsSeen p t q notes)) (sym there) last) (All-nil P))
-
--- what the last board that a pass has seen shows ends the task
-pub ends_here : (P : BoardOf → Type 0) (p : PassOf) (t : TurnOf) (q : turn.PassOf) (drawn : List ℕ)
-    (notes : List OfferNote) (b : BoardOf) → Knows p t q drawn notes → Reaches (opening t) q.seen b → IsBoard b
-    → P b → Between P b (length (opening t).history) (length b.history)
-ends_here P p t q drawn notes b k reached kept holds = record {
-  at = length b.history;
-  late = longer (opening t) b (reaches_grows (opening t) b q.seen reached);
-  early = omega arith;
-  holds = subst P (sym (board_whole b kept)) holds;
-}
 
 -- more places were drawn
 pub knows_drawn : (p : PassOf) (t : TurnOf) (q : turn.PassOf) (drawn drawn' : List ℕ) (n : ℕ)

@@ -63,10 +63,6 @@ told_later p old b c name drawn note grows told =
       fair = told.fair;
     }
 
--- a pass after a call: the events before the call, and its own
-abbrev pub then_pass : turn.PassOf → List Event → Deed → turn.PassOf
-then_pass q events d = record { turn = q.turn; name = q.name; seen = events ++ event q.name d ∷ [] }
-
 -- what a call tells of the events, the boards and the notes, from what the worker knew
 pub record Moved (t : TurnOf) (q : turn.PassOf) (events : List Event) (d : Deed) (known b c : BoardOf) : Type 0 where
   pub seen : IsPrefix q.seen (events ++ event q.name d ∷ [])

@@ -95,14 +95,6 @@ module _ (d : Design) (nm : ℕ) (omit : Bool) (items : List Item) (i : ℕ) whe
         (so_far k e below)).is;
   }
 
--- before the first item no text has a byte
-pub no_lines : (d : Design) (nm : ℕ) (omit : Bool) (items : List Item) (count : ℕ) (texts : List (Vec ℕ Global))
-    → ((k : ℕ) (e : Vec ℕ Global) → k < count → (get_or texts k e).items ≡ [])
-    → AreSoFar d nm omit items count 0 texts
-no_lines d nm omit items count texts empty = λ k e below. record {
-  is = ap (λ (xs : List ℕ). xs ++ copper_lines d nm (filter (is_printed omit) items) k) (empty k e below);
-}
-
 or_turned : (a b c : Bool) → ((a || b) || c) ≡ (b || (a || c))
 or_turned true true c = refl
 or_turned true false c = refl

@@ -174,8 +174,3 @@ three_clear d given items o r s t h k l =
     (least_both (IsThere items o) (λ x. AgreesWithNew d given items o x × StaysJoined d given items o x) r
     (least_of s t) h
     (least_both (AgreesWithNew d given items o) (StaysJoined d given items o) s t k l))
-
-pub none_parted : (d : Design) (given items : List Item) (o : Offer) → length o.shoves ≡ 0
-    → FailsLeast (StaysJoined d given items o) None
-none_parted d given items o none =
-    λ x a there e s in_shoves other old is touch. absurd (let within = in_shoves.1 in omega (arith, within, none))

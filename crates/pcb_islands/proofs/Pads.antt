@@ -84,11 +84,6 @@ pin_there d net sound pin there = is_there (slice_get d.pins pin) ((net_pins d n
     is_there None h = absurd h
 
 -- ---- the place of a pad
--- an item that stands at a place and is the pad
-pub pad_at : (fixed : List Item) (pin place : ℕ) (a : Item) → slice_get fixed place ≡ Some a → a.metal ≡ Pad pin
-    → IsPadAt fixed pin place
-pad_at fixed pin place a there is_pad = record { pad = a; there = there; is_pad = is_pad }
-
 -- what stands at the place of a pad is the pad
 pub is_pad_of : (d : Design) (pin place : ℕ) (a : Item) → IsPadAt d.fixed pin place → slice_get d.fixed place ≡ Some a
     → IsPadOf d pin a

@@ -9,4 +9,3 @@ pub mod Least
 pub mod Troubles
 mod Parting
 mod Tests
-mod Tested

@@ -10,8 +10,8 @@ ghost use Rattle.board_offers.specs.Offers.{IsOfNet, LeadsAcross};
 ghost use Rattle.board_offers.specs.inner.Adding.{IsInTheWayOf, LeadsBetween};
 
 use crate::offer::{CLOSER, Offer};
-use crate::pairs::{has_net, some_disagrees, touching};
-use pcb_model::{Design, Item, inside_board};
+use crate::pairs::{has_net, some_disagrees};
+use pcb_model::{Design, Item, are_touching, inside_board};
 
 /// Whether the offer rests on a board that there was, and a worker or the closing pass makes it.
 pub(crate) fn is_timely(entries: u64, offer: &Offer) -> bool
@@ -65,12 +65,12 @@ fn leads_to(from: &Item, chain: &[Item], to: &Item) -> bool
 {
     let mut last = from;
     for a in chain {
-        if !touching(last, a) {
+        if !are_touching(last, a) {
             return false;
         }
         last = a;
     }
-    touching(last, to)
+    are_touching(last, to)
 }
 
 /// Whether from one of the items ever given the chain leads to the other, each item touching the next.

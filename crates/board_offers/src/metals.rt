@@ -1,42 +1,12 @@
 //! Whether wires and vias may be added for a net.
 //! A wire has the width of its net and lies on a signal layer; a via's padstack is in the net's list.
 
-ghost use Rattle.std.specs.Prelude.{◌≡◌, ◌↔◌, ◌<◌, ◌≤◌, ◌^◌, All, Any, IsTrue, length};
+ghost use Rattle.std.specs.Prelude.{◌↔◌, ◌<◌, All, IsTrue, length};
 ghost use Rattle.pcb_model.specs.Bounds.{IsDesignFit};
-ghost use Rattle.pcb_model.specs.Board.{IsSignal, IsListed};
 ghost use Rattle.board_offers.specs.Offers.{IsAddable};
 
 use crate::near::{are_near, is_near, is_via_near};
-use pcb_model::{Design, Metal, width_of};
-
-fn is_signal(d: &Design, layer: u8) -> bool
-    ensures { IsTrue result ↔ IsSignal d.now layer }
-{
-    match d.layers.as_slice().get(layer as usize) {
-        Some(l) => !l.power,
-        None => false,
-    }
-}
-
-fn has_via(vias: &[u32], padstack: u32) -> bool
-    ensures { IsTrue result ↔ Any (λ v. v ≡ padstack) vias.now }
-{
-    for v in vias {
-        if *v == padstack {
-            return true;
-        }
-    }
-    false
-}
-
-fn is_listed(d: &Design, net: u32, padstack: u32) -> bool
-    ensures { IsTrue result ↔ IsListed d.now net padstack }
-{
-    match d.nets.as_slice().get(net as usize) {
-        Some(n) => has_via(n.vias.as_slice(), padstack),
-        None => false,
-    }
-}
+use pcb_model::{Design, Metal, is_listed, is_signal, width_of};
 
 fn is_addable(d: &Design, net: u32, m: &Metal) -> bool
     requires design { IsDesignFit d.now }

@@ -7,11 +7,12 @@ ghost use Rattle.geo_kernel.specs.Moved.{moved, moved_spine};
 ghost use Rattle.geo_kernel.specs.Spine.{IsSpineWithin};
 ghost use Rattle.pcb_model.specs.declared.item.Piece.{Piece as OnePiece};
 ghost use Rattle.pcb_model.specs.Bounds.{IsDesignFit, IsFit};
-ghost use Rattle.pcb_model.specs.Pieces.{moved_piece, padstack_pieces as padstack_pieces_of, pieces_of};
+ghost use Rattle.pcb_model.specs.Pieces.{moved_piece, pieces_of};
 
 use geo_kernel::limits::FURTHEST;
 use geo_kernel::{List, Point, Spine};
-use pcb_model::{Design, Metal, Piece};
+use pcb_model::pieces::padstack_pieces;
+use pcb_model::{Design, Metal, Piece, move_point};
 
 /// Whether both coordinates are at most 2^29 in absolute value.
 pub(crate) fn is_near(p: Point) -> bool
@@ -32,24 +33,13 @@ pub(crate) fn are_near(points: &[Point]) -> bool
     true
 }
 
-fn moved_by(p: Point, by: Point) -> Point
-    requires p_within { IsWithin (2 ^ 29) p }
-    requires by_within { IsWithin (2 ^ 29) by }
-    ensures { result ≡ moved by p }
-{
-    Point {
-        x: p.x + by.x,
-        y: p.y + by.y,
-    }
-}
-
 fn are_near_at(points: &[Point], at: Point) -> bool
     requires points_within { All (IsWithin (2 ^ 29)) points.now }
     requires at_within { IsWithin (2 ^ 29) at }
     ensures { IsTrue result ↔ All (IsWithin (2 ^ 29)) (map (moved at) points.now) }
 {
     for p in points {
-        if !is_near(moved_by(*p, at)) {
+        if !is_near(move_point(*p, at)) {
             return false;
         }
     }
@@ -91,16 +81,6 @@ fn are_pieces_near_at(ps: &[Piece], at: Point) -> bool
         }
     }
     true
-}
-
-// The pieces of a padstack, about the origin.
-fn padstack_pieces(d: &Design, padstack: u32) -> &[Piece]
-    ensures { result.now ≡ padstack_pieces_of d.now padstack }
-{
-    match d.padstacks.as_slice().get(padstack as usize) {
-        Some(stack) => stack.pieces.as_slice(),
-        None => &[],
-    }
 }
 
 /// Whether those of each piece of a via of the padstack are.

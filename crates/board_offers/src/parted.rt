@@ -11,11 +11,8 @@ ghost use Rattle.board_offers.specs.inner.Searching.{lies_after, TouchesAfter, S
 
 use crate::clauses::given_item;
 use crate::offer::Shoved;
-use crate::pairs::touching;
 use crate::trouble::earlier;
-use pcb_model::{Copper, Item, Steps};
-use std::marker::Brand;
-use std::sync::ledger::{Blank, Ledger};
+use pcb_model::{Copper, Item, are_touching};
 
 // An item as it lies after the shoves.
 fn lying_after<'a>(shoves: &[Shoved], replaced: &'a [Item], a: &'a Item) -> &'a Item
@@ -46,7 +43,7 @@ fn touches_after<C: Copper>(
 {
     c.in_order();
     match c.item(id) {
-        Some(a) => touching(
+        Some(a) => are_touching(
             lying_after(shoves, replaced, old),
             lying_after(shoves, replaced, a),
         ),
@@ -55,16 +52,12 @@ fn touches_after<C: Copper>(
 }
 
 // The least id of an item that touched a shoved one and doesn't afterwards.
-fn least_parted_by<C: Copper, L: Ledger>(
+fn least_parted_of<C: Copper>(
     c: &C,
     shoves: &[Shoved],
     replaced: &[Item],
     old: &Item,
-    blank: Blank,
 ) -> Option<u64>
-    requires name { blank.name ≡ L.name }
-    requires parts { blank.parts ≡ L.parts }
-    requires whole { 0 < blank.parts }
     requires paired { length replaced.now ≡ length shoves.now }
     requires fit { All IsItemFit replaced.now }
     requires items_fit { All IsItemFit (C.items c.now) }
@@ -72,9 +65,8 @@ fn least_parted_by<C: Copper, L: Ledger>(
     ensures { FailsLeast (StaysBy shoves.now replaced.now (C.items c.now) old.now) result }
 {
     c.in_order();
-    let mut steps: Steps<L> = Steps::new(blank);
     let mut from = 0;
-    while let Some(id) = c.next_touch(old, from, &mut steps) {
+    while let Some(id) = c.touch_from(old, from) {
         if !touches_after(c, shoves, replaced, old, id) {
             return Some(id);
         }
@@ -101,7 +93,7 @@ fn least_parted_from<C: Copper>(
     ensures { FailsLeast (StaysWith given.now shoves.now replaced.now (C.items c.now) id) result }
 {
     match given_item(given, id) {
-        Some(old) => least_parted_by::<C, Brand>(c, shoves, replaced, old, Blank::new(1)),
+        Some(old) => least_parted_of(c, shoves, replaced, old),
         None => None,
     }
 }

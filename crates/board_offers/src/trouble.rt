@@ -14,10 +14,8 @@ ghost use Rattle.board_offers.specs.inner.Searching.{least_of, IsNamedThere, Agr
 use crate::ids::{gone_ids, is_named};
 use crate::offer::Offer;
 use crate::parted::least_parted;
-use pcb_model::{Copper, Design, Item, Steps};
+use pcb_model::{Copper, Design, Item};
 use std::alloc::{AllocError, Global};
-use std::marker::Brand;
-use std::sync::ledger::{Blank, Ledger};
 
 /// The lesser of two ids, as far as they are there.
 pub(crate) fn earlier(a: Option<u64>, b: Option<u64>) -> Option<u64>
@@ -51,25 +49,15 @@ pub(crate) fn least_missing<C: Copper>(c: &C, ids: &[u64]) -> Option<u64>
 }
 
 /// The least id, but for those that go, of an item that disagrees with a new one.
-fn least_clash_by<C: Copper, L: Ledger>(
-    d: &Design,
-    c: &C,
-    ids: &[u64],
-    new: &Item,
-    blank: Blank,
-) -> Option<u64>
-    requires name { blank.name ≡ L.name }
-    requires parts { blank.parts ≡ L.parts }
-    requires whole { 0 < blank.parts }
+fn least_clash_of<C: Copper>(d: &Design, c: &C, ids: &[u64], new: &Item) -> Option<u64>
     requires serves { C.serves c.now d.now }
     requires fits { IsItemFit new.now }
     requires above { All (λ (a : OneItem). a.id < new.now.id) (C.items c.now) }
     ensures { FailsLeast (AgreesUnless d.now (C.items c.now) ids.now new.now) result }
 {
     c.in_order();
-    let mut steps: Steps<L> = Steps::new(blank);
     let mut from = 0;
-    while let Some(id) = c.next_clash(d, new, from, &mut steps) {
+    while let Some(id) = c.clash_from(d, new, from) {
         if !is_named(ids, id) {
             return Some(id);
         }
@@ -90,10 +78,7 @@ pub(crate) fn least_clash<C: Copper>(d: &Design, c: &C, ids: &[u64], new: &[Item
 {
     let mut least = None;
     for n in new {
-        least = earlier(
-            least,
-            least_clash_by::<C, Brand>(d, c, ids, n, Blank::new(1)),
-        );
+        least = earlier(least, least_clash_of(d, c, ids, n));
     }
     least
 }

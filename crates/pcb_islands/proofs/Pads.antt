@@ -71,7 +71,6 @@ net_pad d net sound pin there =
     ]
 
 -- ---- the place of a pad
-
 -- what stands at the place of a pad is the pad
 pub is_pad_of : (d : Design) (pin place : ℕ) (a : Item) → IsPadAt d.fixed pin place → slice_get d.fixed place ≡ Some a
     → IsPadOf d pin a

@@ -9,24 +9,18 @@ ghost use Rattle.pcb_islands.specs.inner.Flooding.{HasIdWithin, AreTouched, IsTa
 
 use crate::ids::Ids;
 use geo_kernel::List;
-use pcb_model::{Copper, Item, Steps};
+use pcb_model::{Copper, Item};
 use std::alloc::{AllocError, Global};
-use std::sync::ledger::{Blank, Ledger};
 
 /// The ids of the items that touch an item of their net, without its own.
-fn touched_by<C: Copper, L: Ledger>(
-    alloc: Global,
-    c: &C,
-    a: &Item,
-    steps: &mut Steps<L>,
-) -> Result<Vec<u64>, AllocError>
+fn touched_by<C: Copper>(alloc: Global, c: &C, a: &Item) -> Result<Vec<u64>, AllocError>
     requires fits { IsItemFit a.now }
     requires ids { All HasIdWithin (C.items c.now) }
     ensures { IfOk result (λ ids. AreTouched (C.items c.now) a.now ids.items) }
 {
     let mut ids = Vec::new(alloc);
     let mut from = 0;
-    while let Some(id) = c.next_touch(a, from, steps) {
+    while let Some(id) = c.touch_from(a, from) {
         ids.push(id)?;
         let Some(next) = id.checked_add(1) else {
             return Ok(ids);
@@ -61,11 +55,10 @@ pub(crate) fn take_in(
 }
 
 /// Spreads from an item: takes in the ids of what touches it.
-fn spread<C: Copper, L: Ledger>(
+fn spread<C: Copper>(
     alloc: Global,
     c: &C,
     a: &Item,
-    steps: &mut Steps<L>,
     reached: &mut Ids,
     waiting: &mut Vec<u64>,
 ) -> Result<(), AllocError>
@@ -74,16 +67,15 @@ fn spread<C: Copper, L: Ledger>(
     ensures { OnOk result ((ids : Seq ℕ) × AreTouched (C.items c.now) a.now ids
         × IsTakenIn reached.old waiting.old.items ids reached.new waiting.new.items) }
 {
-    let touched = touched_by(alloc, c, a, steps)?;
+    let touched = touched_by(alloc, c, a)?;
     take_in(reached, waiting, touched.as_slice())
 }
 
 /// Reaches all items that are joined to an item of the copper.
-fn reach_all<C: Copper, L: Ledger>(
+fn reach_all<C: Copper>(
     alloc: Global,
     c: &C,
     start: &Item,
-    steps: &mut Steps<L>,
     reached: &mut Ids,
 ) -> Result<(), AllocError>
     requires in_order { Ascends (C.items c.now) }
@@ -99,29 +91,20 @@ fn reach_all<C: Copper, L: Ledger>(
         let Some(a) = c.item(id) else {
             unreachable!();
         };
-        spread(alloc, c, a, steps, reached, &mut waiting)?;
+        spread(alloc, c, a, reached, &mut waiting)?;
     }
     Ok(())
 }
 
 /// The ids of all items that are joined to an item of the copper, ascending.
-pub(crate) fn flood<C: Copper, L: Ledger>(
-    alloc: Global,
-    c: &C,
-    start: &Item,
-    blank: Blank,
-) -> Result<List<u64>, AllocError>
-    requires name { blank.name ≡ L.name }
-    requires parts { blank.parts ≡ L.parts }
-    requires whole { 0 < blank.parts }
+pub(crate) fn flood<C: Copper>(alloc: Global, c: &C, start: &Item) -> Result<List<u64>, AllocError>
     requires in_order { Ascends (C.items c.now) }
     requires ids { All HasIdWithin (C.items c.now) }
     requires fit { All IsItemFit (C.items c.now) }
     requires there { Contains (C.items c.now) start.now }
     ensures { IfOk result (AreIdsJoined (C.items c.now) start.now) }
 {
-    let mut steps: Steps<L> = Steps::new(blank);
     let mut reached = Ids::new(alloc);
-    reach_all(alloc, c, start, &mut steps, &mut reached)?;
+    reach_all(alloc, c, start, &mut reached)?;
     reached.to_list(alloc)
 }

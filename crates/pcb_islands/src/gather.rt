@@ -16,8 +16,6 @@ use crate::places::Places;
 use geo_kernel::List;
 use pcb_model::{Copper, Design, Item, pairs_are_symmetric};
 use std::alloc::{AllocError, Global};
-use std::marker::Brand;
-use std::sync::ledger::Blank;
 
 /// Gives all ids one place.
 pub(crate) fn place_all(places: &mut Places, ids: &[u64], place: usize) -> Result<(), AllocError>
@@ -55,7 +53,7 @@ fn open<C: Copper>(
     ensures { OnOk result
         (HasIslandMore (C.items c.now) net pin pad.now found.old.items places.old found.new.items places.new) }
 {
-    let items = flood::<C, Brand>(alloc, c, pad, Blank::new(1))?;
+    let items = flood(alloc, c, pad)?;
     place_all(places, items.as_slice(), found.len())?;
     let mut pins = List::new(alloc);
     pins.push(pin)?;

@@ -4,8 +4,7 @@ use Rattle.std.proofs.Common.{◌≤◌, ◌+◌, ◌&&◌, take, drop, drop-con
 use Prim.Native.Nat.{zero, suc}
 use Rattle.std.proofs.lemmas.List.{take_all, drop_all}
 use Rattle.std.proofs.lemmas.List.Elements.{All-more, All-map}
-use Rattle.std.specs.Bool.{MatchBool}
-use Rattle.std.specs.List.{AllWithin, HoldsAt, list_all}
+use Rattle.std.specs.List.{list_all}
 use Rattle.pcb_model.proofs.Probes.{All-unmap}
 
 pub get_or_any : {X : Type 0} (xs : List X) (k : ℕ) (d e : X) → k < length xs → get_or xs k d ≡ get_or xs k e

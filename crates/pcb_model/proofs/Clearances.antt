@@ -1,9 +1,9 @@
 -- The greatest clearance: of all nets, and of none.
 use Rattle.std.proofs.Common.{◌≡◌, ℕ, ◌<◌, ◌≤◌, ◌^◌, ◌++◌, ◌∷◌, [], length, Option, Some, None, flat_map, max, ap, sym}
-use Rattle.std.proofs.Common.{subst, inl, inr, arith, ◌+◌, ◌⊎◌, ◌∙◌, refl, List, Bool, true, false, cond, filter, slice_get, All}
+use Rattle.std.proofs.Common.{subst, inl, inr, arith, ◌+◌, ◌⊎◌, ◌∙◌, refl, List, Bool, true, false, cond, filter, All}
 use Rattle.std.proofs.Common.{◌&&◌, ◌||◌, ◌==◌, true≢false}
 use Rattle.std.proofs.lemmas.Bool.{eqb-true}
-use Rattle.std.proofs.lemmas.List.Elements.{All-head, All-tail}
+use Rattle.std.proofs.lemmas.List.Elements.{All-head, All-tail, All-nil, All-cons}
 use Rattle.std.proofs.Math.Nat.{max-le, max-eq_left}
 use Rattle.std.proofs.lemmas.Option.{slice_get_past}
 use Rattle.pcb_model.specs.declared.item.Kind.{Kind}
@@ -13,10 +13,14 @@ use Rattle.pcb_model.specs.declared.design.ClassPair.{ClassPair}
 use Rattle.pcb_model.specs.declared.rules.Side.{Side}
 use Rattle.pcb_model.specs.Near.{IsSideOf, side_value}
 use Rattle.pcb_model.specs.declared.design.Design.{Design}
-use Rattle.pcb_model.specs.Rules.{value_of, value_to, levels, first_present, with_class, class_in, class_of, is_of_classes}
+use Rattle.pcb_model.specs.Rules.{value_of, value_to, levels, first_present, with_class, class_of, is_of_classes}
 use Rattle.pcb_model.specs.Rules.{pairs_of, joint_rules, pair_rules, rule_sets, typed_value}
-use Rattle.pcb_model.specs.Bounds.{IsValue, AreValuesWithin, IsPairWithin, HasRulesWithin, IsGreatestClearance}
+use Rattle.pcb_model.specs.Bounds.{IsValue, AreValuesWithin, AreRulesWithin, IsPairWithin, HasRulesWithin}
+use Rattle.pcb_model.specs.Bounds.{IsGreatestClearance}
+use Rattle.pcb_model.specs.Greatest.{IsPairCovered}
 use Rattle.pcb_model.proofs.Far.{clearances_within}
+use Rattle.pcb_model.proofs.Growing.{rules_more}
+use Rattle.pcb_model.proofs.Within.{joint_value}
 use Rattle.pcb_model.proofs.Joint.{pairs_swapped, value_is}
 use Rattle.pcb_model.proofs.First.{cases_lt as below_or_from}
 
@@ -75,11 +79,11 @@ in_both m x None (Some w) h k = k
 in_both m x None None h k = h
 
 -- what the pairs of two classes say, where two nets are of these
-pub pair_value : (d : Design) (p : ClassPair) (a b : ℕ) (ka kb : Kind) (least next : ℕ)
+pub pair_is_value : (d : Design) (p : ClassPair) (a b : ℕ) (ka kb : Kind) (least next : ℕ)
     → class_of d (Some a) ≡ Some p.a → class_of d (Some b) ≡ Some p.b
     → next ≡ first_present least (levels ka kb (joint_rules (filter (is_of_classes p.a p.b) d.pairs))) → least < next
     → IsValue d next
-pair_value d p a b ka kb least next e f is h =
+pair_is_value d p a b ka kb least next e f is h =
     let r = joint_rules (filter (is_of_classes p.a p.b) d.pairs) in
     let rules : pair_rules d (Some a) (Some b) ≡ r = λ i. joint_rules (pairs_of d (e i) (f i)) in
     record {
@@ -93,20 +97,25 @@ pair_value d p a b ka kb least next e f is h =
           ∙ sym is);
     }
 
--- ---- the pairs of two classes: none, or one that some nets' pair is
-kept_at : {X : Type 0} (test : X → Bool) (P : X → Type 0) (x : X) (xs : List X) (b : Bool) → test x ≡ b → P x
-    → (filter test xs ≡ []) ⊎ ((y : X) × P y × (test y ≡ true))
-    → (filter test (x ∷ xs) ≡ []) ⊎ ((y : X) × P y × (test y ≡ true))
-kept_at test P x xs true is h rest = inr (x, h, is)
-kept_at test P x xs false is h (inl e) =
-    inl (ap (λ (b : Bool). cond b (x ∷ filter test xs) (filter test xs)) is ∙ e)
-kept_at test P x xs false is h (inr s) = inr s
+-- ---- the pairs of two classes: each has what L says, or one has what R says
+kept_at : {X : Type 0} (test : X → Bool) (L R : X → Type 0) (x : X) (xs : List X) (b : Bool) → test x ≡ b → L x ⊎ R x
+    → All L (filter test xs) ⊎ ((y : X) × R y × (test y ≡ true))
+    → All L (filter test (x ∷ xs)) ⊎ ((y : X) × R y × (test y ≡ true))
+kept_at test L R x xs true is (inr h) rest = inr (x, h, is)
+kept_at test L R x xs true is (inl h) (inr s) = inr s
+kept_at test L R x xs true is (inl h) (inl all) =
+    inl (subst (All L) (sym (ap (λ (b : Bool). cond b (x ∷ filter test xs) (filter test xs)) is))
+    (All-cons L x (filter test xs) h all))
+kept_at test L R x xs false is h (inl all) =
+    inl (subst (All L) (sym (ap (λ (b : Bool). cond b (x ∷ filter test xs) (filter test xs)) is)) all)
+kept_at test L R x xs false is h (inr s) = inr s
 
-first_kept : {X : Type 0} (test : X → Bool) (P : X → Type 0) (xs : List X) → All P xs
-    → (filter test xs ≡ []) ⊎ ((x : X) × P x × (test x ≡ true))
-first_kept test P [] h = inl refl
-first_kept test P (x ∷ xs) h =
-    kept_at test P x xs (test x) refl (All-head P x xs h) (first_kept test P xs (All-tail P x xs h))
+first_kept : {X : Type 0} (test : X → Bool) (L R : X → Type 0) (xs : List X) → All (λ x. L x ⊎ R x) xs
+    → All L (filter test xs) ⊎ ((x : X) × R x × (test x ≡ true))
+first_kept test L R [] h = inl (All-nil L)
+first_kept test L R (x ∷ xs) h =
+    kept_at test L R x xs (test x) refl (All-head (λ y. L y ⊎ R y) x xs h)
+    (first_kept test L R xs (All-tail (λ y. L y ⊎ R y) x xs h))
 
 parts : (x y z w : Bool) → ((x && y) || (z && w)) ≡ true
     → ((x ≡ true) × (y ≡ true)) ⊎ ((z ≡ true) × (w ≡ true))
@@ -118,7 +127,7 @@ parts false y true true h = inr (refl, refl)
 parts false y true false h = absurd (true≢false (sym h))
 parts false y false w h = absurd (true≢false (sym h))
 
-module _ (d : Design) (m : ℕ) (pairs : All (IsPairWithin d m) d.pairs) (one other : Kind) where
+module _ (d : Design) (m : ℕ) (pairs : All (IsPairCovered d m) d.pairs) (one other : Kind) where
   abbrev Within : List ClassPair → Type 0
   Within ps = first_present 0 (levels one other (joint_rules ps)) ≤ m
 
@@ -128,22 +137,24 @@ module _ (d : Design) (m : ℕ) (pairs : All (IsPairWithin d m) d.pairs) (one ot
   -- of the classes x and y
   classes_within : (a b x y : ℕ) → class_of d (Some a) ≡ Some x → class_of d (Some b) ≡ Some y
       → Within (pairs_of d (Some x) (Some y))
-  classes_within a b x y e f = elim (first_kept (is_of_classes x y) (IsPairWithin d m) d.pairs pairs) [
-    | inl none ↦ subst Within (sym none) nothing
-    | inr s ↦ let p = s.0 in
-        elim (parts (p.a == x) (p.b == y) (p.a == y) (p.b == x) s.2) [
-          | inl h ↦
-              let u : p.a ≡ x = eqb-true p.a x h.0 in
-              let v : p.b ≡ y = eqb-true p.b y h.1 in
-              subst Within (λ i. pairs_of d (Some (u i)) (Some (v i)))
-              (s.1.each a b (e ∙ ap Some (sym u)) (f ∙ ap Some (sym v)) one other)
-          | inr h ↦
-              let u : p.a ≡ y = eqb-true p.a y h.0 in
-              let v : p.b ≡ x = eqb-true p.b x h.1 in
-              subst Within (pairs_swapped d (Some y) (Some x)) (subst Within (λ i. pairs_of d (Some (u i)) (Some (v i)))
-              (s.1.each b a (f ∙ ap Some (sym u)) (e ∙ ap Some (sym v)) one other))
-        ]
-  ]
+  classes_within a b x y e f =
+      let L : ClassPair → Type 0 = λ p. AreRulesWithin m p.rules in
+      elim (first_kept (is_of_classes x y) L (IsPairWithin d m) d.pairs pairs) [
+        | inl all ↦ joint_value m (filter (is_of_classes x y) d.pairs) one other all
+        | inr s ↦ let p = s.0 in
+            elim (parts (p.a == x) (p.b == y) (p.a == y) (p.b == x) s.2) [
+              | inl h ↦
+                  let u : p.a ≡ x = eqb-true p.a x h.0 in
+                  let v : p.b ≡ y = eqb-true p.b y h.1 in
+                  subst Within (λ i. pairs_of d (Some (u i)) (Some (v i)))
+                  (s.1.each a b (e ∙ ap Some (sym u)) (f ∙ ap Some (sym v)) one other)
+              | inr h ↦
+                  let u : p.a ≡ y = eqb-true p.a y h.0 in
+                  let v : p.b ≡ x = eqb-true p.b x h.1 in
+                  subst Within (pairs_swapped d (Some y) (Some x)) (subst Within (λ i. pairs_of d (Some (u i)) (Some (v i)))
+                  (s.1.each b a (f ∙ ap Some (sym u)) (e ∙ ap Some (sym v)) one other))
+            ]
+      ]
 
   of_nets : (a b : ℕ) (x y : Option ℕ) → class_of d (Some a) ≡ x → class_of d (Some b) ≡ y → Within (pairs_of d x y)
   of_nets a b None y e f = nothing
@@ -162,7 +173,7 @@ module _ (d : Design) (m : ℕ) (pairs : All (IsPairWithin d m) d.pairs) (one ot
       (in_both m (value_of d a one other) (typed_value one other r.typed) r.plain h (between_within a b))
 
 pub greatest_is : (d : Design) (m : ℕ) → IsValue d m → AreValuesWithin d None m
-    → ((n : ℕ) → n < length d.nets → AreValuesWithin d (Some n) m) → All (IsPairWithin d m) d.pairs
+    → ((n : ℕ) → n < length d.nets → AreValuesWithin d (Some n) m) → All (IsPairCovered d m) d.pairs
     → IsGreatestClearance d m
 greatest_is d m v none nets pairs =
     let all : (a b : Option ℕ) (ka kb : Kind) → value_to d a b ka kb ≤ m = λ a b ka kb.
@@ -180,9 +191,10 @@ greatest_is d m v none nets pairs =
     }
 
 -- what is within m is within what is more
-pub pair_more : (d : Design) (m r : ℕ) → m ≤ r → (p : ClassPair) → IsPairWithin d m p → IsPairWithin d r p
-pair_more d m r h p w =
-    record { each = λ a b e f one other. let v = w.each a b e f one other in omega (arith, h, v) }
+pub pair_more : (d : Design) (m r : ℕ) → m ≤ r → (p : ClassPair) → IsPairCovered d m p → IsPairCovered d r p
+pair_more d m r h p (inl w) = inl (rules_more m r h p.rules w)
+pair_more d m r h p (inr w) =
+    inr (record { each = λ a b e f one other. let v = w.each a b e f one other in omega (arith, h, v) })
 
 -- a clearance that some nets have is within what the rules are
 pub greatest_within : (d : Design) (m : ℕ) → HasRulesWithin (2 ^ 28) d → IsGreatestClearance d m → m ≤ 2 ^ 28

@@ -1,6 +1,6 @@
 -- Copper that serves a design, with one more routed item.
 use Rattle.std.proofs.Common.{◌≡◌, ℕ, pos, ◌+ℤ◌, unsigned_abs, ◌+◌, ◌<◌, ◌≤◌, ◌^◌, Bool, false, List, [], ◌∷◌, ◌++◌}
-use Rattle.std.proofs.Common.{length, map, All, Some, cond, refl, sym, ap, ◌∙◌, subst, arith}
+use Rattle.std.proofs.Common.{length, All, Some, cond, refl, sym, ap, ◌∙◌, subst, arith}
 use Rattle.std.specs.List.{filter}
 use Rattle.std.proofs.lemmas.Int.{ints}
 use Rattle.std.proofs.lemmas.List.{append-nil}
@@ -8,12 +8,11 @@ use Rattle.std.proofs.lemmas.List.Elements.{All-append, All-cons, All-nil, filte
 use Rattle.geo_kernel.specs.declared.point.Point.{Point}
 use Rattle.geo_kernel.specs.Plane.{IsWithin}
 use Rattle.geo_kernel.specs.Moved.{moved}
-use Rattle.pcb_model.specs.declared.item.Piece.{Piece}
 use Rattle.pcb_model.specs.declared.item.Metal.TheVariants.{Wire}
 use Rattle.pcb_model.specs.declared.item.Item.{Item}
 use Rattle.pcb_model.specs.declared.design.Design.{Design}
 use Rattle.pcb_model.specs.Pieces.{item_of, moved_piece, wire_piece}
-use Rattle.pcb_model.specs.Bounds.{IsFit, IsDesignFit}
+use Rattle.pcb_model.specs.Bounds.{IsFit}
 use Rattle.pcb_model.specs.Board.{IsRouted, is_fixed}
 use Rattle.pcb_model.specs.Sound.{IsItemOf, IsLayerOf, Serves, origin}
 

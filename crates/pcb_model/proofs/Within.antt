@@ -14,7 +14,7 @@ use Rattle.pcb_model.specs.declared.design.Net.{Net}
 use Rattle.pcb_model.specs.declared.design.ClassPair.{ClassPair}
 use Rattle.pcb_model.specs.declared.design.Design.{Design}
 use Rattle.pcb_model.specs.Rules.{names_pair, names_one, last_value, typed_value, first_present, levels, class_rules}
-use Rattle.pcb_model.specs.Rules.{with_class, net_rules, rule_sets, value_of, value_to, clearance_of, class_of, is_of_classes}
+use Rattle.pcb_model.specs.Rules.{with_class, net_rules, rule_sets, value_to, clearance_of, class_of, is_of_classes}
 use Rattle.pcb_model.specs.Rules.{pairs_of, pair_rules, joint_rules, last_plain}
 use Rattle.pcb_model.specs.Bounds.{AreRulesWithin, HasRulesWithin}
 
@@ -114,6 +114,13 @@ typed_joint m (p ∷ ps) h =
 
 pub joint_within : (m : ℕ) (ps : List ClassPair) → All (PairWithin m) ps → AreRulesWithin m (joint_rules ps)
 joint_within m ps h = record { plain_within = plain_joint m ps h; typed_within = typed_joint m ps h }
+
+-- what some pairs give is within what each of them has
+pub joint_value : (m : ℕ) (ps : List ClassPair) (ka kb : Kind) → All (λ (p : ClassPair). AreRulesWithin m p.rules) ps
+    → first_present 0 (levels ka kb (joint_rules ps)) ≤ m
+joint_value m ps ka kb h =
+    first m (flat_map (levels ka kb) (joint_rules ps ∷ [])) (all_levels m ka kb (joint_rules ps ∷ [])
+    (All-cons (AreRulesWithin m) (joint_rules ps) [] (joint_within m ps h) (All-nil (AreRulesWithin m))))
 
 pairs_within_of : (m : ℕ) (d : Design) (x y : Option ℕ) → HasRulesWithin m d → All (PairWithin m) (pairs_of d x y)
 pairs_within_of m d None y h = All-nil (PairWithin m)

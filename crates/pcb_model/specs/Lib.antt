@@ -5,6 +5,7 @@ pub mod Bounds
 pub mod Board
 pub mod Sound
 pub mod Counts
+pub mod Greatest
 pub mod Near
 pub mod Copper
 pub mod Scale

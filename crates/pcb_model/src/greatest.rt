@@ -5,9 +5,10 @@ ghost use Rattle.std.specs.Prelude.{◌≡◌, ◌↔◌, ℕ, ◌≤◌, ◌^�
 ghost use Rattle.pcb_model.specs.declared.item.Kind.{Kind as OneKind};
 ghost use Rattle.pcb_model.specs.Rules.{value_of, pair_value, class_in, class_of};
 ghost use Rattle.pcb_model.specs.Sound.{IsSound};
-ghost use Rattle.pcb_model.specs.Bounds.{IsValue, AreValuesWithin, IsPairWithin, IsGreatestClearance};
+ghost use Rattle.pcb_model.specs.Bounds.{IsValue, AreValuesWithin, AreRulesWithin, IsGreatestClearance};
+ghost use Rattle.pcb_model.specs.Greatest.{IsPairCovered};
 
-use crate::rules::{in_pairs, value};
+use crate::rules::{in_pairs, reach_of_rules, value};
 use crate::{ClassPair, Design, Kind, Net};
 
 // The greater of a number and the value of a net for two kinds.
@@ -117,14 +118,19 @@ fn raised_by_nets(d: &Design, p: &ClassPair, a: u32, b: u32, least: u64) -> u64
     raised_between_kind(d, p, a, b, Kind::Area, smd)
 }
 
-// The greatest of a number and the values of a pair, where both of its classes have nets.
+// The greatest of a number and the values of a pair, where both of its classes have nets. A pair without a greater value
+// of its own raises nothing: what its classes' pairs give is the own value of one of these, which is looked at in turn.
 fn raised_by_pair(d: &Design, p: &ClassPair, least: u64) -> u64
     requires reached { IsValue d.now least }
     requires few_nets { length d.now.nets ≤ 2 ^ 26 }
-    ensures values { IsPairWithin d.now result p.now }
+    requires rules { AreRulesWithin (2 ^ 28) p.now.rules }
+    ensures values { IsPairCovered d.now result p.now }
     ensures least { least ≤ result }
     ensures reached { IsValue d.now result }
 {
+    if reach_of_rules(&p.rules, 0) <= least {
+        return least;
+    }
     let nets = d.nets.as_slice();
     match net_of(nets, p.a) {
         Some(a) => match net_of(nets, p.b) {

@@ -275,7 +275,7 @@ fn reach_of_typed(ts: &[Typed], least: u64) -> u64
 }
 
 // The greatest clearance of a rule set, or `least` where none is greater.
-fn reach_of_rules(rs: &RuleSet, least: u64) -> u64
+pub(crate) fn reach_of_rules(rs: &RuleSet, least: u64) -> u64
     requires rules { AreRulesWithin (2 ^ 28) rs.now }
     requires least_within { least ≤ 2 ^ 28 }
     ensures reaches { AreRulesWithin result rs.now }

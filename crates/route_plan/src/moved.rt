@@ -10,11 +10,10 @@ ghost use Rattle.least_offer.specs.Together.{StandsWith};
 ghost use Rattle.route_plan.specs.inner.Ways.{shove_of as the_shove, IsReshaped, MovesAll};
 
 use crate::fit::first_fit;
-use crate::pairs::{agrees, touching};
 use board_offers::Shoved;
 use geo_kernel::List;
 use least_offer::shoves_are_one;
-use pcb_model::{Copper, Design, Item, Metal};
+use pcb_model::{Copper, Design, Item, Metal, agree, are_touching};
 use route_lattice::Lattice;
 use std::alloc::{AllocError, Global};
 
@@ -33,13 +32,13 @@ fn stands_with<C: Copper>(d: &Design, c: &C, a: &Item, b: &Item) -> bool
     let Some(b_was) = c.item(b.id) else {
         unreachable!();
     };
-    if !agrees(d, a, b) {
+    if !agree(d, a, b) {
         return false;
     }
-    if !touching(a_was, b_was) {
+    if !are_touching(a_was, b_was) {
         return true;
     }
-    touching(a, b)
+    are_touching(a, b)
 }
 
 /// Whether each of the moved wires stands with another one.

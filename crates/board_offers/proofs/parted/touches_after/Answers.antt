@@ -7,13 +7,13 @@ use Rattle.board_offers.specs.inner.Searching.{lies_after}
 use Rattle.board_offers.proofs.Parting.{lies_fit, same_item}
 use Rattle.board_offers.proofs.parted.touches_after.Goals as goal
 
-pub touching-requires-clause-a_fits : goal.touching-requires-clause-a_fits
-touching-requires-clause-a_fits g c =
+pub are_touching-requires-clause-a_fits : goal.are_touching-requires-clause-a_fits
+are_touching-requires-clause-a_fits g c =
     subst IsItemFit (sym c.lying_after.ensures)
     (lies_fit c.args.shoves.now c.args.replaced.now c.args.old.now c.requires.fit c.requires.old_fits)
 
-pub touching-requires-clause-b_fits : goal.touching-requires-clause-b_fits
-touching-requires-clause-b_fits g c =
+pub are_touching-requires-clause-b_fits : goal.are_touching-requires-clause-b_fits
+are_touching-requires-clause-b_fits g c =
     let fits = All-contains IsItemFit (g.C.Copper.items c.args.c.now) c.in-Some.a.now c.requires.items_fit
     c.in-Some.ensures.0 in
     subst IsItemFit (sym c.lying_after-in-Some.ensures)
@@ -33,9 +33,9 @@ returns-in-Some g c =
             subst (λ (x : Item). AreTouching (lies_after ss rs old) (lies_after ss rs x)) same
             (subst (λ (x : Item). AreTouching x (lies_after ss rs a)) c.lying_after.ensures
             (subst (λ (x : Item). AreTouching c.lying_after.result.now x) c.lying_after-in-Some.ensures
-            (c.touching.ensures.0 t)));
+            (c.are_touching.ensures.0 t)));
       },
-      λ h. c.touching.ensures.1
+      λ h. c.are_touching.ensures.1
           (subst (λ (x : Item). AreTouching x c.lying_after-in-Some.result.now) (sym c.lying_after.ensures)
           (subst (λ (x : Item). AreTouching (lies_after ss rs old) x) (sym c.lying_after-in-Some.ensures)
           (h.each a there c.in-Some.ensures.1))),

@@ -7,8 +7,8 @@ use Rattle.board_offers.specs.inner.Searching.{AgreesWithAll}
 use Rattle.board_offers.proofs.Troubles.{with_all_more}
 use Rattle.board_offers.proofs.trouble.least_clash.Goals as goal
 
-pub least_clash_by-requires-clause-fits : goal.least_clash_by-requires-clause-fits
-least_clash_by-requires-clause-fits g c =
+pub least_clash_of-requires-clause-fits : goal.least_clash_of-requires-clause-fits
+least_clash_of-requires-clause-fits g c =
     subst IsItemFit (sym c.n-item.is) (c.requires.fit c.loop-n.n-index c.n-item.result c.loop-n-test.true)
 
 pub loop-n-preserved : goal.loop-n-preserved
@@ -21,8 +21,8 @@ loop-n-preserved g c =
     let front = take c.loop-n.n-index c.args.new.now in
     let more : take (c.loop-n.n-index + 1) c.args.new.now ≡ front ++ n ∷ [] =
     take_more new c.loop-n.n-index n c.loop-n-test.true ∙ ap (λ (x : Item). front ++ x ∷ []) (sym c.n-item.is) in
-    let all = with_all_more d items ids front n c.loop-n.least c.least_clash_by.result c.loop-n.invariant
-    c.least_clash_by.ensures in
+    let all = with_all_more d items ids front n c.loop-n.least c.least_clash_of.result c.loop-n.invariant
+    c.least_clash_of.ensures in
     subst (λ (xs : List Item). FailsLeast (AgreesWithAll d items ids xs) c.earlier-least.result) (sym more)
     (subst (FailsLeast (AgreesWithAll d items ids (front ++ n ∷ []))) (sym c.earlier-least.ensures) all)
 

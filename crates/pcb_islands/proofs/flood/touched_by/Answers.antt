@@ -12,7 +12,7 @@ returns-in_default-checked_add g c =
     let high : 2 ^ 64 ≤ c.in-Some.id + 1 = omega (arith, c.in_default-checked_add.ensures) in
     subst (λ (ids : List ℕ). AreTouched (g.C.Copper.items c.args.c.now) c.args.a.now ids)
     (sym c.in_ok-push.ensures.items)
-    (last_touched _ _ _ _ (one_touched _ _ _ _ _ c.loop-id.invariant c.in-Some.ensures.finds) high c.requires.ids)
+    (last_touched _ _ _ _ (one_touched _ _ _ _ _ c.loop-id.invariant c.in-Some.ensures) high c.requires.ids)
 
 pub loop-id-preserved : goal.loop-id-preserved
 loop-id-preserved g c =
@@ -21,7 +21,7 @@ loop-id-preserved g c =
     next_is
     (subst (λ (ids : List ℕ). AreTouchedBelow (g.C.Copper.items c.args.c.now) c.args.a.now (c.in-Some.id + 1) ids)
     (sym c.in_ok-push.ensures.items)
-    (one_touched _ _ _ _ _ c.loop-id.invariant c.in-Some.ensures.finds))
+    (one_touched _ _ _ _ _ c.loop-id.invariant c.in-Some.ensures))
 
 pub returns : goal.returns
-returns g c = all_touched _ _ _ _ c.loop-id.invariant c.in_default.ensures.finds
+returns g c = all_touched _ _ _ _ c.loop-id.invariant c.in_default.ensures

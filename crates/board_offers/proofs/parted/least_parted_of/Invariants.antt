@@ -1,6 +1,6 @@
 use Rattle.std.proofs.Common.{◌-◌, ◌^◌}
 use Rattle.board_offers.specs.inner.Searching.{StayBy}
-use Rattle.board_offers.proofs.parted.least_parted_by.Given as goal
+use Rattle.board_offers.proofs.parted.least_parted_of.Given as goal
 
 abbrev pub invariant-loop-id : goal.invariant-loop-id
 invariant-loop-id g l = StayBy l.shoves l.replaced (g.C.Copper.items l.c) l.old l.from

@@ -1,6 +1,6 @@
 use Rattle.std.proofs.Common.{◌-◌, ◌^◌}
 use Rattle.board_offers.specs.inner.Searching.{ArePassed}
-use Rattle.board_offers.proofs.trouble.least_clash_by.Given as goal
+use Rattle.board_offers.proofs.trouble.least_clash_of.Given as goal
 
 abbrev pub invariant-loop-id : goal.invariant-loop-id
 invariant-loop-id g l = ArePassed l.d (g.C.Copper.items l.c) l.ids l.new l.from

@@ -82,13 +82,6 @@ grown_one r p = record {
 }
 
 -- ---- as the loops go on
-pub grown_none : (r : Rect4) → IsGrown r r []
-grown_none r =
-    record {
-      grown = λ seen h. let F : List Point → Type 0 = λ ps. IsLeastBox ps r in
-          subst F (sym (append-nil seen)) h;
-    }
-
 grown_then : (r q t : Rect4) (ps qs : List Point) → IsGrown r q ps → IsGrown q t qs → IsGrown r t (ps ++ qs)
 grown_then r q t ps qs h k =
     record {

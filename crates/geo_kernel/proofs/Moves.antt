@@ -172,7 +172,8 @@ pub first_within : (m : ℕ) (s : Spine) (p : Point) → IsFirst s p → IsSpine
 first_within m s p f h = All-head (IsWithin m) p f.rest (subst (All (IsWithin m)) f.is (outline_within m s h))
 
 -- points and loops within the bounds stay so where they are moved by nothing
-pub still_movable : (ps : List Point) → All (IsWithin (2 ^ 29)) ps → All (IsMovable (record { x = pos 0; y = pos 0 })) ps
+pub still_movable : (ps : List Point) → All (IsWithin (2 ^ 29)) ps → All (IsMovable (record { x = pos 0; y = pos 0 }))
+    ps
 still_movable ps h = all_movable _ ps h (still_within (2 ^ 29) (Chain ps) h)
 
 pub still_loops_movable : (ls : List (List Point)) → All (All (IsWithin (2 ^ 29))) ls

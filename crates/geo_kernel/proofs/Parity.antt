@@ -342,10 +342,6 @@ abbrev pub xor : Bool → Bool → Bool
 xor true b = not b
 xor false b = b
 
-xor_false : (a : Bool) → xor a false ≡ a
-xor_false true = refl
-xor_false false = refl
-
 pub xor_self : (a : Bool) → xor a a ≡ false
 xor_self true = refl
 xor_self false = refl

@@ -1,18 +1,13 @@
 -- A loop over the points of a path, from the point before: what is asked of all links is asked of the links that are
 -- left.
-use Rattle.std.proofs.Common.{◌≡◌, ℕ, suc, zero, ◌+◌, ◌%◌, ◌-◌, ◌≢◌, ◌<◌, ◌≤◌, List, [], ◌∷◌, ◌++◌, take, drop, get_or}
+use Rattle.std.proofs.Common.{◌≡◌, ℕ, suc, zero, ◌+◌, ◌%◌, ◌-◌, ◌<◌, ◌≤◌, List, [], ◌∷◌, ◌++◌, drop, get_or}
 use Rattle.std.proofs.Common.{flat_map, length, drop-cons, add-one, All, Any, ◌↔◌, ◌⊎◌, inl, inr, ⊎_elim, count_by}
 use Rattle.std.proofs.Common.{Bool, true, false, true≢false, not, cond, IsTrue, refl, sym, ap, ◌∙◌, subst, arith}
-use Rattle.std.proofs.lemmas.List.{drop_all, take_all}
-use Rattle.std.proofs.lemmas.List.Elements.{All-nil, All-cons, All-drop, All-head, All-tail, All-take, All-append}
+use Rattle.std.proofs.lemmas.List.{drop_all}
+use Rattle.std.proofs.lemmas.List.Elements.{All-nil, All-cons, All-head, All-tail}
 use Rattle.std.proofs.lemmas.List.Sums.{sum_by-cons, sum_by-append}
 use Rattle.geo_kernel.specs.declared.point.Point.{Point}
-use Rattle.geo_kernel.specs.Spine.{Segment, links, last_of, chain_segments, loop_segments}
-
--- what all points are, the first is, and those behind it
-pub parts_keep : (P : Point → Type 0) (p : Point) (ps : List Point) → 0 < length ps → All P ps
-    → P (get_or ps 0 p) × All P (take (length ps - 1) (drop 1 ps))
-parts_keep P p ps some all = (all 0 p some, All-take P (length ps - 1) (drop 1 ps) (All-drop P 1 ps all))
+use Rattle.geo_kernel.specs.Spine.{Segment, links, last_of, loop_segments}
 
 -- the link from the last point to that at place i
 abbrev pub link_at : Point → Point → List Point → ℕ → Segment
@@ -62,15 +57,6 @@ left_next F start last d points i left h up down = record {
 }
 
 module _ (P : Segment → Type 0) (start last d : Point) (points : List Point) (i : ℕ) where
-  pub all_next : LeftOver (All P) start last points i → i < length points → P (link_at last d points i)
-      → LeftOver (All P) start (get_or points i d) points (i + 1)
-  all_next left h here =
-      left_next (All P) start last d points i left h (λ gs. All-cons P _ gs here) (λ gs. All-tail P _ gs)
-
-  pub all_stops : LeftOver (All P) start last points i → i < length points → ¬ (P (link_at last d points i))
-      → ¬ (All P (links start points))
-  all_stops left h none all = none (All-head P _ _ (rw (links-drop last d points i h) at left.part all))
-
   pub any_next : LeftOver (Any P) start last points i → i < length points → ¬ (P (link_at last d points i))
       → LeftOver (Any P) start (get_or points i d) points (i + 1)
   any_next left h none =
@@ -96,10 +82,6 @@ bit b = cond b 1 0
 pub record ParityLeft (f : Segment → Bool) (start last : Point) (points : List Point) (i : ℕ) (odd : Bool) : Type 0
   where
     pub same : count_by f (links start points) % 2 ≡ (bit odd + count_by f (links last (drop i points))) % 2
-
-pub parity_at_first : (f : Segment → Bool) (start : Point) (points : List Point)
-    → ParityLeft f start start points 0 false
-parity_at_first f start points = record { same = omega arith }
 
 turned : (f : Bool) (odd : Bool) (r : ℕ) → f ≡ true → (bit odd + (cond f 1 0 + r)) % 2 ≡ (bit (not odd) + r) % 2
 turned true true r e = omega arith
@@ -148,18 +130,6 @@ module _ (f : Segment → Bool) (start last d : Point) (points : List Point) (i 
       by false n e = (λ t. cc, λ h. absurd (omega arith))
 
 -- ---- chains and loops as paths
-pub chain_of_one : (d : Point) (points : List Point) → length points ≡ 1
-    → chain_segments points ≡ links (get_or points 0 d) points
-chain_of_one d [] e = absurd (omega arith)
-chain_of_one d (p ∷ []) e = refl
-chain_of_one d (p ∷ q ∷ qs) e = absurd (omega arith)
-
-pub chain_of_more : (d : Point) (points : List Point) → 0 < length points → length points ≢ 1
-    → chain_segments points ≡ links (get_or points 0 d) (take (length points - 1) (drop 1 points))
-chain_of_more d [] h e = absurd (omega arith)
-chain_of_more d (p ∷ []) h e = absurd (e refl)
-chain_of_more d (p ∷ q ∷ qs) h e = ap (links p) (sym (take_all (length (p ∷ q ∷ qs) - 1) (q ∷ qs) (omega arith)))
-
 at_last : (p d : Point) (ps : List Point) → get_or (p ∷ ps) (length ps) d ≡ last_of p ps
 at_last p d [] = refl
 at_last p d (q ∷ qs) = at_last q d qs
@@ -181,47 +151,12 @@ pub All-append_second : {X : Type 0} (P : X → Type 0) (xs ys : List X) → All
 All-append_second P [] ys h = h
 All-append_second P (x ∷ xs) ys h = All-append_second P xs ys (All-tail P x (xs ++ ys) h)
 
--- as far as a loop over ls has come, all of what f gives is asked of what it gives for the rest
-pub record RestLeft {X : Type 0} (P : Segment → Type 0) (f : X → List Segment) (ls : List X) (i : ℕ) : Type 0 where
-  pub whole : All P (flat_map f (drop i ls)) → All P (flat_map f ls)
-  pub part : All P (flat_map f ls) → All P (flat_map f (drop i ls))
-
-module _ {X : Type 0} (P : Segment → Type 0) (f : X → List Segment) (ls : List X) where
-  pub rest_at_first : RestLeft P f ls 0
-  rest_at_first = record { whole = λ h. h; part = λ h. h }
-
-  flat_map-drop : (i : ℕ) (d : X) → i < length ls → flat_map f (drop i ls) ≡ f (get_or ls i d)
-      ++ flat_map f (drop (i + 1) ls)
-  flat_map-drop i d h = ap (flat_map f) (drop-cons ls i d h) ∙ rw add-one refl
-
-  pub rest_next : (i : ℕ) (d : X) → RestLeft P f ls i → i < length ls → All P (f (get_or ls i d))
-      → RestLeft P f ls (i + 1)
-  rest_next i d left h here = record {
-    whole = λ rest.
-        left.whole (rw (flat_map-drop i d h)
-        (All-append P (f (get_or ls i d)) (flat_map f (drop (i + 1) ls)) here rest));
-    part = λ all. All-append_second P (f (get_or ls i d)) (flat_map f (drop (i + 1) ls))
-        (rw (flat_map-drop i d h) at left.part all);
-  }
-
-  pub rest_stops : (i : ℕ) (d : X) → RestLeft P f ls i → i < length ls → ¬ (All P (f (get_or ls i d)))
-      → ¬ (All P (flat_map f ls))
-  rest_stops i d left h none all =
-      none (All-append_first P (f (get_or ls i d)) (flat_map f (drop (i + 1) ls))
-      (rw (flat_map-drop i d h) at left.part all))
-
-  pub rest_none : (i : ℕ) → length ls ≤ i → RestLeft P f ls i → All P (flat_map f ls)
-  rest_none i h left = left.whole (rw (drop_all i ls h) (All-nil P))
-
--- the same for a count's parity
+-- as far as a loop over ls has come: the parity of what is counted in what g gives for each
 pub record RestOdd {X : Type 0} (f : Segment → Bool) (g : X → List Segment) (ls : List X) (i : ℕ) (odd : Bool) : Type 0
   where
     pub same : count_by f (flat_map g ls) % 2 ≡ (bit odd + count_by f (flat_map g (drop i ls))) % 2
 
 module _ {X : Type 0} (f : Segment → Bool) (g : X → List Segment) (ls : List X) where
-  pub rest_odd_at_first : RestOdd f g ls 0 false
-  rest_odd_at_first = record { same = omega arith }
-
   count-drop : (i : ℕ) (d : X) → i < length ls → count_by f (flat_map g (drop i ls))
       ≡ count_by f (g (get_or ls i d)) + count_by f (flat_map g (drop (i + 1) ls))
   count-drop i d h =
@@ -286,9 +221,6 @@ pub record SomeLeft {X : Type 0} (P : Segment → Type 0) (f : X → List Segmen
   pub part : Any P (flat_map f ls) → Any P (flat_map f (drop i ls))
 
 module _ {X : Type 0} (P : Segment → Type 0) (f : X → List Segment) (ls : List X) where
-  pub some_at_first : SomeLeft P f ls 0
-  some_at_first = record { whole = λ h. h; part = λ h. h }
-
   some-drop : (i : ℕ) (d : X) → i < length ls → flat_map f (drop i ls) ≡ f (get_or ls i d)
       ++ flat_map f (drop (i + 1) ls)
   some-drop i d h = ap (flat_map f) (drop-cons ls i d h) ∙ rw add-one refl

@@ -147,8 +147,12 @@ pub touches_by_nearest : (p c d : Point) (k : ℕ) (above below : ℤ) → IsNea
 touches_by_nearest p c d k above below h =
     then_also (nearest_touches (pos (k * k)) _ _ _ _ above below (is_nearest p c d above below h)) (point_near p c d k)
 
+-- a vector of the code as a point
+abbrev pub as_point : Vector → Point
+as_point v = record { x = v.x; y = v.y }
+
 -- the three cases of a point against a segment, as the code meets them
-module _ (p c d : Point) (w v : Vector) (along length : ℤ)
+module _ (p c d w v : Point) (along length : ℤ)
     (wx : w.x ≡ p.x -ℤ c.x) (wy : w.y ≡ p.y -ℤ c.y) (vx : v.x ≡ d.x -ℤ c.x) (vy : v.y ≡ d.y -ℤ c.y)
     (is_along : along ≡ dot w.x w.y v.x v.y) (is_length : length ≡ dot v.x v.y v.x v.y) where
   way : along ≡ dot (p.x -ℤ c.x) (p.y -ℤ c.y) (d.x -ℤ c.x) (d.y -ℤ c.y)
@@ -160,7 +164,7 @@ module _ (p c d : Point) (w v : Vector) (along length : ℤ)
   pub at_first : (above : ℤ) → along ≤ℤ pos 0 → above ≡ norm w.x w.y → IsNearest p c d above (pos 1)
   at_first above h e = nearest_is p c d above (pos 1) (rw (e, wx, wy) (nearest_first _ _ _ _ (rw (← way) h)))
 
-  pub at_second : (z : Vector) (above : ℤ) → z.x ≡ p.x -ℤ d.x → z.y ≡ p.y -ℤ d.y → length ≤ℤ along → above ≡ norm z.x z.y
+  pub at_second : (z : Point) (above : ℤ) → z.x ≡ p.x -ℤ d.x → z.y ≡ p.y -ℤ d.y → length ≤ℤ along → above ≡ norm z.x z.y
       → IsNearest p c d above (pos 1)
   at_second z above zx zy h e =
       let ex : z.x ≡ (p.x -ℤ c.x) -ℤ (d.x -ℤ c.x) = omega (arith, ints) in

@@ -159,9 +159,6 @@ module _ (n : ℕ) (positive : 0 < n) where
           no_le : (a b : ℤ) → b <ℤ a → int_le a b ≡ false
           no_le a b h = sym (false_is_le a b (omega (arith, ints)))
 
-  turn : Point → Segment → ℤ
-  turn p g = (g.to.x -ℤ g.from.x) *ℤ (p.y -ℤ g.from.y) -ℤ (g.to.y -ℤ g.from.y) *ℤ (p.x -ℤ g.from.x)
-
   turn_stretched : (px py fx fy tx ty : ℤ) →
       (pos n *ℤ tx -ℤ pos n *ℤ fx) *ℤ (pos n *ℤ py -ℤ pos n *ℤ fy) -ℤ (pos n *ℤ ty -ℤ pos n *ℤ fy) *ℤ
       (pos n *ℤ px -ℤ pos n *ℤ fx)
@@ -185,7 +182,7 @@ module _ (n : ℕ) (positive : 0 < n) where
       → cond a (b && c) (d && e) ≡ cond f (g && h) (i && j)
   same_test a b c d e f g h i j p q r s t = cc
 
-  right_stretched : (p u v : Point) → is_right (stretched n p) (record { from = stretched n u; to = stretched n v })
+  pub right_stretched : (p u v : Point) → is_right (stretched n p) (record { from = stretched n u; to = stretched n v })
       ≡ is_right p (record { from = u; to = v })
   right_stretched p u v =
       same_test _ _ _ _ _ _ _ _ _ _ (le_stretched u.y p.y) (lt_stretched p.y v.y)

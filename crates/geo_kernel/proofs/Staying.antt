@@ -1,12 +1,11 @@
 -- A chain that begins inside a loop and keeps a distance from the loop's edge has no rational point outside.
-use Rattle.std.proofs.Common.{◌≡◌, ℕ, ◌<◌, ◌≤◌, List, [], ◌∷◌, ◌++◌, map, All, sym, ap, ◌∙◌, arith}
+use Rattle.std.proofs.Common.{ℕ, ◌<◌, List, [], ◌∷◌, ◌++◌, map, All, sym, ap, ◌∙◌, arith}
 use Rattle.std.proofs.lemmas.List.Elements.{All-nil, All-cons, All-head, All-tail, All-append}
 use Rattle.geo_kernel.specs.declared.point.Point.{Point}
 use Rattle.geo_kernel.specs.declared.spine.Spine.TheVariants.{Chain}
 use Rattle.geo_kernel.specs.Spine.{Segment, links, last_of, loop_segments, area_segments, chain_segments, closed, Keeps}
 use Rattle.geo_kernel.specs.Spine.{KeepsAll, is_right, IsInside, BeginInside, SpinesKeep}
 use Rattle.geo_kernel.specs.Solid.{stretched, point_at, LiesInside, StaysInside}
-use Rattle.geo_kernel.proofs.Paths.{All-append_first, All-append_second}
 use Rattle.geo_kernel.proofs.Parity.{odd}
 use Rattle.geo_kernel.proofs.Solid.{told_by_odd, area_same, area_stretched, end_point, same_point}
 
@@ -71,5 +70,6 @@ stays_inside (p ∷ ps) [] k some here h = absurd (omega (arith, here))
 stays_inside (p ∷ ps) (q ∷ qs) k some here h =
     chain_inside ((q ∷ qs) ∷ []) k some p ps
     (all-each (KeepsAll k (Chain (closed (q ∷ qs)))) (λ g. All (Keeps k g) (area_segments ((q ∷ qs) ∷ [])))
-    (λ g all. All-append (Keeps k g) (loop_segments (q ∷ qs)) [] (all-closed (Keeps k g) q qs all) (All-nil (Keeps k g)))
+    (λ g all. All-append (Keeps k g) (loop_segments (q ∷ qs)) [] (all-closed (Keeps k g) q qs all)
+    (All-nil (Keeps k g)))
     (chain_segments (p ∷ ps)) h.segments) here

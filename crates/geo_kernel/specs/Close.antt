@@ -1,4 +1,4 @@
--- What the private functions of `close` and `inside` give.
+-- What the private functions and structs of `close`, `moved`, `path` and `interior` give.
 use Rattle.std.specs.Prelude.{ℕ, ◌^◌, ◌%◌, ◌≡◌, List, Any, count_by}
 use Rattle.geo_kernel.specs.declared.point.Point.{Point}
 use Rattle.geo_kernel.specs.declared.spine.Spine.{Spine}
@@ -6,8 +6,9 @@ use Rattle.geo_kernel.specs.declared.spine.Spine.TheVariants.{Chain, Area}
 use Rattle.geo_kernel.specs.declared.close.Closeness.{Closeness}
 use Rattle.geo_kernel.specs.declared.close.Closeness.TheVariants.{Nearer, Touching}
 use Rattle.geo_kernel.specs.Plane.{IsWithin}
-use Rattle.geo_kernel.specs.Spine.{Segment, Keeps, Touches, is_right, spine_segments, IsInside}
-use Rattle.geo_kernel.specs.Moved.{moved}
+use Rattle.geo_kernel.specs.Spine.{Segment, Keeps, Touches, is_right, spine_segments, IsInside, IsSpineWithin}
+use Rattle.geo_kernel.specs.Moved.{moved, moved_spine}
+use Rattle.geo_kernel.specs.Props.{spine_within_prop}
 
 -- two segments are close where they don't keep k, or where they touch by it
 abbrev pub IsClose : Closeness → ℕ → Segment → Segment → Type 0
@@ -33,6 +34,13 @@ IsMovedOdd by p gs = count_by (λ g. is_right p (moved_segment by g)) gs % 2 ≡
 -- the point stays within the bounds where it is moved
 abbrev pub IsMovable : Point → Point → Type 0
 IsMovable by p = IsWithin (2 ^ 29) p × IsWithin (2 ^ 29) (moved by p)
+
+-- the moved spine is within the bounds; it is proved in at most one way
+abbrev pub IsMovedWithin : Point → Spine → Type 0
+IsMovedWithin by s = IsSpineWithin (2 ^ 29) (moved_spine by s)
+
+pub moved_within_prop : (by : Point) (s : Spine) → IsProp (IsMovedWithin by s)
+moved_within_prop by s = spine_within_prop (2 ^ 29) (moved_spine by s)
 
 -- the point is inside the spine, if that is an area
 abbrev pub IsInsideSpine : Point → Spine → Type 0

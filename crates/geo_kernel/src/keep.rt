@@ -16,7 +16,8 @@ use crate::{Point, Spine};
 
 /// Whether the first vertex of `s` is inside `t`, or that of `t` inside `s`.
 fn either_inside(s: &Moved<'_>, t: &Moved<'_>) -> bool
-    ensures { let moved_s = moved_spine s.now.by s.now.spine.now in let moved_t = moved_spine t.now.by t.now.spine.now in
+    ensures { let moved_s = moved_spine s.now.by s.now.spine.now in
+        let moved_t = moved_spine t.now.by t.now.spine.now in
         IsTrue result ↔ (BeginsInside moved_s moved_t ⊎ BeginsInside moved_t moved_s) }
 {
     t.holds(s.first()) || s.holds(t.first())

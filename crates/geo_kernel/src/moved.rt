@@ -4,7 +4,7 @@
 ghost use Rattle.std.specs.Prelude.{◌↔◌, ◌^◌, IsTrue};
 ghost use Rattle.geo_kernel.specs.Spine.{IsFirst, IsWellFormed, IsSpineWithin};
 ghost use Rattle.geo_kernel.specs.Moved.{moved_spine};
-ghost use Rattle.geo_kernel.specs.Close.{IsInsideSpine};
+ghost use Rattle.geo_kernel.specs.Close.{IsInsideSpine, IsMovedWithin, moved_within_prop};
 ghost use Rattle.geo_kernel.specs.Props.{well_formed_prop, spine_within_prop};
 
 use crate::bounded::{Bounded, shifted};
@@ -21,8 +21,7 @@ pub(crate) struct Moved<'a> {
     pub by: Point,
     ghost well_formed: { IsWellFormed spine.now } by { well_formed_prop spine.now },
     ghost within: { IsSpineWithin (2 ^ 29) spine.now } by { spine_within_prop (2 ^ 29) spine.now },
-    ghost moved_within: { IsSpineWithin (2 ^ 29) (moved_spine by spine.now) }
-        by { spine_within_prop (2 ^ 29) (moved_spine by spine.now) },
+    ghost moved_within: { IsMovedWithin by spine.now } by { moved_within_prop by spine.now },
 }
 
 impl Moved<'_> {

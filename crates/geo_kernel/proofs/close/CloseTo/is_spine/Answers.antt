@@ -23,10 +23,12 @@ invariant_of-area-clause-movable c =
 
 pub returns-in-Chain : goal.returns-in-Chain
 returns-in-Chain c =
-    spine_told (IsCloseTo c.args.self.now.how c.args.self.now.k.value c.args.self.now.t.now) c.args.s.now.by c.args.s.now.spine.now _
+    spine_told (IsCloseTo c.args.self.now.how c.args.self.now.k.value c.args.self.now.t.now) c.args.s.now.by
+    c.args.s.now.spine.now _
     (c.in-Chain.is ∙ ap Chain (sym c.as_slice.ensures)) _ c.is_moved_chain.ensures
 
 pub returns-in-Area : goal.returns-in-Area
 returns-in-Area c =
-    spine_told (IsCloseTo c.args.self.now.how c.args.self.now.k.value c.args.self.now.t.now) c.args.s.now.by c.args.s.now.spine.now _
+    spine_told (IsCloseTo c.args.self.now.how c.args.self.now.k.value c.args.self.now.t.now) c.args.s.now.by
+    c.args.s.now.spine.now _
     (c.in-Area.is ∙ ap Area (sym c.as_slice-in-Area.ensures)) _ c.is_moved_area.ensures

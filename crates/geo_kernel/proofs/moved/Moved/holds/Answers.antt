@@ -15,5 +15,6 @@ invariant_of-area-clause-movable c =
 
 pub returns-in-Area : goal.returns-in-Area
 returns-in-Area c =
-    inside_told c.args.p.at c.args.self.now.by c.args.self.now.spine.now _ (c.in-Area.is ∙ ap Area (sym c.as_slice.ensures)) _
+    inside_told c.args.p.at c.args.self.now.by c.args.self.now.spine.now _
+    (c.in-Area.is ∙ ap Area (sym c.as_slice.ensures)) _
     c.is_odd_area.ensures

@@ -4,7 +4,8 @@ use Rattle.geo_kernel.proofs.segment.Near.is_at_most.Goals as goal
 
 pub returns : goal.returns
 returns c =
-    at_most_value (pos (c.args.k.value * c.args.k.value)) c.args.self.below c.args.self.above c.wide.result c.args.self.above_within
+    at_most_value (pos (c.args.k.value * c.args.k.value)) c.args.self.below c.args.self.above c.wide.result
+    c.args.self.above_within
     c.wide.ensures.within
     (rw (square_value c.args.k.value c.args.k.within) at c.wide.ensures.value)
     (square_within c.args.k.value c.args.k.within) c.args.self.below_within

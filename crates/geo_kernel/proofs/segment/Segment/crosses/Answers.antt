@@ -5,7 +5,8 @@ use Rattle.geo_kernel.proofs.segment.Segment.crosses.Goals as goal
 
 pub returns-then-meets : goal.returns-then-meets
 returns-then-meets c =
-    let i = cross_is c.args.self.from.at c.args.self.to.at c.args.g.from.at c.args.g.to.at c.minus-w.result c.minus-u.result c.minus-v.result
+    let i = cross_is c.args.self.from.at c.args.self.to.at c.args.g.from.at c.args.g.to.at c.minus-w.result
+    c.minus-u.result c.minus-v.result
     c.cross-all.result c.cross-first.result c.cross-second.result
     c.minus-w.ensures.x c.minus-w.ensures.y c.minus-u.ensures.x c.minus-u.ensures.y c.minus-v.ensures.x
     c.minus-v.ensures.y
@@ -19,7 +20,8 @@ returns-then-meets c =
 
 pub returns-else-meets : goal.returns-else-meets
 returns-else-meets c =
-    let i = cross_is c.args.self.from.at c.args.self.to.at c.args.g.from.at c.args.g.to.at c.minus-w.result c.minus-u.result c.minus-v.result
+    let i = cross_is c.args.self.from.at c.args.self.to.at c.args.g.from.at c.args.g.to.at c.minus-w.result
+    c.minus-u.result c.minus-v.result
     c.cross-all.result c.cross-first.result c.cross-second.result
     c.minus-w.ensures.x c.minus-w.ensures.y c.minus-u.ensures.x c.minus-u.ensures.y c.minus-v.ensures.x
     c.minus-v.ensures.y

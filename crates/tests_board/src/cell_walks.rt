@@ -1,4 +1,4 @@
-//! Searches among cells: around walls, by a bound and by a rule of ties.
+//! Searches among cells: around walls, by a bound, by a rule of ties, and for the stated walk.
 //! A cell's number is its place in the map that shows it.
 
 ghost use Rattle.std.specs.Prelude.{◌≡◌, ◌∷◌, [], ◌<◌, All, length, cond, ◌==◌};
@@ -10,7 +10,9 @@ use geo_kernel::List;
 use route_lattice::{Found, Move, Moves};
 use std::alloc::{AllocError, Global};
 use std::process::Abort;
-use wave_search::{Bound, Heading, NoBound, Search, Ties, guided_walk, heading_of, least_walk};
+use wave_search::{
+    Bound, Heading, NoBound, Search, Ties, guided_walk, heading_of, least_walk, stated_walk,
+};
 
 /// A least walk from a cell to one of the goals, or all that is reached; from no start where there is no such cell.
 fn search(alloc: Global, cells: &Cells, from: u32, goals: &[u32]) -> Result<Found, AllocError> {
@@ -198,6 +200,102 @@ fn of_equally_cheap_walks_and_goals_the_straightest_is_taken(rt: HostRuntime) {
             goes_straight(&rt, rt.alloc(), straight),
             "in {}",
             straight.0
+        );
+    }
+}
+
+// ---- stated walks
+
+/// Nine cells, each of price 1.
+const SQUARE: &str = "......111..111..111......";
+
+/// Through the cell of price 3 it costs as much as round it.
+const DEAR: &str = "......111..131......";
+
+/// In a column of cells a move to the next cell and one to the next row lead to the same.
+const COLUMN: &str = ".111.";
+
+/// The width of a map, the map, a cell, the goals, the price of the stated walk to one of them, its nodes, and the
+/// directions of its moves; or at price 0 the nodes that are reached.
+struct Stated(
+    u8,
+    &'static str,
+    u32,
+    &'static [u32],
+    u64,
+    &'static [u32],
+    &'static [u8],
+);
+
+/// The stated walk from a cell to one of the goals, or all that is reached.
+fn stated_from(
+    alloc: Global,
+    cells: &Cells,
+    from: u32,
+    goals: &[u32],
+) -> Result<Found, AllocError> {
+    let starts = cells.only(alloc, from)?;
+    let goals = List::from_slice(alloc, goals)?;
+    cells_sound(cells);
+    stated_walk(alloc, cells, &starts, &goals)
+}
+
+/// Whether the move is a step in that direction.
+fn is_step(m: Move, dir: Option<&u8>) -> bool {
+    match (m, dir) {
+        (Move::Step { dir: found }, Some(dir)) => found == *dir,
+        _ => false,
+    }
+}
+
+/// Whether the moves are steps in these directions.
+fn are_steps(moves: &[Move], dirs: &[u8]) -> bool {
+    for (i, m) in moves.iter().enumerate() {
+        if !is_step(*m, dirs.get(i)) {
+            return false;
+        }
+    }
+    moves.len() == dirs.len()
+}
+
+/// Whether the stated walk was found.
+fn is_stated(found: &Found, walks: &Stated) -> bool {
+    let led = match found {
+        Found::Walk(walk) => are_steps(walk.moves.as_slice(), walks.6),
+        Found::Closed(_) => walks.6.is_empty(),
+    };
+    led && is_told(found, walks.4, walks.5)
+}
+
+/// Whether that is found on its map.
+fn is_first<R: Abort>(rt: &R, alloc: Global, walks: &Stated) -> bool {
+    let cells = Cells::drawn(alloc, walks.0, walks.1).expect(rt, "no map");
+    match stated_from(alloc, &cells, walks.2, walks.3) {
+        Ok(found) => is_stated(&found, walks),
+        Err(_) => false,
+    }
+}
+
+static STATED: [Stated; 9] = [
+    Stated(5, SQUARE, 6, &[18], 4, &[6, 7, 8, 13, 18], &[0, 0, 2, 2]),
+    Stated(5, SQUARE, 18, &[6], 4, &[18, 13, 8, 7, 6], &[3, 3, 1, 1]),
+    Stated(5, SQUARE, 16, &[8], 4, &[16, 11, 6, 7, 8], &[3, 3, 0, 0]),
+    Stated(5, SQUARE, 12, &[17, 13, 7, 11], 1, &[12, 7], &[3]),
+    Stated(5, SQUARE, 12, &[12, 7], 0, &[12], &[]),
+    Stated(5, DEAR, 11, &[13], 4, &[11, 12, 13], &[0, 0]),
+    Stated(1, COLUMN, 1, &[3], 2, &[1, 2, 3], &[0, 0]),
+    Stated(1, COLUMN, 3, &[1], 2, &[3, 2, 1], &[1, 1]),
+    Stated(5, CLOSED, 11, &[8], 0, &[6, 11], &[]),
+];
+
+#[test]
+fn of_least_walks_the_stated_one_has_the_fewest_moves_and_then_the_least_nodes(rt: HostRuntime) {
+    for walks in &STATED {
+        assert!(rt;
+            is_first(&rt, rt.alloc(), walks),
+            "in {} from {}",
+            walks.1,
+            walks.2
         );
     }
 }

@@ -1,4 +1,4 @@
-//! The first net of small boards: its islands, what anchors its items, and a walk's copper.
+//! The first net of small boards: its islands, what anchors its items, a walk's copper, and goals that are shut in.
 //! The lattice of each has a line at each mm: four across and three up.
 
 ghost use Rattle.std.specs.Prelude.{◌<◌, ◌≤◌, All, IfOk, IfSome};
@@ -11,6 +11,7 @@ ghost use Rattle.path_wire.specs.Wires.{IsNetWalk};
 use crate::copper::fixed_plain;
 use crate::lattices::{Says, holds};
 use crate::offer_board::is_chain;
+use cut_certificate::{are_shut_in, legal_moves_lead_back};
 use geo_kernel::List;
 use path_wire::{net_walks, walk_items};
 use pcb_islands::{Island, is_whole, islands};
@@ -208,4 +209,97 @@ impl Says for OneWay {
 #[test]
 fn a_walk_with_a_corner_and_a_via_is_two_wires_and_a_via(rt: HostRuntime) {
     assert!(rt; holds(rt.alloc(), ONE_WAY, 1_000_000, &OneWay) == Ok(true));
+}
+
+// ---- goals that are shut in
+
+/// A goal, how many nodes are followed at most, and whether the goal is then known to be shut in.
+struct ShutIn(u32, u32, bool);
+
+/// The one way leads to node 23. Node 2 lies in the keepout of the front, and there is no node 24.
+static SHUT_IN: [ShutIn; 5] = [
+    ShutIn(23, 4_000, false),
+    ShutIn(23, 3, false),
+    ShutIn(2, 4_000, true),
+    ShutIn(2, 0, false),
+    ShutIn(24, 4_000, false),
+];
+
+/// Whether the goals are known to be shut in from the starts.
+fn is_known(
+    alloc: Global,
+    lat: &Lattice,
+    d: &Design,
+    copper: &PlainCopper,
+    starts: &List<u32>,
+    goals: &List<u32>,
+    most: u32,
+) -> Result<bool, AllocError>
+    requires can_move { CanMove d.now lat.now 0 2000000 }
+    requires serves { Serves copper.now d.now }
+    requires starts { All (λ v. v < node_count lat.now) starts.now }
+{
+    legal_graph_sound();
+    legal_moves_lead_back();
+    let moves = LegalMoves::of(lat, d, copper, 0, 2_000_000);
+    are_shut_in(alloc, &moves, starts, goals, most)
+}
+
+/// Whether that is known from node 0.
+fn is_told(
+    alloc: Global,
+    lat: &Lattice,
+    d: &Design,
+    copper: &PlainCopper,
+    starts: &List<u32>,
+    row: &ShutIn,
+) -> bool
+    requires can_move { CanMove d.now lat.now 0 2000000 }
+    requires serves { Serves copper.now d.now }
+    requires starts { All (λ v. v < node_count lat.now) starts.now }
+{
+    let Ok(goals) = List::from_slice(alloc, &[row.0]) else {
+        return false;
+    };
+    match is_known(alloc, lat, d, copper, starts, &goals, row.1) {
+        Ok(known) => known == row.2,
+        Err(_) => false,
+    }
+}
+
+/// Whether each row is so.
+fn are_told(alloc: Global, lat: &Lattice, d: &Design, copper: &PlainCopper) -> bool
+    requires can_move { CanMove d.now lat.now 0 2000000 }
+    requires serves { Serves copper.now d.now }
+    requires there { 0 < node_count lat.now }
+{
+    let Ok(starts) = List::from_slice(alloc, &[0]) else {
+        return false;
+    };
+    for row in &SHUT_IN {
+        if !is_told(alloc, lat, d, copper, &starts, row) {
+            return false;
+        }
+    }
+    true
+}
+
+/// Which of its nodes are known to be shut in.
+struct Cornered;
+
+impl Says for Cornered {
+    fn holds(&self, alloc: Global, d: &Design, lat: &Lattice) -> bool {
+        if d.nets.is_empty() || lat.count() == 0 {
+            return false;
+        }
+        match fixed_plain(alloc, d) {
+            Ok(copper) => are_told(alloc, lat, d, &copper),
+            Err(_) => false,
+        }
+    }
+}
+
+#[test]
+fn a_goal_is_known_to_be_shut_in_where_no_move_leads_to_it(rt: HostRuntime) {
+    assert!(rt; holds(rt.alloc(), ONE_WAY, 1_000_000, &Cornered) == Ok(true));
 }

@@ -4,9 +4,9 @@ use Rattle.std.proofs.Common.{sym, refl, ap, ◌∙◌, subst, inl, inr, arith, 
 use Rattle.std.proofs.lemmas.List.Elements.{Contains-append_left, Contains-push, Contains-push_cases}
 use Rattle.wave_search.specs.declared.rows.Label.{Label}
 use Rattle.wave_search.specs.declared.front.Entry.{Entry}
-use Rattle.wave_search.specs.Waiting.{Waits, IsAdded}
+use Rattle.wave_search.specs.inner.Waiting.{Waits, IsAdded}
 use Rattle.route_lattice.specs.Walks.{MoveGraph}
-use Rattle.wave_search.specs.State.{label_at, done_by, IsPut, entry, Comes, IsState}
+use Rattle.wave_search.specs.inner.State.{label_at, done_by, IsPut, entry, Comes, IsState}
 use Rattle.std.proofs.lemmas.List.{take_more}
 use Rattle.wave_search.proofs.Steps.{put_cases, cheap_kept, comes_kept, zero_or, not_done}
 

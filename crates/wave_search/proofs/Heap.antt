@@ -11,18 +11,18 @@ use Rattle.std.proofs.lemmas.List.{length-map}
 use Rattle.std.proofs.lemmas.Bool.Decides.{nat_tests}
 use Rattle.std.specs.declared.cmp.Reverse.{Reverse}
 use Rattle.wave_search.specs.declared.front.Entry.{Entry}
-use Rattle.wave_search.specs.declared.bins.Item.{Item}
-use Rattle.wave_search.specs.Waiting.{Waits, IsAdded, IsTaken}
-use Rattle.wave_search.specs.Order.{inner, later_cmp}
+use Rattle.wave_search.specs.declared.bins.Waiting.{Waiting}
+use Rattle.wave_search.specs.inner.Waiting.{Waits, IsAdded, IsTaken}
+use Rattle.wave_search.specs.inner.Order.{inner, later_cmp}
 
 -- an item of the heap waits
-pub waits_at : (rs : List (Reverse Item)) (r : Reverse Item) (k : ℕ) → k < length rs → get_or rs k r ≡ r
+pub waits_at : (rs : List (Reverse Waiting)) (r : Reverse Waiting) (k : ℕ) → k < length rs → get_or rs k r ≡ r
     → Waits (map inner rs) (inner r)
 waits_at [] r k h e = absurd (omega arith)
 waits_at (x ∷ xs) r zero h e = inl (ap inner e)
 waits_at (x ∷ xs) r (suc k) h e = inr (waits_at xs r k (omega arith) e)
 
-in_waits : (rs : List (Reverse Item)) (e : Entry) → Waits (map inner rs) e → (r : Reverse Item) × Contains rs r
+in_waits : (rs : List (Reverse Waiting)) (e : Entry) → Waits (map inner rs) e → (r : Reverse Waiting) × Contains rs r
     × (inner r ≡ e)
 in_waits [] e w = absurd w
 in_waits (x ∷ xs) e w = elim w [
@@ -30,7 +30,7 @@ in_waits (x ∷ xs) e w = elim w [
   | inr q ↦ let u = in_waits xs e q in (u.0, (suc u.1.0, omega (arith, u.1.1), u.1.2), u.2)
 ]
 
-pub perm_waits : (xs ys : List (Reverse Item)) → IsPermutation xs ys → (e : Entry) → Waits (map inner xs) e
+pub perm_waits : (xs ys : List (Reverse Waiting)) → IsPermutation xs ys → (e : Entry) → Waits (map inner xs) e
     → Waits (map inner ys) e
 perm_waits xs ys p e w = let u = in_waits xs e w in let c = Contains-permutation xs ys u.0 p u.1 in
     subst (Waits (map inner ys)) u.2 (waits_at ys u.0 c.0 c.1 c.2)
@@ -38,7 +38,7 @@ perm_waits xs ys p e w = let u = in_waits xs e w in let c = Contains-permutation
 not_below : (x y : ℕ) (o : Ordering) → is_lt (ordering_then (nat_cmp x y) o) ≡ false → y ≤ x
 not_below x y o h = grind (arith, nat_tests)
 
-upper : (x : Reverse Item) (ys : List (Reverse Item)) → IsUpperBound later_cmp x ys → (e : Entry)
+upper : (x : Reverse Waiting) (ys : List (Reverse Waiting)) → IsUpperBound later_cmp x ys → (e : Entry)
     → Waits (map inner ys) e → x.0.key ≤ e.key
 upper x [] a e w = absurd w
 upper x (y ∷ ys) a e w = elim w [
@@ -51,7 +51,7 @@ upper x (y ∷ ys) a e w = elim w [
   | inr q ↦ upper x ys a.1 e q
 ]
 
-pub pushed : (old new : List (Reverse Item)) (r : Reverse Item) → IsPermutation (r ∷ old) new
+pub pushed : (old new : List (Reverse Waiting)) (r : Reverse Waiting) → IsPermutation (r ∷ old) new
     → IsAdded (map inner old) (inner r) (map inner new)
 pushed old new r p = record {
   here = perm_waits (r ∷ old) new p (inner r) (inl refl);
@@ -60,7 +60,7 @@ pushed old new r p = record {
   len = omega (arith, length_permutation _ _ p, length-map new inner, length-map old inner);
 }
 
-pub popped : (old new : List (Reverse Item)) (r : Reverse Item) → IsPermutation old (r ∷ new)
+pub popped : (old new : List (Reverse Waiting)) (r : Reverse Waiting) → IsPermutation old (r ∷ new)
     → IsUpperBound later_cmp r new → IsTaken (map inner old) (inner r) (map inner new)
 popped old new r p a = record {
   there = perm_waits (r ∷ new) old (IsPermutation-sym _ _ p) (inner r) (inl refl);

@@ -4,9 +4,9 @@ use Rattle.std.proofs.Common.{◌⊎◌, arith, append_assoc, length-append}
 use Rattle.std.specs.Prelude.{min}
 use Rattle.std.proofs.lemmas.List.{map-append, length-map}
 use Rattle.wave_search.specs.declared.front.Entry.{Entry}
-use Rattle.wave_search.specs.declared.bins.Item.{Item}
-use Rattle.wave_search.specs.Waiting.{Waits, IsAdded, IsDrawn, IsTaken, IsSame}
-use Rattle.wave_search.specs.Order.{entry_of, entries_in, IsBounded}
+use Rattle.wave_search.specs.declared.bins.Waiting.{Waiting}
+use Rattle.wave_search.specs.inner.Waiting.{Waits, IsAdded, IsDrawn, IsTaken, IsSame}
+use Rattle.wave_search.specs.inner.Order.{entry_of, entries_in, IsBounded}
 
 -- what waits in the first list waits in both, one after the other
 pub waits_left : (xs ys : List Entry) (e : Entry) → Waits xs e → Waits (xs ++ ys) e
@@ -204,9 +204,9 @@ taken_same xs ys zs e s t = record {
 }
 
 -- a bin with an item at its end
-pub binned : (items more : List Item) (i : Item) → more ≡ items ++ i ∷ []
+pub binned : (items more : List Waiting) (i : Waiting) → more ≡ items ++ i ∷ []
     → IsAdded (entries_in items) (entry_of i) (entries_in more)
-binned items more i e = subst (λ (q : List Item). IsAdded (entries_in items) (entry_of i) (entries_in q)) (sym e)
+binned items more i e = subst (λ (q : List Waiting). IsAdded (entries_in items) (entry_of i) (entries_in q)) (sym e)
     (subst (IsAdded (entries_in items) (entry_of i)) (sym (map-append entry_of items (i ∷ []))) (record {
       here = waits_right (entries_in items) (entry_of i ∷ []) (entry_of i) (inl refl);
       kept = λ x w. waits_left (entries_in items) (entry_of i ∷ []) x w;
@@ -216,7 +216,7 @@ binned items more i e = subst (λ (q : List Item). IsAdded (entries_in items) (e
     }))
 
 -- and its bound
-pub bounded : (least : ℕ) (items more : List Item) (i : Item) → more ≡ items ++ i ∷ []
+pub bounded : (least : ℕ) (items more : List Waiting) (i : Waiting) → more ≡ items ++ i ∷ []
     → IsBounded least (entries_in items) → IsBounded (min least i.key) (entries_in more)
 bounded least items more i e b x w = elim ((binned items more i e).only x w) [
   | inl p ↦ omega (
@@ -227,7 +227,7 @@ bounded least items more i e b x w = elim ((binned items more i e).only x w) [
 ]
 
 -- a bin without the item at its end
-pub unbinned : (items fewer : List Item) (i : Item) → items ≡ fewer ++ i ∷ []
+pub unbinned : (items fewer : List Waiting) (i : Waiting) → items ≡ fewer ++ i ∷ []
     → IsDrawn (entries_in items) (entry_of i) (entries_in fewer)
 unbinned items fewer i e = let a = binned fewer items i e in record {
   there = a.here;
@@ -235,7 +235,7 @@ unbinned items fewer i e = let a = binned fewer items i e in record {
   only = a.kept;
   len = omega (
     arith,
-    ap (length {A = Item}) e,
+    ap (length {A = Waiting}) e,
     length-append fewer (i ∷ []),
     length-map items entry_of,
     length-map fewer entry_of,

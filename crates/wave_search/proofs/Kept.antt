@@ -10,8 +10,8 @@ use Rattle.std.proofs.lemmas.List.{map-set, length-map}
 use Rattle.std.proofs.lemmas.List.Elements.{All-push, Contains-append_left, Contains-push, Contains-push_cases}
 use Rattle.wave_search.specs.declared.rows.Label.{Label}
 use Rattle.wave_search.specs.declared.rows.Row.{Row}
-use Rattle.wave_search.specs.State.{label_at, IsPut}
-use Rattle.wave_search.specs.Rows.{row_label, labels_of}
+use Rattle.wave_search.specs.inner.State.{label_at, IsPut}
+use Rattle.wave_search.specs.inner.Rows.{row_label, labels_of}
 use Rattle.geo_kernel.proofs.Ascending.{ascend_push}
 use Rattle.wave_search.proofs.Table.{here, other, put}
 use Rattle.wave_search.proofs.Steps.{same_or_not}

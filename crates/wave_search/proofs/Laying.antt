@@ -13,10 +13,11 @@ use Rattle.wave_search.specs.declared.rows.Label.{Label}
 use Rattle.wave_search.specs.declared.stated.Pass.{Pass}
 use Rattle.wave_search.specs.declared.stated.TheConstants.{NO_PLACE}
 use Rattle.wave_search.specs.Bounds.{IsBound}
-use Rattle.wave_search.specs.State.{label_at, IsExact, IsStep}
-use Rattle.wave_search.specs.Spreads.{IsPath, IsAtMost}
+use Rattle.wave_search.specs.inner.State.{label_at, IsExact, IsStep}
+use Rattle.wave_search.specs.inner.Spreads.{IsPath, IsAtMost}
 use Rattle.wave_search.specs.Stated.{IsStated}
-use Rattle.wave_search.specs.Passing.{first_of, EndsAt, IsLeastTight}
+use Rattle.wave_search.specs.inner.Passing.{first_of, EndsAt}
+use Rattle.wave_search.specs.inner.State.{IsLeastTight}
 use Rattle.wave_search.proofs.Steps.{one_label}
 use Rattle.wave_search.proofs.Stating.{AllLeast, onto_path, is_first}
 

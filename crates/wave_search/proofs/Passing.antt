@@ -15,11 +15,11 @@ use Rattle.route_lattice.specs.Walks.{MoveGraph}
 use Rattle.wave_search.specs.declared.rows.Label.{Label}
 use Rattle.wave_search.specs.declared.stated.Pass.{Pass}
 use Rattle.wave_search.specs.declared.stated.TheConstants.{NO_PLACE}
-use Rattle.wave_search.specs.State.{IsStep}
-use Rattle.wave_search.specs.Spreads.{Has, IsPath, IsSpread, AllAbove, Ascend, AreFresh, onto}
-use Rattle.wave_search.specs.Passing.{IsMarked, first_of, IsTold, IsPlace, Adds, AddsAll, AreNew, IsPriced, IsAt}
-use Rattle.wave_search.specs.Passing.{EndsAt, IsBlankPass}
-use Rattle.wave_search.specs.State.{IsCheap}
+use Rattle.wave_search.specs.inner.State.{IsStep}
+use Rattle.wave_search.specs.inner.Spreads.{Has, IsPath, IsSpread, AllAbove, Ascend, AreFresh, onto}
+use Rattle.wave_search.specs.inner.Passing.{IsMarked, first_of, IsTold, IsPlace, Adds, AddsAll, AreNew, IsPriced, IsAt}
+use Rattle.wave_search.specs.inner.Passing.{EndsAt, IsBlankPass}
+use Rattle.wave_search.specs.inner.State.{IsCheap}
 use Rattle.wave_search.proofs.Table.{within}
 use Rattle.std.proofs.lemmas.List.{append-nil, take_more}
 use Rattle.std.proofs.lemmas.List.Elements.{Contains-get_or, All-contains}

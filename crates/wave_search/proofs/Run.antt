@@ -4,10 +4,10 @@ use Rattle.std.proofs.Common.{◌∙◌, subst, arith, inl, inr, ◌⊎◌}
 use Rattle.std.specs.Prelude.{Contains, IfSome, MatchOption}
 use Rattle.wave_search.specs.declared.rows.Label.{Label}
 use Rattle.wave_search.specs.declared.front.Entry.{Entry}
-use Rattle.wave_search.specs.Waiting.{IsTaken, Waits}
-use Rattle.route_lattice.specs.Walks.{MoveGraph, IsSound, NoneCostsLess, NoneLeads, IsReach}
+use Rattle.wave_search.specs.inner.Waiting.{IsTaken, Waits}
+use Rattle.route_lattice.specs.Walks.{MoveGraph, IsSound, NoneCostsLess}
 use Rattle.wave_search.specs.Bounds.{IsBound}
-use Rattle.wave_search.specs.State.{label_at, entry, IsPut, KeepsDone, Comes, Roots, IsListed, IsState}
+use Rattle.wave_search.specs.inner.State.{label_at, entry, IsPut, KeepsDone, Comes, Roots, IsState, IsExhausted}
 use Rattle.wave_search.proofs.Table.{within, at_most, more_to_do}
 use Rattle.wave_search.proofs.Steps.{finished, key_is, none_less, closed_none, closed_complete, closed_reached}
 use Rattle.wave_search.proofs.Steps.{not_done, one_label, done_kept}
@@ -153,20 +153,18 @@ falls count fin a x y z h f g =
     omega (arith, m)
 
 -- nothing waits any more
-pub closed : {graph : MoveGraph} {starts goals : List ℕ} {low : ℕ → ℕ} → IsSound graph → IsBound graph goals low
+pub exhausted : {graph : MoveGraph} {starts goals : List ℕ} {low : ℕ → ℕ} → IsSound graph → IsBound graph goals low
     → {t : List (Option Label)} {q : List Entry} {fin : ℕ} → (level : ℕ)
-    × IsState graph starts goals low t q level fin 0 graph.arity
-    → q ≡ [] → {listed : List ℕ} → IsListed t listed → (nodes : List ℕ) → nodes ≡ listed → NoneLeads graph starts goals
-    × IsReach graph starts nodes
-closed {graph} {starts} {goals} {low} sound bound {t} {q} {fin} s empty {listed} i nodes same =
+    × IsState graph starts goals low t q level fin 0 graph.arity → q ≡ [] → IsExhausted graph starts goals t
+exhausted {graph} {starts} {goals} {low} sound bound {t} {q} {fin} s empty =
     let state : IsState graph starts goals low t [] s.0 fin 0 graph.arity =
-    subst (λ (x : List Entry). IsState graph starts goals low t x s.0 fin 0 graph.arity) empty s.1 in (
-      closed_none graph starts goals low sound bound t s.0 fin 0 state,
-      subst (λ (xs : List ℕ). IsReach graph starts xs) (sym same) (record {
+    subst (λ (x : List Entry). IsState graph starts goals low t x s.0 fin 0 graph.arity) empty s.1 in record {
+      none = closed_none graph starts goals low sound bound t s.0 fin 0 state;
+      reach = λ nodes i. record {
         ascends = i.ascends;
         reached = λ v c. let l = i.labelled v c in
             closed_reached graph starts goals low sound bound t s.0 fin 0 state v l.0 l.1;
         complete = λ v r. let l = closed_complete graph starts goals low sound bound t s.0 fin 0 state v r in
             i.complete v l.0 l.1;
-      }),
-    )
+      };
+    }

@@ -2,9 +2,9 @@
 use Rattle.std.proofs.Common.{◌≡◌, ℕ, ◌+◌, ◌<◌, List, [], Option, arith, subst}
 use Rattle.wave_search.specs.declared.rows.Label.{Label}
 use Rattle.wave_search.specs.declared.front.Entry.{Entry}
-use Rattle.wave_search.specs.Waiting.{Waits, IsTaken}
+use Rattle.wave_search.specs.inner.Waiting.{Waits, IsTaken}
 use Rattle.route_lattice.specs.Walks.{MoveGraph}
-use Rattle.wave_search.specs.State.{entry, IsState, IsExact}
+use Rattle.wave_search.specs.inner.State.{entry, IsState, IsExact}
 
 module _ {graph : MoveGraph} {starts goals : List ℕ} {low : ℕ → ℕ} {t : List (Option Label)} {q : List Entry} {fin : ℕ}
     (state : (level : ℕ) × IsState graph starts goals low t q level fin 0 graph.arity) (most : ℕ) where

@@ -15,8 +15,8 @@ use Rattle.wave_search.specs.Around.{above_by}
 use Rattle.wave_search.specs.declared.rows.Label.{Label}
 use Rattle.wave_search.specs.declared.rows.Row.{Row}
 use Rattle.wave_search.specs.declared.front.Entry.{Entry}
-use Rattle.wave_search.specs.Rows.{row_label, labels_of}
-use Rattle.wave_search.specs.State.{IsState}
+use Rattle.wave_search.specs.inner.Rows.{row_label, labels_of}
+use Rattle.wave_search.specs.inner.State.{IsState}
 use Rattle.wave_search.proofs.Kept.{AreBelow}
 use Rattle.wave_search.proofs.Tracing.{Walked}
 

@@ -1,7 +1,7 @@
 -- A pass over steps comes to each node first by the path that comes before all others to it.
 use Rattle.std.proofs.Common.{◌≡◌, ℕ, ◌<◌, List, [], ◌∷◌, ◌++◌, map, refl, sym, ap, ◌∙◌, subst, inl, inr, ◌⊎◌, arith}
-use Rattle.wave_search.specs.Spreads.{Has, IsPath, IsBefore, IsAtMost, AllBefore, InOrder, IsCovered, IsSpread, AllAbove}
-use Rattle.wave_search.specs.Spreads.{Ascend, AreFresh, onto}
+use Rattle.wave_search.specs.inner.Spreads.{Has, IsPath, IsBefore, IsAtMost, AllBefore, InOrder, IsCovered, IsSpread, AllAbove}
+use Rattle.wave_search.specs.inner.Spreads.{Ascend, AreFresh, onto}
 
 -- ---- lists
 pub has_left : {X : Type 0} (xs ys : List X) (x : X) → Has xs x → Has (xs ++ ys) x

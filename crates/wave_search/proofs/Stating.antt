@@ -11,9 +11,9 @@ use Rattle.std.proofs.lemmas.Bool.{cases_lt}
 use Rattle.std.proofs.lemmas.List.Elements.{Contains-append_left, Contains-push, Contains-push_cases}
 use Rattle.route_lattice.specs.declared.moves.Move.{Move}
 use Rattle.wave_search.specs.Bounds.{IsBound}
-use Rattle.wave_search.specs.State.{label_at, Comes, IsExact, IsStep}
-use Rattle.wave_search.specs.Spreads.{IsPath, IsBefore, IsAtMost}
-use Rattle.wave_search.specs.Passing.{IsPriced}
+use Rattle.wave_search.specs.inner.State.{label_at, Comes, IsExact, IsStep}
+use Rattle.wave_search.specs.inner.Spreads.{IsPath, IsBefore, IsAtMost}
+use Rattle.wave_search.specs.inner.Passing.{IsPriced}
 use Rattle.wave_search.specs.Stated.{IsLower, IsFirst, index_of, key_of}
 use Rattle.wave_search.proofs.Steps.{leads_on, zero_or_pos}
 use Rattle.wave_search.proofs.Table.{within}

@@ -5,12 +5,12 @@ use Rattle.std.specs.Prelude.{Contains, nat_lt}
 use Prim.Native.Nat.{zero, suc}
 use Rattle.wave_search.specs.declared.rows.Label.{Label}
 use Rattle.wave_search.specs.declared.front.Entry.{Entry}
-use Rattle.wave_search.specs.Waiting.{Waits, IsAdded, IsTaken}
+use Rattle.wave_search.specs.inner.Waiting.{Waits, IsAdded, IsTaken}
 use Rattle.route_lattice.specs.declared.moves.Move.{Move}
 use Rattle.route_lattice.specs.Walks.{MoveGraph, Hop, Opens, Leads, cost, IsSound, NoneCostsLess, NoneLeads, Reaches}
 use Rattle.wave_search.specs.Bounds.{IsBound}
-use Rattle.wave_search.specs.State.{label_at, done_of, done_by, IsPut, KeepsDone, entry, Comes, IsCheap, IsState}
-use Rattle.wave_search.specs.State.{improves_on, is_done_by}
+use Rattle.wave_search.specs.inner.State.{label_at, done_of, done_by, IsPut, KeepsDone, entry, Comes, IsCheap, IsState}
+use Rattle.wave_search.specs.inner.State.{improves_on, is_done_by}
 use Rattle.std.proofs.lemmas.Option.{some_pair_parts, none-some}
 use Rattle.std.proofs.Common.{true, false}
 use Rattle.std.proofs.lemmas.Bool.Decides.{nat_tests}

@@ -3,7 +3,7 @@ use Rattle.std.proofs.Common.{◌≡◌, ℕ, ◌+◌, ◌<◌, ◌≤◌, List,
 use Rattle.std.proofs.Math.ListN.{set, length-set}
 use Prim.Native.Nat.{zero, suc}
 use Rattle.wave_search.specs.declared.rows.Label.{Label}
-use Rattle.wave_search.specs.State.{label_at, done_count, done_of, done_by, IsPut}
+use Rattle.wave_search.specs.inner.State.{label_at, done_count, done_of, done_by, IsPut}
 
 pub here : (t : List (Option Label)) (v : ℕ) (l : Option Label) → v < length t → label_at (set t v l) v ≡ l
 unfolding label_at

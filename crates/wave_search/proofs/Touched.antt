@@ -6,8 +6,8 @@ use Rattle.std.specs.Prelude.{Contains, All}
 use Rattle.std.proofs.lemmas.List.Elements.{All-push, Contains-append_left, Contains-push, Contains-push_cases}
 use Rattle.std.proofs.lemmas.Option.{none-some}
 use Rattle.wave_search.specs.declared.rows.Label.{Label}
-use Rattle.wave_search.specs.State.{label_at, IsPut}
-use Rattle.wave_search.specs.Rows.{AreTouched}
+use Rattle.wave_search.specs.inner.State.{label_at, IsPut}
+use Rattle.wave_search.specs.inner.Rows.{AreTouched}
 use Rattle.wave_search.proofs.Steps.{same_or_not, put_cases}
 
 labelled_put : (t t' : List (Option Label)) (v : ℕ) (l : Label) → IsPut t v l t' → (u : ℕ)

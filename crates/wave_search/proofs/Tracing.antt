@@ -4,7 +4,7 @@ use Rattle.std.proofs.Common.{◌∙◌, subst, arith, is_some, false}
 use Rattle.std.specs.Prelude.{Contains}
 use Rattle.std.proofs.lemmas.List.{reverse-append, map-append}
 use Rattle.wave_search.specs.declared.rows.Label.{Label}
-use Rattle.wave_search.specs.State.{label_at, IsTight, IsTightBy, ComesBy, Comes, Roots}
+use Rattle.wave_search.specs.inner.State.{label_at, IsTight, ComesBy, Comes, Roots}
 use Rattle.wave_search.proofs.Steps.{one_label, leads_on}
 use Rattle.wave_search.proofs.Table.{within}
 use Rattle.route_lattice.specs.declared.moves.Move.{Move}
@@ -63,15 +63,15 @@ module _ (graph : MoveGraph) (starts : List ℕ) (t : List (Option Label)) (root
 
 -- a tight move before
 pub trace_step : (graph : MoveGraph) (nodes : List ℕ) (moves : List Move) (v goal p total x before : ℕ)
-    → Walked graph nodes moves v goal p total → (mv : Move) → IsTightBy graph x before v p mv
+    → Walked graph nodes moves v goal p total → (mv : Move) (tight : IsTight graph x before v p) → tight.hop.move ≡ mv
     → (nodes' : List ℕ) (moves' : List Move) → nodes' ≡ nodes ++ x ∷ [] → moves' ≡ moves ++ mv ∷ []
     → Walked graph nodes' moves' x goal before total
-trace_step graph nodes moves v goal p total x before w mv tight nodes' moves' ne me =
-    let w2 = walked_on graph nodes moves v goal p total w x tight.0.hop tight.0.opens tight.0.to_is before
-    tight.0.price_is in
+trace_step graph nodes moves v goal p total x before w mv tight is nodes' moves' ne me =
+    let w2 = walked_on graph nodes moves v goal p total w x tight.hop tight.opens tight.to_is before
+    tight.price_is in
     subst (λ (ns : List ℕ). Walked graph ns moves' x goal before total) (sym ne)
     (subst (λ (ms : List Move). Walked graph (nodes ++ x ∷ []) ms x goal before total) (sym me)
-    (subst (λ (m : Move). Walked graph (nodes ++ x ∷ []) (moves ++ m ∷ []) x goal before total) tight.1 w2))
+    (subst (λ (m : Move). Walked graph (nodes ++ x ∷ []) (moves ++ m ∷ []) x goal before total) is w2))
 
 -- at a start it is a walk
 pub walked_walk : (graph : MoveGraph) (starts goals : List ℕ) (t : List (Option Label)) → Roots graph starts t
@@ -130,20 +130,20 @@ begun graph starts t roots v l there none nodes moves ne me =
 
 -- a tight move behind
 pub passed_on : (graph : MoveGraph) (starts nodes : List ℕ) (moves : List Move) (at paid to price : ℕ)
-    → Passed graph starts nodes moves at paid → (mv : Move) → IsTightBy graph at paid to price mv
+    → Passed graph starts nodes moves at paid → (mv : Move) (tight : IsTight graph at paid to price) → tight.hop.move ≡ mv
     → (nodes' : List ℕ) (moves' : List Move) → nodes' ≡ nodes ++ to ∷ [] → moves' ≡ moves ++ mv ∷ []
     → Passed graph starts nodes' moves' to price
-passed_on graph starts nodes moves at paid to price p mv tight nodes' moves' ne me = let h : Hop = tight.0.hop in
+passed_on graph starts nodes moves at paid to price p mv tight is nodes' moves' ne me = let h : Hop = tight.hop in
     record {
       from = p.from;
       starts_in = p.starts_in;
       hops = p.hops ++ h ∷ [];
-      leads = subst (λ (x : ℕ). Leads graph p.from (p.hops ++ h ∷ []) x) tight.0.to_is
-          (leads_on graph p.hops p.from at h p.leads tight.0.opens);
-      nodes_are = ne ∙ (λ k. p.nodes_are k ++ (sym tight.0.to_is k) ∷ []) ∙ ap (λ (xs : List ℕ). p.from ∷ xs)
+      leads = subst (λ (x : ℕ). Leads graph p.from (p.hops ++ h ∷ []) x) tight.to_is
+          (leads_on graph p.hops p.from at h p.leads tight.opens);
+      nodes_are = ne ∙ (λ k. p.nodes_are k ++ (sym tight.to_is k) ∷ []) ∙ ap (λ (xs : List ℕ). p.from ∷ xs)
           (sym (map-append to_of p.hops (h ∷ [])));
-      moves_are = me ∙ (λ k. p.moves_are k ++ (sym tight.1 k) ∷ []) ∙ sym (map-append move_of p.hops (h ∷ []));
-      price_is = omega (arith, tight.0.price_is, p.price_is, cost_more p.hops h);
+      moves_are = me ∙ (λ k. p.moves_are k ++ (sym is k) ∷ []) ∙ sym (map-append move_of p.hops (h ∷ []));
+      price_is = omega (arith, tight.price_is, p.price_is, cost_more p.hops h);
     }
 
 -- at a goal it is a walk

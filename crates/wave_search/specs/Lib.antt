@@ -1,12 +1,6 @@
 pub mod Bounds
-pub mod Waiting
-pub mod Order
-pub mod Ready
-pub mod State
-pub mod Rows
-pub mod Cells
+pub mod Stated
 pub mod Around
 pub mod Directions
-pub mod Stated
-pub mod Spreads
-pub mod Passing
+pub mod Cells
+pub mod inner

@@ -3,15 +3,15 @@
 
 ghost use Rattle.std.specs.Prelude.{◌≡◌, ◌≤◌, [], OnOk, OnErr, MatchOption};
 ghost use Rattle.wave_search.specs.declared.front.Entry.{Entry as OneEntry};
-ghost use Rattle.wave_search.specs.Waiting.{Waits, IsAdded, IsDrawn};
-ghost use Rattle.wave_search.specs.Order.{entry_of};
+ghost use Rattle.wave_search.specs.inner.Waiting.{Waits, IsAdded, IsDrawn};
+ghost use Rattle.wave_search.specs.inner.Order.{entry_of};
 
 use std::alloc::{AllocError, Global};
 use std::marker::Model;
 
 /// An entry as it is kept, in 16 bytes: of equal keys the least in order comes first.
 #[derive(Clone, Copy, PartialEq, Eq, PartialOrd, Ord)]
-pub(crate) struct Item {
+pub(crate) struct Waiting {
     pub key: u64,
     pub order: u32,
     pub node: u32,
@@ -21,13 +21,13 @@ pub(crate) struct Item {
 #[derive(Drop)]
 pub(crate) struct Bin {
     least: u64,
-    items: Vec<Item>,
+    items: Vec<Waiting>,
 }
 
 impl Model for Bin {
     ghost use Rattle.std.specs.Prelude.{List};
     ghost use Rattle.wave_search.specs.declared.front.Entry.{Entry};
-    ghost use Rattle.wave_search.specs.Order.{entries_in, IsBounded};
+    ghost use Rattle.wave_search.specs.inner.Order.{entries_in, IsBounded};
 
     ghost Value = { List Entry };
 
@@ -60,7 +60,7 @@ impl Bin {
     }
 
     /// Puts an item into it.
-    pub(crate) fn push(&mut self, item: Item) -> Result<(), AllocError>
+    pub(crate) fn push(&mut self, item: Waiting) -> Result<(), AllocError>
         ensures ok { OnOk result (IsAdded self.old (entry_of item) self.new) }
         ensures err { OnErr result (self.new ≡ self.old) }
     {
@@ -70,7 +70,7 @@ impl Bin {
     }
 
     /// Takes any item out of it.
-    pub(crate) fn pop(&mut self) -> Option<Item>
+    pub(crate) fn pop(&mut self) -> Option<Waiting>
         ensures { MatchOption result ((self.old ≡ []) × (self.new ≡ [])) (λ i. IsDrawn self.old (entry_of i) self.new) }
     {
         let Some(item) = self.items.pop() else {

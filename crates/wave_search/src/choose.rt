@@ -5,23 +5,16 @@
 ghost use Rattle.std.specs.Prelude.{◌≡◌, ℕ, ◌^◌, ◌<◌, length, Some};
 ghost use Rattle.route_lattice.specs.Walks.{IsSound};
 ghost use Rattle.wave_search.specs.declared.rows.Label.{Label as TheLabel};
-ghost use Rattle.wave_search.specs.State.{label_at};
+ghost use Rattle.wave_search.specs.inner.State.{label_at};
 
 use crate::bound::Bound;
 use crate::choices::{Choices, MOST, NO_NODE, Way};
 use crate::labels::Labels;
 use crate::rows::Label;
-use crate::task::Task;
+use crate::query::{Done, Query};
 use crate::ties::{Heading, Ties, heading_of};
 use route_lattice::{Move, Moves};
 use std::alloc::AllocError;
-
-/// A node and its label.
-#[derive(Clone, Copy)]
-struct Place {
-    node: u32,
-    label: Label,
-}
 
 /// Whether the first label was done before the second.
 fn is_before(first: Label, second: Label) -> bool {
@@ -44,14 +37,14 @@ pub(crate) enum Openness {
     Asked,
 }
 
-impl<'a, M: Moves, B: Bound, T: Ties> Task<'a, M, B, T> {
+impl<'a, M: Moves, B: Bound, T: Ties> Query<'a, M, B, T> {
     /// The way on over a tight move, and then on by the way of that heading.
     fn way_over(
         &self,
         choices: &Choices,
-        from: Place,
+        from: Done,
         m: Move,
-        to: Place,
+        to: Done,
         heading: Heading,
     ) -> Option<Way> {
         let way = choices.way(to.label.rank, heading)?;
@@ -91,8 +84,8 @@ impl<'a, M: Moves, B: Bound, T: Ties> Task<'a, M, B, T> {
     fn choose_from(
         &self,
         choices: &mut Choices,
-        from: Place,
-        to: Place,
+        from: Done,
+        to: Done,
         guess: u32,
         openness: Openness,
     ) -> Result<(), AllocError>
@@ -123,7 +116,7 @@ impl<'a, M: Moves, B: Bound, T: Ties> Task<'a, M, B, T> {
         &self,
         table: &Labels,
         choices: &mut Choices,
-        to: Place,
+        to: Done,
         i: u32,
         openness: Openness,
     ) -> Result<(), AllocError>
@@ -146,7 +139,7 @@ impl<'a, M: Moves, B: Bound, T: Ties> Task<'a, M, B, T> {
         {
             return Ok(());
         }
-        self.choose_from(choices, Place { node, label }, to, i ^ 1, openness)
+        self.choose_from(choices, Done { node, label }, to, i ^ 1, openness)
     }
 
     /// The goals that are done at the price: walks end there.
@@ -196,11 +189,11 @@ impl<'a, M: Moves, B: Bound, T: Ties> Task<'a, M, B, T> {
             choices.start_by(node, label.rank, Heading::Elsewhere);
             return Ok(());
         };
-        let to = Place { node, label };
+        let to = Done { node, label };
         if let Some(label) = self.label_after(table, 0, before)
             && is_before(label, to.label)
         {
-            let from = Place {
+            let from = Done {
                 node: before,
                 label,
             };

@@ -3,11 +3,11 @@
 
 ghost use Rattle.std.specs.Prelude.{◌≡◌, ◌++◌, [], OnOk, OnErr, IfOk, MatchOption};
 ghost use Rattle.std.specs.Bool.{OnTrue};
-ghost use Rattle.wave_search.specs.Waiting.{IsAdded, IsTaken, IsSame};
-ghost use Rattle.wave_search.specs.Order.{entry_of, entries_of, IsOrdered};
-ghost use Rattle.wave_search.specs.Ready.{IsReady, all_of};
+ghost use Rattle.wave_search.specs.inner.Waiting.{IsAdded, IsTaken, IsSame};
+ghost use Rattle.wave_search.specs.inner.Order.{entry_of, entries_of, IsOrdered};
+ghost use Rattle.wave_search.specs.inner.Ready.{IsReady, all_of};
 
-use crate::bins::{Bin, Item};
+use crate::bins::{Bin, Waiting};
 use std::alloc::{AllocError, Global};
 use std::cmp::Reverse;
 use std::collections::BinaryHeap;
@@ -31,9 +31,9 @@ const LATER: u32 = 22;
 
 /// The entries that wait: in a heap those near the key at which it was filled last, or below it, and in bins all
 /// others, by the bits in which their key differs from that one. The spare bin holds those that are being moved.
-struct Parts {
+struct Bins {
     at: u64,
-    near: BinaryHeap<Reverse<Item>>,
+    near: BinaryHeap<Reverse<Waiting>>,
     next: Bin,
     later: Bin,
     last: Bin,
@@ -41,9 +41,9 @@ struct Parts {
 }
 
 // Let go by a call, where a derived `Drop` would let go field by field in each function that owns them.
-impl Drop for Parts {
+impl Drop for Bins {
     fn drop(self) {
-        let Parts {
+        let Bins {
             at: _,
             near: _,
             next: _,
@@ -55,7 +55,7 @@ impl Drop for Parts {
 }
 
 /// Takes the top of the heap.
-fn take_top(near: &mut BinaryHeap<Reverse<Item>>) -> Option<Item>
+fn take_top(near: &mut BinaryHeap<Reverse<Waiting>>) -> Option<Waiting>
     requires ordered { IsOrdered near.old }
     ensures ordered { IsOrdered near.new }
     ensures top { MatchOption result ((entries_of near.old ≡ []) × (entries_of near.new ≡ []))
@@ -68,7 +68,7 @@ fn take_top(near: &mut BinaryHeap<Reverse<Item>>) -> Option<Item>
 }
 
 /// Moves all of a bin into the heap.
-fn empty_into(near: &mut BinaryHeap<Reverse<Item>>, bin: &mut Bin) -> Result<(), AllocError>
+fn empty_into(near: &mut BinaryHeap<Reverse<Waiting>>, bin: &mut Bin) -> Result<(), AllocError>
     requires ordered { IsOrdered near.old }
     ensures ordered { IsOrdered near.new }
     ensures empty { OnOk result (bin.new ≡ []) }
@@ -80,7 +80,7 @@ fn empty_into(near: &mut BinaryHeap<Reverse<Item>>, bin: &mut Bin) -> Result<(),
     Ok(())
 }
 
-impl Parts {
+impl Bins {
     /// Whether the heap has an entry whose key is below all that isn't in it.
     fn is_ready(&self) -> bool
         ensures { OnTrue result (IsReady self.now) }
@@ -98,7 +98,7 @@ impl Parts {
     }
 
     /// Puts an item where its key has it lie.
-    fn place(&mut self, item: Item) -> Result<(), AllocError>
+    fn place(&mut self, item: Waiting) -> Result<(), AllocError>
         requires ordered { IsOrdered self.old.near }
         ensures ordered { IsOrdered self.new.near }
         ensures ok { OnOk result (IsAdded (all_of self.old) (entry_of item) (all_of self.new)) }
@@ -180,20 +180,20 @@ impl Parts {
 /// The entries that wait.
 #[derive(Drop)]
 pub(crate) struct Front {
-    parts: Parts,
+    bins: Bins,
 }
 
 impl Model for Front {
     ghost use Rattle.std.specs.Prelude.{List};
     ghost use Rattle.wave_search.specs.declared.front.Entry.{Entry};
-    ghost use Rattle.wave_search.specs.Order.{IsOrdered};
-    ghost use Rattle.wave_search.specs.Ready.{all_of};
+    ghost use Rattle.wave_search.specs.inner.Order.{IsOrdered};
+    ghost use Rattle.wave_search.specs.inner.Ready.{all_of};
 
     ghost Value = { List Entry };
 
-    ghost view = { λ f. all_of f.parts };
+    ghost view = { λ f. all_of f.bins };
 
-    ghost invariant = { λ f. IsOrdered f.parts.near };
+    ghost invariant = { λ f. IsOrdered f.bins.near };
 }
 
 impl Front {
@@ -202,7 +202,7 @@ impl Front {
         ensures { result ≡ [] }
     {
         Front {
-            parts: Parts {
+            bins: Bins {
                 at: 0,
                 near: BinaryHeap::new(alloc),
                 next: Bin::new(alloc),
@@ -218,7 +218,7 @@ impl Front {
         ensures ok { OnOk result (IsAdded self.old e self.new) }
         ensures err { OnErr result (self.new ≡ self.old) }
     {
-        self.parts.place(Item {
+        self.bins.place(Waiting {
             key: e.key,
             order: u32::try_from(order).unwrap_or(u32::MAX),
             node: e.node,
@@ -230,8 +230,8 @@ impl Front {
         ensures { IfOk result (λ o. MatchOption o ((self.old ≡ []) × (self.new ≡ []))
             (λ e. IsTaken self.old e self.new)) }
     {
-        self.parts.make_ready()?;
-        let Some(item) = take_top(&mut self.parts.near) else {
+        self.bins.make_ready()?;
+        let Some(item) = take_top(&mut self.bins.near) else {
             return Ok(None);
         };
         Ok(Some(Entry {

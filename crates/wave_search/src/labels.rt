@@ -2,7 +2,7 @@
 //! A table of labels is made once and cleared by what was written, so a later search costs only what it visits.
 
 ghost use Rattle.std.specs.Prelude.{◌≡◌, ℕ, ◌<◌, ◌^◌, length, IfOk, OnOk, None, IfSome};
-ghost use Rattle.wave_search.specs.State.{label_at, done_count, IsPut, IsListed};
+ghost use Rattle.wave_search.specs.inner.State.{label_at, done_count, IsPut, IsListed};
 
 use crate::rows::{Label, Rows};
 use std::alloc::{AllocError, Global};
@@ -22,7 +22,7 @@ pub(crate) struct Labels {
 impl Model for Labels {
     ghost use Rattle.std.specs.Prelude.{List, Option};
     ghost use Rattle.wave_search.specs.declared.rows.Label.{Label};
-    ghost use Rattle.wave_search.specs.Rows.{AreTouched};
+    ghost use Rattle.wave_search.specs.inner.Rows.{AreTouched};
 
     ghost Value = { List (Option Label) };
 

@@ -11,10 +11,10 @@ mod front;
 mod labels;
 mod marks;
 mod one;
+mod query;
 mod rows;
 mod search;
 mod stated;
-mod task;
 mod ties;
 mod trace;
 

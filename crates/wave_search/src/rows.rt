@@ -1,8 +1,8 @@
 //! The labels of nodes as they are kept, in 16 bytes a node.
 
 ghost use Rattle.std.specs.Prelude.{◌≡◌, ℕ, ◌<◌, ◌^◌, length, IfOk, None, IfSome};
-ghost use Rattle.wave_search.specs.Rows.{row_label};
-ghost use Rattle.wave_search.specs.State.{label_at, IsPut, IsListed};
+ghost use Rattle.wave_search.specs.inner.Rows.{row_label};
+ghost use Rattle.wave_search.specs.inner.State.{label_at, IsPut, IsListed};
 
 use std::alloc::{AllocError, Global};
 use std::marker::Model;
@@ -38,7 +38,7 @@ pub(crate) struct Rows {
 impl Model for Rows {
     ghost use Rattle.std.specs.Prelude.{◌<◌, ◌^◌, List, Option, length};
     ghost use Rattle.wave_search.specs.declared.rows.Label.{Label};
-    ghost use Rattle.wave_search.specs.Rows.{labels_of};
+    ghost use Rattle.wave_search.specs.inner.Rows.{labels_of};
 
     ghost Value = { List (Option Label) };
 

@@ -9,7 +9,7 @@ ghost use Rattle.wave_search.specs.Stated.{AnswersStated};
 use crate::bound::{Bound, NoBound};
 use crate::labels::Labels;
 use crate::marks::Marks;
-use crate::task::Task;
+use crate::query::Query;
 use crate::ties::{NoTies, Ties};
 use geo_kernel::List;
 use route_lattice::{Found, Moves};
@@ -68,7 +68,7 @@ impl Search {
     {
         self.labels.clear();
         let marks = Marks::of(alloc, goals.as_slice())?;
-        let task = Task {
+        let query = Query {
             m,
             b,
             ties,
@@ -76,7 +76,7 @@ impl Search {
             goals,
             marks: &marks,
         };
-        task.run(alloc, &mut self.labels)
+        query.run(alloc, &mut self.labels)
     }
 
     /// Of these walks the stated one: of the least walks the one of the fewest moves, of these the one whose nodes are
@@ -99,7 +99,7 @@ impl Search {
     {
         self.labels.clear();
         let marks = Marks::of(alloc, goals.as_slice())?;
-        let task = Task {
+        let query = Query {
             m,
             b,
             ties: &NoTies,
@@ -107,7 +107,7 @@ impl Search {
             goals,
             marks: &marks,
         };
-        task.run_stated(alloc, &mut self.labels)
+        query.run_stated(alloc, &mut self.labels)
     }
 
     /// The same without a rule of ties.

@@ -8,21 +8,20 @@ ghost use Rattle.std.specs.Prelude.{MatchOption, slice_get, List as Seq, IsTrue,
 ghost use Rattle.route_lattice.specs.Walks.{IsSound, Hop, Opens};
 ghost use Rattle.wave_search.specs.Bounds.{IsBound};
 ghost use Rattle.wave_search.specs.declared.rows.Label.{Label as TheLabel};
-ghost use Rattle.wave_search.specs.State.{label_at, IsStep, IsTight};
+ghost use Rattle.wave_search.specs.inner.State.{label_at, IsStep};
 ghost use Rattle.std.specs.List.Sorted.{IsStrictlyIncreasing};
 ghost use Rattle.std.specs.Prelude.{slice_index_or, ◌+◌};
 ghost use Rattle.route_lattice.specs.Walks.{NoneCostsLess};
-ghost use Rattle.wave_search.specs.State.{IsExact};
-ghost use Rattle.wave_search.specs.Passing.{IsMarked, Adds, AreNew, LeadsTo, AddsAll, IsBlankPass, IsPriced, EndsAt};
-ghost use Rattle.wave_search.specs.Passing.{IsTightOf, IsLeastTight};
+ghost use Rattle.wave_search.specs.inner.State.{IsExact};
+ghost use Rattle.wave_search.specs.inner.Passing.{IsMarked, Adds, AreNew, LeadsTo, AddsAll, IsBlankPass, IsPriced, EndsAt};
 ghost use Rattle.wave_search.specs.Stated.{IsStated};
-ghost use Rattle.wave_search.specs.State.{IsState};
+ghost use Rattle.wave_search.specs.inner.State.{IsFirstGoal};
 
 use crate::bound::Bound;
 use crate::front::Front;
 use crate::labels::Labels;
 use crate::rows::Label;
-use crate::task::Task;
+use crate::query::{Done, Query};
 use crate::ties::Ties;
 use geo_kernel::List;
 use route_lattice::{Move, Moves, Walk};
@@ -92,7 +91,7 @@ impl Pass {
     }
 }
 
-impl<'a, M: Moves, B: Bound, T: Ties> Task<'a, M, B, T> {
+impl<'a, M: Moves, B: Bound, T: Ties> Query<'a, M, B, T> {
     /// The node that move `i` of a node leads to, where the move is tight and the node isn't marked.
     fn new_over(
         &self,
@@ -191,7 +190,7 @@ impl Pass {
     }
 }
 
-impl<'a, M: Moves, B: Bound, T: Ties> Task<'a, M, B, T> {
+impl<'a, M: Moves, B: Bound, T: Ties> Query<'a, M, B, T> {
     /// Whether the node is a goal that is done at the price.
     fn ends_at(&self, table: &Labels, node: u32, price: u64) -> bool
         requires size { node < length table.now }
@@ -265,49 +264,7 @@ impl<'a, M: Moves, B: Bound, T: Ties> Task<'a, M, B, T> {
     }
 }
 
-impl<'a, M: Moves, B: Bound, T: Ties> Task<'a, M, B, T> {
-    /// Move `i` of a node, if it is open and leads to the other node at exactly the other's price.
-    fn tight_by(&self, from: u32, before: u64, to: u32, price: u64, i: u32) -> Option<Move>
-        requires ready { M.ready self.now.m.now }
-        requires sound { IsSound (M.graph self.now.m.now) }
-        requires node { from < (M.graph self.now.m.now).count }
-        requires index { i < (M.graph self.now.m.now).arity }
-        requires small { before < 2 ^ 60 }
-        ensures { MatchOption result ((t : IsTight (M.graph self.now.m.now) from before to price) → t.hop.index ≡ i
-            → ⊥) (λ mv. IsTightOf (M.graph self.now.m.now) from before to price i mv) }
-    {
-        let Some((mv, there)) = self.m.at(from, i) else {
-            return None;
-        };
-        if there != to {
-            return None;
-        }
-        if before + self.m.price(from, i) != price {
-            return None;
-        }
-        if !self.m.is_open(from, i) {
-            return None;
-        }
-        Some(mv)
-    }
-
-    /// Of the open moves that lead from a node to another at exactly the other's price the one of the least index.
-    fn least_to(&self, from: u32, before: u64, to: u32, price: u64) -> Option<Move>
-        requires ready { M.ready self.now.m.now }
-        requires sound { IsSound (M.graph self.now.m.now) }
-        requires node { from < (M.graph self.now.m.now).count }
-        requires small { before < 2 ^ 60 }
-        ensures { MatchOption result (IsTight (M.graph self.now.m.now) from before to price → ⊥)
-            (λ mv. IsLeastTight (M.graph self.now.m.now) from before to price mv) }
-    {
-        for i in 0..self.m.arity() {
-            if let Some(mv) = self.tight_by(from, before, to, price, i) {
-                return Some(mv);
-            }
-        }
-        None
-    }
-
+impl<'a, M: Moves, B: Bound, T: Ties> Query<'a, M, B, T> {
     /// Adds the nodes and the moves of the walk that a pass ended at a place.
     fn lay(
         &self,
@@ -344,7 +301,7 @@ impl<'a, M: Moves, B: Bound, T: Ties> Task<'a, M, B, T> {
             let Some(after) = done_label(table, node) else {
                 unreachable!();
             };
-            let Some(mv) = self.least_to(from, before.price, node, after.price) else {
+            let Some(mv) = self.tight_to(from, before.price, node, after.price) else {
                 unreachable!();
             };
             moves.push(mv)?;
@@ -363,34 +320,28 @@ impl<'a, M: Moves, B: Bound, T: Ties> Task<'a, M, B, T> {
         table: &mut Labels,
         front: &mut Front,
         order: &mut Vec<u32>,
-        node: u32,
-        label: Label,
+        goal: Done,
     ) -> Result<Walk, AllocError>
         requires ready { M.ready self.now.m.now }
         requires sound { IsSound (M.graph self.now.m.now) }
         requires bound { IsBound (M.graph self.now.m.now) self.now.goals.now (B.low_of self.now.b.now) }
         requires starts { All (λ s. s < (M.graph self.now.m.now).count) self.now.starts.now }
         requires marked { (v : ℕ) → (Contains self.now.marks.now v ↔ Contains self.now.goals.now v) }
-        requires there { label_at table.old node ≡ Some label }
-        requires is_done { 0 < label.rank }
-        requires goal { Contains self.now.goals.now node }
-        requires none_less { NoneCostsLess (M.graph self.now.m.now) self.now.starts.now self.now.goals.now label.price }
-        requires state { IsState (M.graph self.now.m.now) self.now.starts.now []
-            (B.low_of self.now.b.now) table.old front.old
-            (label.price + B.low_of self.now.b.now node) label.rank node 0 }
+        requires first { IsFirstGoal (M.graph self.now.m.now) self.now.starts.now self.now.goals.now
+            (B.low_of self.now.b.now) table.old front.old goal.node goal.label }
         ensures stated { IfOk result (IsStated (M.graph self.now.m.now) self.now.starts.now self.now.goals.now) }
         ensures size { length table.new ≡ length table.old }
     {
-        self.settle_rest(alloc, table, front, order, node, label)?;
+        self.settle_rest(alloc, table, front, order, goal.node, goal.label)?;
         let mut pass = Pass::new(alloc, self.m.count())?;
-        let place = self.pass_to(alloc, table, &mut pass, label.price)?;
+        let place = self.pass_to(alloc, table, &mut pass, goal.label.price)?;
         let mut nodes = Vec::new(alloc);
         let mut moves = Vec::new(alloc);
-        self.lay(table, &pass, place, label.price, &mut nodes, &mut moves)?;
+        self.lay(table, &pass, place, goal.label.price, &mut nodes, &mut moves)?;
         Ok(Walk {
             nodes: List::from_vec(nodes),
             moves: List::from_vec(moves),
-            price: label.price,
+            price: goal.label.price,
         })
     }
 }

@@ -6,19 +6,19 @@ ghost use Rattle.std.specs.Prelude.{IfSome, Contains, Some, MatchOption};
 ghost use Rattle.std.specs.Bool.{OnTrue};
 ghost use Rattle.route_lattice.specs.Walks.{IsSound, IsWalk};
 ghost use Rattle.wave_search.specs.declared.rows.Label.{Label as TheLabel};
-ghost use Rattle.wave_search.specs.State.{label_at, IsTight, IsTightBy, Roots};
+ghost use Rattle.wave_search.specs.inner.State.{label_at, IsTight, IsTightOf, IsLeastTight, Roots};
 
 use crate::bound::Bound;
 use crate::choices::{Choices, Start};
 use crate::labels::Labels;
 use crate::rows::Label;
-use crate::task::Task;
+use crate::query::Query;
 use crate::ties::Ties;
 use geo_kernel::List;
 use route_lattice::{Move, Moves, Walk};
 use std::alloc::{AllocError, Global};
 
-impl<'a, M: Moves, B: Bound, T: Ties> Task<'a, M, B, T> {
+impl<'a, M: Moves, B: Bound, T: Ties> Query<'a, M, B, T> {
     /// Move `i` of a node, if it is open and leads to the other node at exactly the other's price.
     fn tight_at(&self, from: u32, before: u64, to: u32, price: u64, i: u32) -> Option<Move>
         requires ready { M.ready self.now.m.now }
@@ -27,7 +27,7 @@ impl<'a, M: Moves, B: Bound, T: Ties> Task<'a, M, B, T> {
         requires index { i < (M.graph self.now.m.now).arity }
         requires small { before < 2 ^ 60 }
         ensures { MatchOption result ((t : IsTight (M.graph self.now.m.now) from before to price) → t.hop.index ≡ i
-            → ⊥) (λ mv. IsTightBy (M.graph self.now.m.now) from before to price mv) }
+            → ⊥) (λ mv. IsTightOf (M.graph self.now.m.now) from before to price i mv) }
     {
         let Some((mv, there)) = self.m.at(from, i) else {
             return None;
@@ -44,14 +44,15 @@ impl<'a, M: Moves, B: Bound, T: Ties> Task<'a, M, B, T> {
         Some(mv)
     }
 
-    /// An open move that leads from a node to another at exactly the other's price; None where there is none.
+    /// Of the open moves that lead from a node to another at exactly the other's price the one of the least index; None
+    /// where there is none.
     pub(crate) fn tight_to(&self, from: u32, before: u64, to: u32, price: u64) -> Option<Move>
         requires ready { M.ready self.now.m.now }
         requires sound { IsSound (M.graph self.now.m.now) }
         requires node { from < (M.graph self.now.m.now).count }
         requires small { before < 2 ^ 60 }
         ensures { MatchOption result (IsTight (M.graph self.now.m.now) from before to price → ⊥)
-            (λ mv. IsTightBy (M.graph self.now.m.now) from before to price mv) }
+            (λ mv. IsLeastTight (M.graph self.now.m.now) from before to price mv) }
     {
         for i in 0..self.m.arity() {
             if let Some(mv) = self.tight_at(from, before, to, price, i) {

@@ -1,5 +1,5 @@
 use Rattle.std.specs.BinaryHeap.{heap_items}
-use Rattle.wave_search.specs.Order.{entry_of, entries_of}
+use Rattle.wave_search.specs.inner.Order.{entry_of, entries_of}
 use Rattle.wave_search.proofs.Heap.{pushed}
 use Rattle.wave_search.proofs.Joined.{same_trans, moved}
 use Rattle.wave_search.proofs.front.empty_into.Goals as goal

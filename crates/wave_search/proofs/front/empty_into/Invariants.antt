@@ -1,6 +1,6 @@
 use Rattle.std.proofs.Common.{◌++◌, length}
-use Rattle.wave_search.specs.Waiting.{IsSame}
-use Rattle.wave_search.specs.Order.{entries_of, IsOrdered}
+use Rattle.wave_search.specs.inner.Waiting.{IsSame}
+use Rattle.wave_search.specs.inner.Order.{entries_of, IsOrdered}
 use Rattle.wave_search.proofs.front.empty_into.Given as goal
 
 abbrev pub invariant-loop-item : goal.invariant-loop-item

@@ -1,7 +1,7 @@
 use Rattle.std.proofs.Common.{List, subst}
 use Rattle.wave_search.specs.declared.front.Entry.{Entry}
-use Rattle.wave_search.specs.Waiting.{IsDrawn}
-use Rattle.wave_search.specs.Order.{entry_of, entries_in}
+use Rattle.wave_search.specs.inner.Waiting.{IsDrawn}
+use Rattle.wave_search.specs.inner.Order.{entry_of, entries_in}
 use Rattle.wave_search.proofs.Joined.{unbinned}
 use Rattle.wave_search.proofs.bins.Bin.pop.Goals as goal
 

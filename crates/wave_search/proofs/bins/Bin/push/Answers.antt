@@ -1,7 +1,7 @@
 use Rattle.std.proofs.Common.{ℕ, List, subst, sym}
 use Rattle.wave_search.specs.declared.front.Entry.{Entry}
-use Rattle.wave_search.specs.Waiting.{IsAdded}
-use Rattle.wave_search.specs.Order.{entry_of, entries_in, IsBounded}
+use Rattle.wave_search.specs.inner.Waiting.{IsAdded}
+use Rattle.wave_search.specs.inner.Order.{entry_of, entries_in, IsBounded}
 use Rattle.wave_search.proofs.Joined.{binned, bounded}
 use Rattle.wave_search.proofs.bins.Bin.push.Goals as goal
 

@@ -1,7 +1,7 @@
 use Rattle.std.proofs.Common.{◌≡◌, ℕ, ◌<◌, length, Some, vec_len}
 use Rattle.std.specs.Prelude.{All, Contains}
 use Rattle.wave_search.specs.declared.rows.Label.{Label}
-use Rattle.wave_search.specs.State.{label_at}
+use Rattle.wave_search.specs.inner.State.{label_at}
 use Rattle.wave_search.proofs.labels.Labels.clear.Given as goal
 
 abbrev pub invariant-loop-v : goal.invariant-loop-v

@@ -5,7 +5,7 @@ use Rattle.std.proofs.lemmas.List.Sorted.{Contains-permutation, IsPermutation-sy
 use Rattle.std.proofs.lemmas.Map.Keys.{IsStrictlyIncreasing-dedup}
 use Rattle.std.specs.Prelude.{Contains}
 use Rattle.wave_search.specs.declared.rows.Label.{Label}
-use Rattle.wave_search.specs.State.{IsListed}
+use Rattle.wave_search.specs.inner.State.{IsListed}
 use Rattle.wave_search.proofs.labels.Labels.nodes.Goals as goal
 
 pub returns : goal.returns

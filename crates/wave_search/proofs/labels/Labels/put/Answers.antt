@@ -1,7 +1,7 @@
 use Rattle.std.proofs.Common.{ℕ, arith, ap, length, sym, ◌∙◌, subst, Bool, List, Option, ◌<◌, is_some}
 use Rattle.wave_search.specs.declared.rows.Label.{Label}
-use Rattle.wave_search.specs.State.{IsPut}
-use Rattle.wave_search.specs.Rows.{AreTouched}
+use Rattle.wave_search.specs.inner.State.{IsPut}
+use Rattle.wave_search.specs.inner.Rows.{AreTouched}
 use Rattle.wave_search.proofs.Kept.{label_is}
 use Rattle.wave_search.proofs.Touched.{touched_past, touched_kept, touched_more}
 use Rattle.wave_search.proofs.labels.Labels.put.Goals as goal

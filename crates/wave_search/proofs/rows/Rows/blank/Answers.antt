@@ -1,8 +1,8 @@
 use Rattle.std.proofs.Common.{◌≡◌, subst, List, Option}
 use Rattle.std.proofs.Math.ListN.{set}
 use Rattle.wave_search.specs.declared.rows.Label.{Label}
-use Rattle.wave_search.specs.Rows.{labels_of}
-use Rattle.wave_search.specs.State.{label_at}
+use Rattle.wave_search.specs.inner.Rows.{labels_of}
+use Rattle.wave_search.specs.inner.State.{label_at}
 use Rattle.wave_search.proofs.Spared.{set_size}
 use Rattle.wave_search.proofs.Kept.{none_here, none_other, in_rows}
 use Rattle.wave_search.proofs.rows.Rows.blank.Goals as goal

@@ -1,9 +1,9 @@
 use Rattle.std.proofs.Common.{length, ap, arith, Option, ◌≡◌, sym, subst, List, None, vec_len}
 use Rattle.std.proofs.lemmas.List.{length-map, length-replicate}
-use Rattle.wave_search.specs.Rows.{row_label, labels_of}
+use Rattle.wave_search.specs.inner.Rows.{row_label, labels_of}
 use Rattle.wave_search.specs.declared.rows.Label.{Label}
 use Rattle.wave_search.specs.declared.rows.Row.{Row}
-use Rattle.wave_search.specs.State.{label_at}
+use Rattle.wave_search.specs.inner.State.{label_at}
 use Rattle.wave_search.proofs.Kept.{blank}
 use Rattle.wave_search.proofs.rows.Rows.blank_all.Goals as goal
 

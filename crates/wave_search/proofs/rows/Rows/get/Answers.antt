@@ -1,7 +1,7 @@
 use Rattle.std.proofs.Common.{◌≡◌, ◌∙◌, ap, sym, subst, List, Option}
 use Rattle.wave_search.specs.declared.rows.Label.{Label}
-use Rattle.wave_search.specs.Rows.{row_label}
-use Rattle.wave_search.specs.State.{label_at}
+use Rattle.wave_search.specs.inner.Rows.{row_label}
+use Rattle.wave_search.specs.inner.State.{label_at}
 use Rattle.wave_search.proofs.Kept.{read, in_rows}
 use Rattle.wave_search.proofs.rows.Rows.get.Goals as goal
 

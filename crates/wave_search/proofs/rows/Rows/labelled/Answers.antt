@@ -1,6 +1,6 @@
 use Rattle.std.proofs.Common.{◌+◌, ◌<◌, sym, ◌∙◌, subst, List, ℕ, arith, ap, length, is_some}
 use Rattle.std.proofs.lemmas.List.{length-map}
-use Rattle.wave_search.specs.Rows.{row_label}
+use Rattle.wave_search.specs.inner.Rows.{row_label}
 use Rattle.wave_search.proofs.Spared.{none_below}
 use Rattle.wave_search.proofs.Kept.{AreBelow, one_more, no_more}
 use Rattle.wave_search.proofs.Table.{within}

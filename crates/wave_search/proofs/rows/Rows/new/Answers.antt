@@ -1,8 +1,8 @@
 use Rattle.std.proofs.Common.{length, ap, arith, ◌≡◌, sym, subst, List, None}
 use Rattle.std.proofs.lemmas.List.{length-map, length-replicate}
-use Rattle.wave_search.specs.Rows.{row_label, labels_of}
+use Rattle.wave_search.specs.inner.Rows.{row_label, labels_of}
 use Rattle.wave_search.specs.declared.rows.Row.{Row}
-use Rattle.wave_search.specs.State.{label_at}
+use Rattle.wave_search.specs.inner.State.{label_at}
 use Rattle.wave_search.proofs.Kept.{blank}
 use Rattle.wave_search.proofs.rows.Rows.new.Goals as goal
 

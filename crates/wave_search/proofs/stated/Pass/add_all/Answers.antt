@@ -1,6 +1,6 @@
 use Rattle.std.proofs.Common.{ℕ, List, subst, arith}
 use Rattle.std.proofs.lemmas.List.{take_all}
-use Rattle.wave_search.specs.Passing.{AddsAll}
+use Rattle.wave_search.specs.inner.Passing.{AddsAll}
 use Rattle.wave_search.proofs.Passing.{adds_none, adds_next}
 use Rattle.wave_search.proofs.stated.Pass.add_all.Goals as goal
 

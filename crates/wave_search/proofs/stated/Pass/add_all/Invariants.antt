@@ -1,5 +1,5 @@
 use Rattle.std.proofs.Common.{take}
-use Rattle.wave_search.specs.Passing.{AddsAll}
+use Rattle.wave_search.specs.inner.Passing.{AddsAll}
 use Rattle.wave_search.proofs.stated.Pass.add_all.Given as goal
 
 abbrev pub invariant-loop-v : goal.invariant-loop-v

@@ -1,9 +1,0 @@
-use Rattle.std.proofs.Common.{◌-◌}
-use Rattle.wave_search.specs.Passing.{IsAt}
-use Rattle.wave_search.proofs.task.Task.pass_to.Given as goal
-
-abbrev pub invariant-pass : goal.invariant-pass
-invariant-pass g l = IsAt (g.M.Moves.graph l.self.m.now) l.self.starts.now l.self.goals.now l.table l.price l.pass l.k
-
-abbrev pub decreases-pass : goal.decreases-pass
-decreases-pass g l = (g.M.Moves.graph l.self.m.now).count - l.k

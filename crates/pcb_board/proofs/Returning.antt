@@ -5,8 +5,6 @@ use Rattle.std.specs.List.{filter}
 use Rattle.std.proofs.lemmas.List.Sums.{sum_by-append}
 use Rattle.pcb_model.specs.declared.item.Item.{Item}
 use Rattle.pcb_model.specs.declared.design.Design.{Design}
-use Rattle.pcb_model.specs.Bounds.{HasClearancesWithin}
-use Rattle.pcb_tiles.specs.Tiling.{IsArea}
 use Rattle.pcb_tiles.specs.Spread.{Spread}
 use Rattle.pcb_board.specs.declared.answer.Entry.{Entry}
 use Rattle.pcb_board.specs.declared.answer.Entry.TheVariants.{Back}
@@ -16,7 +14,7 @@ use Rattle.pcb_board.specs.Renewing.{AreIndexed}
 use Rattle.pcb_board.specs.Turning.{AreNumbered, AreMarks, AreTurned, is_marked}
 use Rattle.pcb_board.specs.Answers.{taken_back}
 use Rattle.pcb_board.specs.Keeping.{IsBoard}
-use Rattle.pcb_board.specs.Snaps.{IsSnapKept}
+use Rattle.pcb_board.specs.Snaps.{AreTilesOf}
 use Rattle.pcb_board.specs.Indexing.{board_of, IsIndexed}
 use Rattle.pcb_board.proofs.Committing.{boarded}
 use Rattle.pcb_board.proofs.Backing.{back_board}
@@ -37,8 +35,7 @@ pub record IsReturned (a n : Inside) (to : ℕ) (marks : List Bool) : Type 0 whe
   pub history_is : n.history ≡ a.history ++ Back to ∷ []
   pub given_is : n.given.items ≡ a.given.items
   pub items_are : n.tiles.items ≡ filter (λ (x : Item). is_marked marks x.id) a.given.items
-  pub area : IsArea n.tiles.area
-  pub reach : HasClearancesWithin n.tiles.reach a.design
+  pub spread : AreTilesOf a.design n.tiles.area n.tiles.reach
   pub changed_is : AreTurned a.tiles.items marks (length a.history + 1)
       (length a.changed.items) a.changed.items n.changed.items
   pub workers_are : n.workers ≡ a.workers
@@ -100,7 +97,7 @@ module _ (a n : Inside) (b : BoardOf) (to : ℕ) (marks : List Bool) (view : boa
         omega (arith, s, e, t);
     workers_are = new.workers_are ∙ kept.workers_are ∙ sym (no_worker_more a.history to)
         ∙ sym (ap worker_entries new.history_is);
-    spread = subst (IsSnapKept n.tiles) (sym new.design_is) (record { area = new.area; reach = new.reach });
+    spread = subst (λ (d : Design). AreTilesOf d n.tiles.area n.tiles.reach) (sym new.design_is) new.spread;
   }
 
 -- ---- equal boards
@@ -134,6 +131,6 @@ module _ (a n : Inside) (kept : IsIndexed a) (same : AreEqual a n) where
     started = let s = kept.started in let e = ap length same.given_is in let t = same.started_is in
         omega (arith, s, e, t);
     workers_are = same.workers_are ∙ kept.workers_are ∙ sym (ap worker_entries same.history_is);
-    spread = subst (IsSnapKept n.tiles) (sym same.design_is)
-        (subst (λ (t : Spread). IsSnapKept t a.design) (sym same.tiles_are) kept.spread);
+    spread = subst (λ (d : Design). AreTilesOf d n.tiles.area n.tiles.reach) (sym same.design_is)
+        (subst (λ (t : Spread). AreTilesOf a.design t.area t.reach) (sym same.tiles_are) kept.spread);
   }

@@ -4,7 +4,7 @@ use Rattle.pcb_board.specs.declared.board.Board.TheInside.{Inside}
 use Rattle.pcb_board.specs.Boards.{BoardOf, worker_entries}
 use Rattle.pcb_board.specs.Renewing.{AreIndexed}
 use Rattle.pcb_board.specs.Turning.{AreNumbered}
-use Rattle.pcb_board.specs.Snaps.{IsSnapKept}
+use Rattle.pcb_board.specs.Snaps.{AreTilesOf}
 use Rattle.pcb_board.specs.Keeping.{IsBoard}
 
 abbrev pub board_of : Inside → BoardOf
@@ -22,4 +22,4 @@ pub record IsIndexed (a : Inside) : Type 0 where
   pub numbered : AreNumbered (board_of a)
   pub started : a.started ≤ length a.given.items
   pub workers_are : a.workers ≡ worker_entries a.history
-  pub spread : IsSnapKept a.tiles a.design
+  pub spread : AreTilesOf a.design a.tiles.area a.tiles.reach

@@ -1,3 +1,4 @@
 pub mod Report
+pub mod Stretches
 pub mod Naming
 pub mod Tallies

@@ -10,3 +10,4 @@ mod words;
 
 pub use facts::{Facts, PassLine};
 pub use report::report_text;
+pub use stretches::stretches_are_longest;

@@ -55,6 +55,12 @@ pub record HasMetals (k : Known) (o : Offer) : Type 0 where
   pub some : 0 < length o.add
   pub each : All (IsAddable k.design o.net) o.add
 
+-- 1 to 3, which are decided before any item is made
+pub record IsMakeable (k : Known) (o : Offer) : Type 0 where
+  pub timely : IsTimely k o
+  pub ends : HasEnds k o
+  pub metals : HasMetals k o
+
 -- 4: from one item the added ones lead to the other, each touching the next
 pub record LeadsAcross (k : Known) (o : Offer) : Type 0 where
   pub from : Item

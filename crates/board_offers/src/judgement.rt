@@ -1,10 +1,11 @@
 //! Whether an offer is well formed, and the items that it makes.
 //! An offer is judged by the design, the items ever given and the number of entries, not by what is on the board now.
 
-ghost use Rattle.std.specs.Prelude.{◌≡◌, IfOk};
+ghost use Rattle.std.specs.Prelude.{◌≡◌, IfOk, OnErr};
 ghost use Rattle.pcb_model.specs.Sound.{IsSound};
 ghost use Rattle.board_offers.specs.Given.{AreGiven};
 ghost use Rattle.board_offers.specs.Judging.{known_by, Judges};
+ghost use Rattle.board_offers.specs.Offers.{IsMakeable};
 
 use crate::clauses::{has_ends, is_timely, leads_across, lie_inside, may_rip_all};
 use crate::ids::names_once;
@@ -25,7 +26,8 @@ pub enum Judged {
 }
 
 /// The first clause that an offer breaks, or its new items: those that it adds, and behind them the replacements
-/// of what it shoves. It takes memory for these items alone, and `AllocError` comes only for want of memory.
+/// of what it shoves. It takes memory for these items alone, so `AllocError` comes only for want of memory, and only
+/// where the first three clauses hold.
 pub fn judge(
     alloc: Global,
     d: &Design,
@@ -35,7 +37,8 @@ pub fn judge(
 ) -> Result<Judged, AllocError>
     requires sound { IsSound d.now }
     requires given { AreGiven d.now given.now }
-    ensures { IfOk result (Judges (known_by d.now given.now entries) offer.now) }
+    ensures judged { IfOk result (Judges (known_by d.now given.now entries) offer.now) }
+    ensures memory { OnErr result (IsMakeable (known_by d.now given.now entries) offer.now) }
 {
     let net = offer.net;
     let add = offer.add.as_slice();

@@ -10,7 +10,7 @@ use Rattle.pcb_model.specs.declared.design.Design.{Design}
 use Rattle.pcb_model.specs.Bounds.{IsItemFit}
 use Rattle.pcb_model.specs.Pairs.{Agrees}
 use Rattle.pcb_tiles.specs.Spread.{Spread, holding}
-use Rattle.pcb_board.specs.Snaps.{IsSnapKept}
+use Rattle.pcb_board.specs.Snaps.{AreTilesOf}
 use Rattle.board_offers.specs.declared.offer.Offer.{Offer}
 use Rattle.pcb_board.specs.declared.answer.Entry.{Entry}
 use Rattle.pcb_board.specs.declared.answer.Entry.TheVariants.{Join}
@@ -136,9 +136,8 @@ module _ (a n : Inside) (b : BoardOf) (o : Offer) (swap : (x y : Item) → Agree
             ∙ sym (one_more_worker a.history o (length a.given.items) (length a.given.items + length come))
             ∙ sym (ap worker_entries new.history_is);
         numbered = subst AreNumbered (sym next_view) (joined_numbered b o (subst AreNumbered view kept.numbered));
-        spread = subst (IsSnapKept n.tiles) (sym new.design_is)
-            (subst (λ (t : Spread). IsSnapKept t a.design) (sym new.tiles_are)
-            (record { area = kept.spread.area; reach = kept.spread.reach }));
+        spread = subst (λ (d : Design). AreTilesOf d n.tiles.area n.tiles.reach) (sym new.design_is)
+            (subst (λ (t : Spread). AreTilesOf a.design t.area t.reach) (sym new.tiles_are) kept.spread);
       }
 
 -- a new item's id is above all that are on the board

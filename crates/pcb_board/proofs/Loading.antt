@@ -22,7 +22,7 @@ use Rattle.pcb_model.specs.declared.item.Item.{Item}
 use Rattle.pcb_model.specs.declared.design.FreeWire.{FreeWire}
 use Rattle.pcb_model.specs.declared.design.Design.{Design}
 use Rattle.pcb_model.specs.Pairs.{Agrees}
-use Rattle.pcb_model.specs.Bounds.{IsBoundFit, HasClearancesWithin}
+use Rattle.pcb_model.specs.Bounds.{IsBoundFit}
 use Rattle.pcb_model.specs.Board.{IsLegal, IsRouted, IsLaid, IsMade, AreInside, is_fixed}
 use Rattle.pcb_model.specs.Sound.{IsSound, IsFreeSound, Serves, IsItemOf}
 use Rattle.pcb_tiles.specs.Tiling.{IsArea}
@@ -31,6 +31,7 @@ use Rattle.board_offers.proofs.Lists.{all_from, found_at, in_here, none_pass}
 use Rattle.pcb_board.specs.declared.load.Loaded.{Loaded}
 use Rattle.pcb_board.specs.Boards.{Loads, free_item}
 use Rattle.pcb_board.specs.inner.Loading.{IsLoaded, IsKept, LoadsOne, AreLoaded}
+use Rattle.pcb_board.specs.Snaps.{AreTilesOf}
 use Rattle.pcb_board.proofs.Starting.{loaded_more, fixed_loaded}
 
 -- ---- a legal list with one more routed item
@@ -96,7 +97,7 @@ loaded_serves d l sound kept = record {
     items_fit = all_from (IsItemOf d) l.given.items (λ a there.
         let f = found_at l.given.items a there in (kept.loaded.given f.place a f.there).fits);
   });
-  reaches = kept.reach;
+  reaches = kept.spread.greatest.within;
 }
 
 -- ids are below the number of items
@@ -190,13 +191,12 @@ no_area = record {
 
 -- ---- what is loaded, one by one
 pub fixed_all : (d : Design) (l : Loaded) → IsSound d → l.tiles.items ≡ d.fixed → l.given.items ≡ d.fixed
-    → l.dropped ≡ [] → IsArea l.tiles.area → HasClearancesWithin l.tiles.reach d → AreLoaded d d.free l
-fixed_all d l sound tiles given none area reach = record {
+    → l.dropped ≡ [] → AreTilesOf d l.tiles.area l.tiles.reach → AreLoaded d d.free l
+fixed_all d l sound tiles given none spread = record {
   kept = record {
     held = tiles ∙ sym given;
     loaded = subst (IsLoaded d) (sym given) (fixed_loaded d sound);
-    area = area;
-    reach = reach;
+    spread = spread;
   };
   so_far = λ others start rest.
       subst (λ (places : List ℕ). Loads d d.fixed d.free (places ++ others) start) (sym none)
@@ -213,8 +213,7 @@ kept_more d l n w item (Ok _) sound wire kept is legal tiles given = record {
       (loaded_more d l.given.items w sound wire kept.loaded
       (subst (λ (a : Item). IsLegal d (l.given.items ++ a ∷ [])) is
       (subst (λ (xs : List Item). IsLegal d (xs ++ item ∷ [])) kept.held legal)));
-  area = subst (λ (t : Spread). IsArea t.area) (sym tiles) kept.area;
-  reach = subst (λ (t : Spread). HasClearancesWithin t.reach d) (sym tiles) kept.reach;
+  spread = subst (λ (t : Spread). AreTilesOf d t.area t.reach) (sym tiles) kept.spread;
 }
 kept_more d l n w item (Err e) sound wire kept is legal tiles given = tt
 
@@ -237,8 +236,7 @@ pub drop_kept : {T E : Type 0} (d : Design) (l n : Loaded) (r : Result T E) → 
 drop_kept d l n (Ok _) kept tiles given = record {
   held = ap (λ (t : Spread). t.items) tiles ∙ kept.held ∙ sym given;
   loaded = subst (IsLoaded d) (sym given) kept.loaded;
-  area = subst (λ (t : Spread). IsArea t.area) (sym tiles) kept.area;
-  reach = subst (λ (t : Spread). HasClearancesWithin t.reach d) (sym tiles) kept.reach;
+  spread = subst (λ (t : Spread). AreTilesOf d t.area t.reach) (sym tiles) kept.spread;
 }
 drop_kept d l n (Err e) kept tiles given = tt
 

@@ -13,10 +13,9 @@ use Rattle.pcb_board.specs.declared.answer.Entry.{Entry}
 use Rattle.pcb_board.specs.declared.board.Board.TheInside.{Inside}
 use Rattle.pcb_board.specs.Boards.{BoardOf, Starts, worker_entries}
 use Rattle.pcb_board.specs.declared.load.Loaded.{Loaded}
-use Rattle.pcb_board.specs.Indexing.{AreIndexed}
-use Rattle.pcb_board.specs.Indexing.{AreNumbered}
-use Rattle.pcb_board.specs.Snaps.{IsSnapKept}
+use Rattle.pcb_board.specs.Indexing.{AreIndexed, AreNumbered}
 use Rattle.pcb_board.specs.inner.Loading.{AreLoaded}
+use Rattle.pcb_board.specs.Snaps.{AreTilesOf}
 use Rattle.pcb_board.specs.Keeping.{IsBoard, started}
 use Rattle.pcb_board.specs.Indexing.{board_of, IsIndexed}
 use Rattle.pcb_board.proofs.Committing.{boarded}
@@ -75,9 +74,8 @@ module _ (n : Inside) (d : Design) (cap : ℕ) (l : Loaded) (sound : IsSound d) 
     numbered = subst AreNumbered (sym opened_view) (start_numbered (started d start cap) refl);
     started = let s = o.started_is in let e = ap length o.given_is in omega (arith, s, e);
     workers_are = o.workers_are ∙ sym (ap worker_entries o.history_is);
-    spread = subst (IsSnapKept n.tiles) (sym o.design_is)
-        (subst (λ (t : Spread). IsSnapKept t d) (sym o.tiles_are)
-        (record { area = loaded.kept.area; reach = loaded.kept.reach }));
+    spread = subst (λ (x : Design). AreTilesOf x n.tiles.area n.tiles.reach) (sym o.design_is)
+        (subst (λ (t : Spread). AreTilesOf d t.area t.reach) (sym o.tiles_are) loaded.kept.spread);
   }
 
 -- ---- the fixed items, one by one
@@ -125,6 +123,6 @@ module _ (a n : Inside) (design_is : n.design ≡ a.design) (cap_is : n.cap ≡ 
     numbered = subst AreNumbered (sym copied_view) kept.numbered;
     started = let s = kept.started in let e = ap length given_is in omega (arith, s, e, started_is);
     workers_are = workers_are ∙ kept.workers_are ∙ sym (ap worker_entries history_is);
-    spread = subst (IsSnapKept n.tiles) (sym design_is)
-        (subst (λ (t : Spread). IsSnapKept t a.design) (sym tiles_are) kept.spread);
+    spread = subst (λ (x : Design). AreTilesOf x n.tiles.area n.tiles.reach) (sym design_is)
+        (subst (λ (t : Spread). AreTilesOf a.design t.area t.reach) (sym tiles_are) kept.spread);
   }

@@ -7,6 +7,7 @@ use Rattle.pcb_model.specs.declared.item.Item.{Item}
 use Rattle.pcb_model.specs.declared.design.Design.{Design}
 use Rattle.pcb_model.specs.Bounds.{HasClearancesWithin}
 use Rattle.pcb_tiles.specs.Tiling.{IsArea}
+use Rattle.pcb_tiles.specs.Spread.{Spread}
 use Rattle.pcb_board.specs.declared.answer.Entry.{Entry}
 use Rattle.pcb_board.specs.declared.answer.Entry.TheVariants.{Back}
 use Rattle.pcb_board.specs.declared.board.Board.TheInside.{Inside}
@@ -16,7 +17,7 @@ use Rattle.pcb_board.specs.inner.Turning.{AreMarks, AreTurned, is_marked}
 use Rattle.pcb_board.specs.Indexing.{AreNumbered}
 use Rattle.pcb_board.specs.Answers.{taken_back}
 use Rattle.pcb_board.specs.Keeping.{IsBoard}
-use Rattle.pcb_board.specs.Snaps.{IsSnapKept}
+use Rattle.pcb_board.specs.Snaps.{AreTilesOf}
 use Rattle.pcb_board.specs.Indexing.{board_of, IsIndexed}
 use Rattle.pcb_board.proofs.Committing.{boarded}
 use Rattle.pcb_board.proofs.Backing.{back_board}
@@ -37,8 +38,7 @@ pub record IsReturned (a n : Inside) (to : ℕ) (marks : List Bool) : Type 0 whe
   pub history_is : n.history ≡ a.history ++ Back to ∷ []
   pub given_is : n.given.items ≡ a.given.items
   pub items_are : n.tiles.items ≡ filter (λ (x : Item). is_marked marks x.id) a.given.items
-  pub area : IsArea n.tiles.area
-  pub reach : HasClearancesWithin n.tiles.reach a.design
+  pub spread : AreTilesOf a.design n.tiles.area n.tiles.reach
   pub changed_is : AreTurned a.tiles.items marks (length a.history + 1)
       (length a.changed.items) a.changed.items n.changed.items
   pub workers_are : n.workers ≡ a.workers
@@ -100,5 +100,5 @@ module _ (a n : Inside) (b : BoardOf) (to : ℕ) (marks : List Bool) (view : boa
         omega (arith, s, e, t);
     workers_are = new.workers_are ∙ kept.workers_are ∙ sym (no_worker_more a.history to)
         ∙ sym (ap worker_entries new.history_is);
-    spread = subst (IsSnapKept n.tiles) (sym new.design_is) (record { area = new.area; reach = new.reach });
+    spread = subst (λ (d : Design). AreTilesOf d n.tiles.area n.tiles.reach) (sym new.design_is) new.spread;
   }

@@ -6,7 +6,7 @@ use Rattle.pcb_board.specs.declared.answer.Answer.TheVariants.{Committed, Stale,
 use Rattle.pcb_board.specs.declared.answer.Entry.TheVariants.{Join, Back}
 use Rattle.board_offers.specs.Items.{new_items, joined_items}
 use Rattle.pcb_board.specs.Boards.{BoardOf, SnapOf, given, replayed, worker_entries, IsCommitOf}
-use Rattle.board_offers.specs.Offers.{Known, IsWellFormed, FailsFirst}
+use Rattle.board_offers.specs.Offers.{Known, IsMakeable, IsWellFormed, FailsFirst}
 use Rattle.board_offers.specs.Troubles.{IsClear, FailsLeast}
 use Rattle.board_offers.specs.declared.offer.TheConstants.{CLOSER}
 
@@ -36,6 +36,11 @@ taken_back b to = record b { history = b.history ++ Back to ∷ []; items = repl
 pub record IsHeard (b : BoardOf) (o : Offer) : Type 0 where
   pub room : ¬ (IsFull b o)
   pub formed : IsWellFormed (known b) o
+
+-- want of memory comes behind Full, and behind Malformed for clauses 1 to 3
+pub record MayLackMemory (b : BoardOf) (o : Offer) : Type 0 where
+  pub room : ¬ (IsFull b o)
+  pub makeable : IsMakeable (known b) o
 
 -- the least id with trouble, and the entry that removed or placed it
 pub record MeetsTrouble (b : BoardOf) (o : Offer) (item commit : ℕ) : Type 0 where

@@ -2,7 +2,7 @@
 use Rattle.std.specs.Prelude.{◌≡◌, ◌≤◌, length, take, ℕ, ◌<◌, List, slice_index_or, ◌+◌, slice_get, Some}
 use Rattle.pcb_board.specs.declared.board.Board.TheInside.{Inside}
 use Rattle.pcb_board.specs.Boards.{BoardOf, worker_entries, IsLast, Changes, given, past}
-use Rattle.pcb_board.specs.Snaps.{IsSnapKept}
+use Rattle.pcb_board.specs.Snaps.{AreTilesOf}
 use Rattle.pcb_board.specs.Keeping.{IsBoard}
 use Rattle.pcb_model.specs.declared.item.Item.{Item}
 use Rattle.pcb_board.specs.declared.answer.Entry.{Entry}
@@ -42,4 +42,4 @@ pub record IsIndexed (a : Inside) : Type 0 where
   pub numbered : AreNumbered (board_of a)
   pub started : a.started ≤ length a.given.items
   pub workers_are : a.workers ≡ worker_entries a.history
-  pub spread : IsSnapKept a.tiles a.design
+  pub spread : AreTilesOf a.design a.tiles.area a.tiles.reach

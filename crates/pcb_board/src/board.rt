@@ -10,10 +10,12 @@ ghost use Rattle.board_offers.specs.Offers.{IsWellFormed};
 ghost use Rattle.board_offers.specs.Troubles.{FailsLeast};
 ghost use Rattle.pcb_board.specs.Boards.{given, replayed};
 ghost use Rattle.pcb_board.specs.Answers.{Step, Makes, snap_of, taken_back, HasMade, IsFull, IsHeard, IsClearOn};
-ghost use Rattle.pcb_board.specs.Answers.{known, joined, BlamesLast};
+ghost use Rattle.pcb_board.specs.Answers.{known, joined, BlamesLast, MayLackMemory};
 ghost use Rattle.pcb_board.specs.inner.Turning.{LeadBack, AreMarks};
 ghost use Rattle.pcb_board.specs.Keeping.{IsBoard, IsStarted, AnswersBack};
 ghost use Rattle.pcb_board.specs.inner.Loading.{AreLoaded};
+ghost use Rattle.pcb_board.specs.Snaps.{AreTilesOf};
+ghost use Rattle.pcb_tiles.specs.Spread.{ServesSpread};
 
 use crate::answer::{Answer, BackFault, Entry, OfferBack, RunBack};
 use crate::copy::copy_lists;
@@ -165,9 +167,12 @@ impl Board {
         &self.history
     }
 
-    /// The items.
+    /// The items, in tiles over the least box that holds the first boundary, with the design's greatest clearance as
+    /// their reach.
     pub fn items(&self) -> &Tiles
-        ensures { result.now.items ≡ self.now.items }
+        ensures items { result.now.items ≡ self.now.items }
+        ensures tiles { AreTilesOf self.now.design result.now.area result.now.reach }
+        ensures serves { ServesSpread result.now self.now.design }
     {
         &self.tiles
     }
@@ -193,10 +198,11 @@ impl Board {
     }
 
     /// Answers an offer. `Full` comes before `Malformed`, and that before `Stale` or `Wrong`; only `Committed` changes
-    /// the board. Where memory is wanting the offer comes back, and nothing changes.
+    /// the board. Where memory is wanting the offer comes back, and nothing changes; then the board isn't full, and the
+    /// first three clauses of a well-formed offer hold.
     pub fn offer(&mut self, offer: Offer) -> Result<Answer, OfferBack>
         ensures ok { IfOk result (λ a. Step self.old offer a self.new) }
-        ensures err { IfErr result (λ e. (e.offer ≡ offer) × (self.new ≡ self.old) × ¬ (IsFull self.old offer)) }
+        ensures err { IfErr result (λ e. (e.offer ≡ offer) × (self.new ≡ self.old) × MayLackMemory self.old offer) }
     {
         match self.weigh(&offer) {
             Ok(Ok(new)) => self.commit(offer, new),
@@ -215,7 +221,7 @@ impl Board {
         ensures new { IfOk result (λ r. IfOk r (λ new.
             new ≡ new_items self.now.design (given self.now) offer.now)) }
         ensures refused { IfOk result (λ r. IfErr r (λ a. Step self.now offer.now a self.now)) }
-        ensures err { OnErr result (¬ (IsFull self.now offer.now)) }
+        ensures err { OnErr result (MayLackMemory self.now offer.now) }
     {
         if self.is_full(offer) {
             return Ok(Err(Answer::Full));

@@ -5,13 +5,14 @@ ghost use Rattle.std.specs.Prelude.{◌≡◌, ◌↔◌, ◌<◌, ◌≤◌, �
 ghost use Rattle.geo_kernel.specs.declared.spine.Spine.TheVariants.{Area};
 ghost use Rattle.geo_kernel.specs.Boxes.{IsBoxOf};
 ghost use Rattle.pcb_model.specs.declared.item.Item.{Item as OneItem};
-ghost use Rattle.pcb_model.specs.Bounds.{IsBoundFit, IsItemFit, HasClearancesWithin};
+ghost use Rattle.pcb_model.specs.Bounds.{IsBoundFit, IsItemFit};
 ghost use Rattle.pcb_model.specs.Pairs.{Agrees};
 ghost use Rattle.pcb_model.specs.Board.{IsLegal, IsMade, IsRouted};
 ghost use Rattle.pcb_model.specs.Sound.{IsSound, IsFreeSound};
 ghost use Rattle.pcb_tiles.specs.Tiling.{IsArea};
 ghost use Rattle.pcb_tiles.specs.Spread.{holding, ServesSpread};
 ghost use Rattle.pcb_board.specs.inner.Loading.{IsKept, LoadsOne, AreFixed, AreLoaded};
+ghost use Rattle.pcb_board.specs.Snaps.{AreTilesOf};
 
 use crate::renew::add_copy;
 use geo_kernel::{List, Point, Rect4, Spine, box_of};
@@ -58,8 +59,7 @@ fn area_of(alloc: Global, bounds: &[List<List<Point>>]) -> Result<Rect4, AllocEr
 pub(crate) fn empty_tiles(alloc: Global, d: &Design) -> Result<Tiles, AllocError>
     requires { IsSound d.now }
     ensures empty { IfOk result (λ t. t.items ≡ []) }
-    ensures area { IfOk result (λ t. IsArea t.area) }
-    ensures reach { IfOk result (λ t. HasClearancesWithin t.reach d.now) }
+    ensures spread { IfOk result (λ t. AreTilesOf d.now t.area t.reach) }
 {
     let area = area_of(alloc, d.bounds.as_slice())?;
     Tiles::new(alloc, area, greatest_clearance(d))

@@ -5,14 +5,13 @@ ghost use Rattle.std.specs.Prelude.{◌≡◌, ◌≤◌, ◌<◌, [], ◌∷◌
 ghost use Rattle.std.specs.Prelude.{slice_get};
 ghost use Rattle.std.specs.Prelude.{slice_index_or};
 ghost use Rattle.pcb_model.specs.declared.item.Item.{Item as OneItem};
-ghost use Rattle.pcb_model.specs.Bounds.{HasClearancesWithin};
 ghost use Rattle.pcb_model.specs.Sound.{IsSound};
-ghost use Rattle.pcb_tiles.specs.Tiling.{IsArea};
 ghost use Rattle.board_offers.specs.declared.offer.Shoved.{Shoved as OneShove};
 ghost use Rattle.board_offers.specs.Items.{is_on};
 ghost use Rattle.board_offers.specs.Given.{AreGiven};
 ghost use Rattle.pcb_board.specs.inner.Turning.{ArePut, IsRangePut, MarksJoin, EndsWithin, AreTurned};
 ghost use Rattle.pcb_board.specs.inner.Turning.{is_marked as marked};
+ghost use Rattle.pcb_board.specs.Snaps.{AreTilesOf};
 
 use crate::answer::Entry;
 use crate::load::empty_tiles;
@@ -103,8 +102,7 @@ pub(crate) fn marked_tiles(
     requires sound { IsSound d.now }
     requires given { AreGiven d.now given.now }
     ensures items { IfOk result (λ t. t.items ≡ filter (λ (a : OneItem). marked marks.now a.id) given.now) }
-    ensures area { IfOk result (λ t. IsArea t.area) }
-    ensures reach { IfOk result (λ t. HasClearancesWithin t.reach d.now) }
+    ensures spread { IfOk result (λ t. AreTilesOf d.now t.area t.reach) }
 {
     let mut tiles = empty_tiles(alloc, d)?;
     for item in given {

@@ -52,14 +52,14 @@ impl Drop for Snap {
 }
 
 impl Model for Snap {
-    ghost use Rattle.pcb_board.specs.Snaps.{IsSnapKept};
+    ghost use Rattle.pcb_board.specs.Snaps.{AreTilesOf};
     ghost use Rattle.pcb_board.specs.Boards.{SnapOf};
 
     ghost Value = { SnapOf };
 
     ghost view = { λ s. record { design = s.design; items = s.tiles.items; number = s.number } };
 
-    ghost invariant = { λ s. IsSnapKept s.tiles s.design };
+    ghost invariant = { λ s. AreTilesOf s.design s.tiles.area s.tiles.reach };
 }
 
 impl Snap {

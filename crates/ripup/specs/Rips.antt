@@ -12,7 +12,6 @@ use Rattle.route_lattice.specs.Walks.{MoveGraph}
 use Rattle.route_lattice.specs.Mesh.{Mesh, node_count}
 use Rattle.route_lattice.specs.Ways.{way, way_count}
 use Rattle.route_lattice.specs.Legal.{IsOpen, probe_at, way_price, CanMove}
-use Rattle.ripup.specs.declared.moves.TheConstants.{MOST_CHARGED}
 
 -- ---- what is in the way
 -- a routed item that disagrees with what the probe of the net stands for
@@ -46,13 +45,13 @@ CountsTo P (suc limit) [] n = n ≡ 0
 CountsTo P (suc limit) (x ∷ xs) n = (P x × (m : ℕ) × (n ≡ m + 1) × CountsTo P limit xs m)
     ⊎ (¬ (P x) × CountsTo P (suc limit) xs n)
 
--- how many items are in the way of a probe, at most MOST_CHARGED; none where there is no probe
+-- how many items are in the way of a probe, at most 16; none where there is no probe
 abbrev pub IsCharged : Design → List Item → ℕ → Option Probe → ℕ → Type 0
 IsCharged d items net None n = n ≡ 0
-IsCharged d items net (Some p) n = CountsTo (IsInWay d net p) MOST_CHARGED items n
+IsCharged d items net (Some p) n = CountsTo (IsInWay d net p) 16 items n
 
 -- ---- moves
--- a move costs its way, and a penalty for each item in its way, of which MOST_CHARGED count at most
+-- a move costs its way, and a penalty for each item in its way, of which 16 count at most
 pub record IsRipPrice (d : Design) (m : Mesh) (items : List Item) (net via_cost penalty node i price : ℕ) : Type 0 where
   pub count : ℕ
   pub counted : IsCharged d items net (probe_at d m net node i) count

@@ -28,9 +28,8 @@ use Rattle.least_offer.specs.Together.{StandTogether}
 use Rattle.route_plan.specs.declared.way.Way.{Way}
 use Rattle.route_plan.specs.inner.Ways.{MakesWayOn}
 use Rattle.route_plan.specs.declared.route.Route.{Route}
-use Rattle.route_plan.specs.Plans.{IsSnapOf, CanPlan, IsShutFrom, IsShutIn}
+use Rattle.route_plan.specs.Plans.{IsSnapOf, CanPlan, IsShutFrom, IsShutIn, IsOfferOf, StandsAt, IsPlanOf}
 use Rattle.route_plan.specs.inner.Routes.{IsRoute, IsPassingOffer, IsPassing}
-use Rattle.route_plan.specs.Plans.{IsOfferOf, StandsAt}
 use Rattle.route_plan.proofs.Offering.{net_at, joins, least}
 use Rattle.route_plan.proofs.Planning.{on_board, number_is, shut_in, split, some_left}
 use Rattle.route_plan.proofs.Routing.{net_walk_of}
@@ -128,7 +127,7 @@ module _ (d : Design) (m : Mesh) (s : SnapOf) (net via_cost : ℕ) (b : BoardOf)
       → MakesWayOn d m s.items (added_from d net 0 route.metals) way
       → IsPassingOffer s.number worker net penalty route way o → LeastMay → ShovesMay → MadeStand → InWayAlike
       → ShovesAlike
-      → IsOfferOf m via_cost b worker net (Some penalty) o
+      → IsOfferOf m via_cost b worker net (Some penalty) o × JoinsLeast m via_cost b o island others
   passing worker penalty island others place route way o can of up few stands first r w is law may stand in_way alike =
       let stands_on : StandsAt b.design b.items o.net place island others =
       subst (λ (n : ℕ). StandsAt b.design b.items n place island others) (sym is.net_is) stands in
@@ -163,15 +162,17 @@ module _ (d : Design) (m : Mesh) (s : SnapOf) (net via_cost : ℕ) (b : BoardOf)
       laid may stand in_way alike way is.rip_is is.shoves_is way_on in
       let chooses : Chooses m b o o.penalty = subst (Chooses m b o) (sym is.penalty_is) makes in
       let is_least = least m via_cost b o island others place route stands_on
-      (λ w. first (omega (arith, w, is.worker_is))) route_on is.from_is is.to_is is.add_is takes chooses in
-      record {
-        base_is = base_on;
-        worker_is = is.worker_is;
-        net_is = is.net_is;
-        penalty_is = is.penalty_is;
-        least = is_least;
-        may = law m via_cost b o of.board up_on of.plain fits_on base worker_on there is_least takes;
-      }
+      (λ w. first (omega (arith, w, is.worker_is))) route_on is.from_is is.to_is is.add_is takes chooses in (
+        record {
+          base_is = base_on;
+          worker_is = is.worker_is;
+          net_is = is.net_is;
+          penalty_is = is.penalty_is;
+          least = is_least;
+          may = law m via_cost b o of.board up_on of.plain fits_on base worker_on there is_least takes;
+        },
+        joins m via_cost b o island others place route stands_on route_on is.from_is is.to_is is.add_is takes,
+      )
 
   -- the first island and the others on the snapshot are those on the board
   pub stands_first : (penalty : Option ℕ) (found others : List Island) (island : Island)
@@ -189,15 +190,24 @@ module _ (d : Design) (m : Mesh) (s : SnapOf) (net via_cost : ℕ) (b : BoardOf)
       → CanPlan d m s net via_cost (Some penalty) → IsSnapOf s b → Ascends s.items → worker ≤ 16
       → AreIslands d s.items net found → slice_get found 0 ≡ Some island → others ≡ remove found 0
       → IsPassing d m s via_cost worker penalty island others o
-      → LeastMay → ShovesMay → MadeStand → InWayAlike → ShovesAlike → IsOfferOf m via_cost b worker net (Some penalty) o
+      → LeastMay → ShovesMay → MadeStand → InWayAlike → ShovesAlike → IsPlanOf m via_cost b worker net (Some penalty) o
   passing_first worker penalty found others island o can of up few islands first rest h law may stand in_way alike =
       let stands = stands_first (Some penalty) found others island can of islands first rest in
       let own : island.net ≡ net = net_at b.design b.items net 0 island others stands in
-      passing worker penalty island others 0 h.route h.way o can of up few stands (λ w. refl)
+      let made = passing worker penalty island others 0 h.route h.way o can of up few stands (λ w. refl)
       (subst (λ (n : ℕ). IsRoute d m s.items n via_cost (Some penalty) island others h.route) own h.is_route)
       (subst (λ (n : ℕ). MakesWayOn d m s.items (added_from d n 0 h.route.metals) h.way) own h.makes_way)
       (subst (λ (n : ℕ). IsPassingOffer s.number worker n penalty h.route h.way o) own h.offer_is) law may stand
-      in_way alike
+      in_way alike in
+      record {
+        offer = made.0;
+        first = island;
+        others = others;
+        islands = split b.design b.items net found others island
+            (on_board d m s net via_cost b (λ d xs. AreIslands d xs net found) can.own of islands) first rest;
+        joins = made.1;
+        takes = λ e. absurd (none_some penalty (sym e));
+      }
 
   -- where the first island is shut, so is the net
   pub shut_first : (penalty : Option ℕ) (found others : List Island) (island : Island) (nodes : List ℕ)

@@ -14,13 +14,13 @@ use Rattle.pcb_model.specs.Plain.{IsPlainCopper}
 use Rattle.board_offers.specs.declared.offer.Offer.{Offer}
 use Rattle.pcb_board.specs.Boards.{BoardOf, SnapOf}
 use Rattle.pcb_board.specs.Keeping.{IsBoard}
-use Rattle.least_offer.specs.Least.{IsLeastOffer, TakesNothing, MayBeMade, Chooses}
+use Rattle.least_offer.specs.Least.{IsLeastOffer, JoinsLeast, TakesNothing, MayBeMade, Chooses}
 use Rattle.route_plan.specs.declared.route.Route.{Route}
 use Rattle.route_plan.specs.Plans.{IsSnapOf, CanPlan, IsWhole, IsShutFrom, IsShutIn, IsOfferOf}
 use Rattle.route_plan.specs.inner.Routes.{IsRoute, IsBareOffer}
 use Rattle.route_plan.specs.Plans.{StandsAt, LeadsFrom}
 use Rattle.route_plan.specs.declared.plans.Led.{Led}
-use Rattle.route_plan.proofs.Offering.{least, net_at}
+use Rattle.route_plan.proofs.Offering.{joins, least, net_at}
 
 pub can_move : (d : Design) (m : Mesh) (s : SnapOf) (net via_cost : ℕ) (penalty : Option ℕ)
     → CanPlan d m s net via_cost penalty → CanMove d m net via_cost
@@ -58,7 +58,7 @@ module _ (d : Design) (m : Mesh) (s : SnapOf) (net via_cost : ℕ) (b : BoardOf)
       → FitsDesign b.design m → o.base ≤ length b.history
       → o.worker ≤ 16 → o.net < length b.design.nets → IsLeastOffer m via_cost b o
       → (o.penalty ≡ None → TakesNothing o) → MayBeMade b o)
-      → IsOfferOf m via_cost b worker net None o
+      → IsOfferOf m via_cost b worker net None o × JoinsLeast m via_cost b o island others
   legal_offer worker island others place route o base can of up few stands first r base_is bare law =
       let stands_on : StandsAt b.design b.items o.net place island others = subst
       (λ (n : ℕ). StandsAt b.design b.items n place island others) (sym bare.net_is) stands in
@@ -71,18 +71,21 @@ module _ (d : Design) (m : Mesh) (s : SnapOf) (net via_cost : ℕ) (b : BoardOf)
       let is_least = least m via_cost b o island others place route stands_on first_on route_on bare.from_is bare.to_is
       bare.add_is (λ e. bare.takes) chooses in
       let base_on : o.base ≡ length b.history = bare.base_is ∙ base_is ∙ number_is of in
-      let up_on : Ascends b.items = on_board (λ d xs. Ascends xs) can.own of up in
-      record {
-        base_is = base_on;
-        worker_is = bare.worker_is;
-        net_is = bare.net_is;
-        penalty_is = bare.penalty_is;
-        least = is_least;
-        may = law m via_cost b o of.board up_on of.plain (on_board (λ d xs. FitsDesign d m) can.own of can.fits)
-            (omega (arith, base_on)) (omega (arith, few, bare.worker_is))
-            (subst (λ (n : ℕ). n < length b.design.nets) (sym bare.net_is)
-            (on_board (λ d xs. net < length d.nets) can.own of can.net_there)) is_least (λ e. bare.takes);
-      }
+      let up_on : Ascends b.items = on_board (λ d xs. Ascends xs) can.own of up in (
+        record {
+          base_is = base_on;
+          worker_is = bare.worker_is;
+          net_is = bare.net_is;
+          penalty_is = bare.penalty_is;
+          least = is_least;
+          may = law m via_cost b o of.board up_on of.plain (on_board (λ d xs. FitsDesign d m) can.own of can.fits)
+              (omega (arith, base_on)) (omega (arith, few, bare.worker_is))
+              (subst (λ (n : ℕ). n < length b.design.nets) (sym bare.net_is)
+              (on_board (λ d xs. net < length d.nets) can.own of can.net_there)) is_least (λ e. bare.takes);
+        },
+        joins m via_cost b o island others place route stands_on route_on bare.from_is bare.to_is bare.add_is
+            (λ e. bare.takes),
+      )
 
   -- the first island and the others on the snapshot are those on the board
   pub first_stands : (found others : List Island) (island : Island) → CanPlan d m s net via_cost None → IsSnapOf s b

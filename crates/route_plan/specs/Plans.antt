@@ -21,7 +21,7 @@ use Rattle.route_plan.specs.declared.plans.Led.{Led}
 use Rattle.route_plan.specs.declared.plans.Led.TheVariants as led
 use Rattle.route_plan.specs.declared.plans.Planned.{Planned}
 use Rattle.route_plan.specs.declared.plans.Planned.TheVariants as planned
-use Rattle.least_offer.specs.Least.{IsLeastOffer, MayBeMade, TakesNothing}
+use Rattle.least_offer.specs.Least.{IsLeastOffer, MayBeMade, TakesNothing, JoinsLeast}
 
 -- the snapshot is one of a board of a sound design of plain copper
 pub record IsSnapOf (s : SnapOf) (b : BoardOf) : Type 0 where
@@ -81,6 +81,17 @@ pub record IsOfferOf (m : Mesh) (via_cost : ℕ) (b : BoardOf) (worker net : ℕ
   pub least : IsLeastOffer m via_cost b o
   pub may : MayBeMade b o
 
+-- the plan of a net by any worker, that of the closing pass included: such an offer from the first island to another,
+-- which takes nothing out without a penalty
+pub record IsPlanOf (m : Mesh) (via_cost : ℕ) (b : BoardOf) (worker net : ℕ) (penalty : Option ℕ)
+    (o : Offer) : Type 0 where
+  pub offer : IsOfferOf m via_cost b worker net penalty o
+  pub first : Island
+  pub others : List Island
+  pub islands : AreIslands b.design b.items net (first ∷ others)
+  pub joins : JoinsLeast m via_cost b o first others
+  pub takes : penalty ≡ None → TakesNothing o
+
 -- the island stands at this place among those of the net, and the others are the rest of them
 pub record StandsAt (d : Design) (items : List Item) (net place : ℕ) (island : Island)
     (others : List Island) : Type 0 where
@@ -89,18 +100,17 @@ pub record StandsAt (d : Design) (items : List Item) (net place : ℕ) (island :
   pub island_is : slice_get found place ≡ Some island
   pub others_are : others ≡ remove found place
 
--- a least offer without a penalty that may be made; or no legal walk leads from the island to one of the others, and
--- these are all nodes
--- that legal moves reach from its legal anchors
+-- a least offer from the island to one of the others without a penalty that may be made; or no legal walk leads so, and
+-- these are all nodes that legal moves reach from the island's legal anchors
 abbrev pub LeadsFrom : Mesh → ℕ → BoardOf → ℕ → Island → List Island → Led → Type 0
 LeadsFrom m via_cost b worker island others (led.Offer o) = IsOfferOf m via_cost b worker island.net None o
-    × TakesNothing o
+    × TakesNothing o × JoinsLeast m via_cost b o island others
 LeadsFrom m via_cost b worker island others (led.Shut reach) =
     IsShutFrom b.design m b.items island.net via_cost None island others reach.nodes
 
 -- the plan of a net on a board
 abbrev pub Plans : Mesh → ℕ → BoardOf → ℕ → ℕ → Option ℕ → Planned → Type 0
-Plans m via_cost b worker net penalty (planned.Offer o) = IsOfferOf m via_cost b worker net penalty o
+Plans m via_cost b worker net penalty (planned.Offer o) = IsPlanOf m via_cost b worker net penalty o
 Plans m via_cost b worker net penalty
     (planned.Shut reach) = IsShutIn b.design m b.items net via_cost penalty reach.nodes
 Plans m via_cost b worker net penalty planned.Whole = IsWhole b.design b.items net

@@ -3,3 +3,4 @@ pub mod Counted
 pub mod Tallied
 pub mod Stretched
 pub mod Lasts
+pub mod Longest

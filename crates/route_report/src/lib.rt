@@ -8,3 +8,4 @@ mod stretches;
 mod words;
 
 pub use report::report_text;
+pub use stretches::stretches_are_longest;

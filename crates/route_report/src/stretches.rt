@@ -1,9 +1,10 @@
 //! Stretches: nodes that stand one after another on one row of the lattice.
 
-ghost use Rattle.std.specs.Prelude.{◌≡◌, ◌/◌, ◌%◌, OnOk};
+ghost use Rattle.std.specs.Prelude.{◌≡◌, ◌/◌, ◌%◌, ℕ, List as Seq, OnOk, flat_map};
 ghost use Rattle.ses_writer.specs.Words.{Appends};
-ghost use Rattle.route_lattice.specs.Mesh.{column as column_in};
+ghost use Rattle.route_lattice.specs.Mesh.{Mesh, column as column_in};
 ghost use Rattle.route_report.specs.Report.{stretch_line, goes_on as goes_on_in, stretches_from, stretch_lines};
+ghost use Rattle.route_report.specs.Stretches.{Stretch, AreLongest, line_of};
 
 use crate::words::{put_counted, put_pair};
 use route_lattice::Lattice;
@@ -71,6 +72,13 @@ fn put_stretches_from(
     }
     put_stretch(out, lat, first, last)
 }
+
+/// The lines of stretches are those of the longest ones: the nodes, in order, are stretches of which each goes on from
+/// node to node of one row, and none to the next stretch. A law, on a call that does nothing.
+pub fn stretches_are_longest()
+    ensures { (m : Mesh) (nodes : Seq ℕ) → (stretches : Seq Stretch) × AreLongest m nodes stretches
+        × (stretch_lines m nodes ≡ flat_map (line_of m) stretches) }
+{}
 
 /// A line for each longest stretch of nodes of one row.
 pub(crate) fn put_stretches(

@@ -1,7 +1,7 @@
 -- One pass more.
 use Rattle.std.proofs.Common.{◌≡◌, ◌∙◌, ◌+◌, ◌≤◌, ◌<◌, ℕ, sym, ap, subst, arith, List, []}
 use Rattle.std.proofs.Common.{◌∷◌, ◌++◌, length, Option, Some, inl, inr}
-use Rattle.std.specs.Prelude.{Bool, IfSome, slice_get, sum_by}
+use Rattle.std.specs.Prelude.{Bool, IfSome, IsTrue, not, slice_get, sum_by}
 use Rattle.std.proofs.Math.Seq.{take-length}
 use Rattle.std.proofs.lemmas.Bool.{cases_lt}
 use Rattle.std.proofs.lemmas.List.{length-append, take-append-le}
@@ -23,11 +23,11 @@ use Rattle.pcb_board.proofs.Prefix.{board_before, board_whole}
 use Rattle.route_lattice.specs.Mesh.{Mesh}
 use Rattle.least_offer.specs.Least.{IsLeastOffer}
 use Rattle.route_plan.specs.Plans.{IsWhole}
-use Rattle.searcher_pool.specs.Passes.{Between, IsJoinOf, IsShutOn, IsSpent, PassOf}
+use Rattle.searcher_pool.specs.Passes.{Between, IsJoinOf, IsPassed, IsShutOn, IsSpent, PassOf}
 use Rattle.searcher_pool.specs.Passes.{Grows as GrowsBy}
 use Rattle.route_run.specs.declared.facts.PassLine.{PassLine}
 use Rattle.route_run.specs.declared.passes.Made.{Made}
-use Rattle.route_run.specs.Runs.{AreLeast, ArePasses, AreTooLate, HasSeveral, IsOpenCount, IsPass}
+use Rattle.route_run.specs.Runs.{AreLeast, ArePasses, AreTooLate, HadRoom, HasSeveral, IsOpenCount, IsPass}
 use Rattle.route_run.specs.Runs.{IsWorkedOff, RunOf, entries_after, pass_at}
 use Rattle.route_run.specs.declared.passes.Stand.{Stand}
 use Rattle.route_run.specs.inner.Passing.{AreOpenOn, HasPassed, IsMade, IsOneMore, IsReady, MayFollow}
@@ -66,14 +66,15 @@ module _ (b c : BoardOf) (grows : Grows b c) where
     holds = subst P (sym (same_before w.at (omega (arith, w.early, le)))) w.holds;
   }
 
-  late_on : (m : Mesh) (via_cost : ℕ) (penalty : Option ℕ) (to net floor : ℕ) (entries : List ℕ)
-      → to ≤ length b.history → AreTooLate m via_cost penalty b to net floor entries
-      → AreTooLate m via_cost penalty c to net floor entries
-  late_on m via_cost penalty to net floor [] le all = tt
-  late_on m via_cost penalty to net floor (entry ∷ entries) le all =
+  late_on : (m : Mesh) (via_cost workers : ℕ) (penalty : Option ℕ) (to net floor : ℕ) (entries : List ℕ)
+      → to ≤ length b.history → AreTooLate m via_cost workers penalty b to net floor entries
+      → AreTooLate m via_cost workers penalty c to net floor entries
+  late_on m via_cost workers penalty to net floor [] le all = tt
+  late_on m via_cost workers penalty to net floor (entry ∷ entries) le all =
       let l = all.0 in (
         record {
           offer = l.offer;
+          worker_is = l.worker_is;
           net_is = l.net_is;
           penalty_is = l.penalty_is;
           least = subst (λ (x : BoardOf). IsLeastOffer m via_cost x l.offer)
@@ -88,7 +89,7 @@ module _ (b c : BoardOf) (grows : Grows b c) where
           answered = subst (λ (x : BoardOf). Step x l.offer (Stale l.item entry) l.next)
               (sym (same_before l.at (omega (arith, l.early, le)))) l.answered;
         },
-        late_on m via_cost penalty to net entry entries le all.1,
+        late_on m via_cost workers penalty to net entry entries le all.1,
       )
 
   worked_on : (p : PassOf) (from to net : ℕ) → to ≤ length b.history → IsWorkedOff p b from to net
@@ -102,7 +103,7 @@ module _ (b c : BoardOf) (grows : Grows b c) where
     several_workers = late.several_workers;
     entries = late.entries;
     eight = late.eight;
-    each = late_on p.lattice p.via_cost p.penalty to net from late.entries le late.each;
+    each = late_on p.lattice p.via_cost p.workers p.penalty to net from late.entries le late.each;
   })))
 
   -- a pass stays one
@@ -118,6 +119,18 @@ module _ (b c : BoardOf) (grows : Grows b c) where
         (sym (same_before (from + line.commits) is.there)) is.leaves;
   }
 
+  -- so does what its logs tell
+  room_on : (p : PassOf) (from to : ℕ) → from ≤ to → to ≤ length b.history → HadRoom p b from to → HadRoom p c from to
+  room_on p from to order le h = record {
+    tasks = h.tasks;
+    logs = h.logs;
+    passed = subst (λ (x : BoardOf). IsPassed (record p { tasks = h.tasks }) x (board_at c to) h.logs)
+        (sym (same_before from (omega (arith, order, le))))
+        (subst (λ (x : BoardOf). IsPassed (record p { tasks = h.tasks }) (board_at b from) x h.logs)
+        (sym (same_before to le)) h.passed);
+    room = h.room;
+  }
+
   pub passes_on : (m : Mesh) (r : RunOf) (lines : List PassLine) → ArePasses m r b lines → ArePasses m r c lines
   passes_on m r lines are = record {
     few = are.few;
@@ -126,6 +139,8 @@ module _ (b c : BoardOf) (grows : Grows b c) where
         (are.each k line at);
     goes_on = are.goes_on;
     moves = are.moves;
+    room = λ k line at lt. room_on (pass_at m r.via_cost r.workers (k + 1)) (entries_after lines k)
+        (entries_after lines k + line.commits) (omega arith) (are.each k line at).there (are.room k line at lt);
   }
 
   -- where the further joins are least, all are
@@ -208,6 +223,7 @@ passed_none m r b kept new = record {
     each = λ k line at. absurd (let w = slice_get_within {A = PassLine} [] k line at in omega (arith, w));
     goes_on = λ k line at. absurd (let w = slice_get_within {A = PassLine} [] k line at in omega (arith, w));
     moves = λ k line at. absurd (let w = slice_get_within {A = PassLine} [] k line at in omega (arith, w));
+    room = λ k line at. absurd (let w = slice_get_within {A = PassLine} [] k line at in omega (arith, w));
   };
   least = record {
     each = λ n o first after at. absurd
@@ -217,7 +233,7 @@ passed_none m r b kept new = record {
 }
 
 module _ (m : Mesh) (r : RunOf) (b : BoardOf) (lines : List PassLine) (made : Made) (has : HasPassed m r b lines)
-    (follow : MayFollow lines) (room : length lines < r.passes)
+    (follow : MayFollow m r b lines) (room : length lines < r.passes)
     (is : IsMade (pass_at m r.via_cost r.workers (length lines + 1)) b made) where
   abbrev The : ℕ → PassOf
   The k = pass_at m r.via_cost r.workers (k + 1)
@@ -243,15 +259,34 @@ module _ (m : Mesh) (r : RunOf) (b : BoardOf) (lines : List PassLine) (made : Ma
         (made_pass (The (length lines)) b made has.board is)))
   ]
 
+  -- what stands of an earlier pass on the board before stands on the later one
+  room_more : (k : ℕ) (l : PassLine) → slice_get lines k ≡ Some l
+      → HadRoom (The k) b (entries_after lines k) (entries_after lines k + l.commits)
+      → HadRoom (The k) made.board (entries_after (lines ++ made.line ∷ []) k)
+      (entries_after (lines ++ made.line ∷ []) k + l.commits)
+  room_more k l there had =
+      let within = slice_get_within lines k l there in
+      subst (λ from. HadRoom (The k) made.board from (from + l.commits))
+      (sym (entries_before lines made.line k (omega (arith, within))))
+      (room_on b made.board grows (The k) (entries_after lines k) (entries_after lines k + l.commits) (omega arith)
+      (has.passes.each k l there).there had)
+
   goes_on_more : (k : ℕ) (l : PassLine) → slice_get (lines ++ made.line ∷ []) k ≡ Some l
       → k + 1 < length (lines ++ made.line ∷ []) → (0 < l.parted) × (0 < k → 0 < l.commits)
+      × HadRoom (The k) made.board (entries_after (lines ++ made.line ∷ []) k)
+      (entries_after (lines ++ made.line ∷ []) k + l.commits)
   goes_on_more k l at before =
       let count = one_more lines made.line in
       elim (look_last lines made.line k l at) [
         | inr last ↦ absurd (omega (arith, before, count, last.0))
         | inl there ↦ elim (cases_lt (k + 1) (length lines)) [
-          | inl lt ↦ (has.passes.goes_on k l there lt, λ some. has.passes.moves k l there some lt)
-          | inr ge ↦ follow k l there (omega (arith, ge, before, count))
+          | inl lt ↦ (
+            has.passes.goes_on k l there lt,
+            λ some. has.passes.moves k l there some lt,
+            room_more k l there (has.passes.room k l there lt),
+          )
+          | inr ge ↦
+              let f = follow k l there (omega (arith, ge, before, count)) in (f.0, f.1, room_more k l there f.2)
         ]
       ]
 
@@ -264,18 +299,54 @@ module _ (m : Mesh) (r : RunOf) (b : BoardOf) (lines : List PassLine) (made : Ma
       each = each_more;
       goes_on = λ k l at before. (goes_on_more k l at before).0;
       moves = λ k l at some before. (goes_on_more k l at before).1 some;
+      room = λ k l at before. (goes_on_more k l at before).2;
     };
     least = least_on b made.board grows m r.via_cost has.least is.nets.least;
     no_more = (let more = entries_more lines made.line in omega (arith, more, is.commits, has.no_more));
   }
 
+  -- where a further pass may follow the one that was made
+  follow_last : (0 < made.line.parted) → (0 < length lines → 0 < made.line.commits) → IsTrue (not made.full)
+      → MayFollow m r made.board (lines ++ made.line ∷ [])
+  follow_last more moved other k l at end = elim (look_last lines made.line k l at) [
+    | inl there ↦ absurd
+        (let w = slice_get_within lines k l there in
+        let count = one_more lines made.line in
+        omega (arith, w, end, count))
+    | inr last ↦
+        let start : length b.history ≡ entries_after (lines ++ made.line ∷ []) k =
+        has.no_more ∙ (sym (entries_before lines made.line (length lines) (omega arith))
+        ∙ ap (entries_after (lines ++ made.line ∷ [])) (sym last.0)) in
+        let had : HadRoom (The (length lines)) made.board (length b.history) (length b.history + made.line.commits) =
+        subst (HadRoom (The (length lines)) made.board (length b.history)) (sym is.commits) (is.nets.room other) in
+        subst (λ (x : PassLine). (0 < x.parted) × (0 < k → 0 < x.commits)
+        × HadRoom (The k) made.board (entries_after (lines ++ made.line ∷ []) k)
+        (entries_after (lines ++ made.line ∷ []) k + x.commits)) last.1 (
+          more,
+          λ some. moved (omega (arith, some, last.0)),
+          subst (λ from. HadRoom (The k) made.board from (from + made.line.commits)) start
+              (subst (λ i. HadRoom (The i) made.board (length b.history) (length b.history + made.line.commits))
+              (sym last.0) had),
+        )
+  ]
+
 -- so it is with the pass of the next number
 pub pass_more : (m : Mesh) (r : RunOf) (b : BoardOf) (lines : List PassLine) (made : Made) (number : ℕ)
-    → HasPassed m r b lines → MayFollow lines → length lines ≡ number → number < r.passes
+    → HasPassed m r b lines → MayFollow m r b lines → length lines ≡ number → number < r.passes
     → IsMade (pass_at m r.via_cost r.workers (number + 1)) b made → HasPassed m r made.board (lines ++ made.line ∷ [])
 pass_more m r b lines made number has follow count room is =
     more_passed m r b lines made has follow (omega (arith, count, room))
     (subst (λ (k : ℕ). IsMade (pass_at m r.via_cost r.workers (k + 1)) b made) (sym count) is)
+
+pub follow_more : (m : Mesh) (r : RunOf) (b : BoardOf) (lines : List PassLine) (made : Made) (number : ℕ)
+    → HasPassed m r b lines → MayFollow m r b lines → length lines ≡ number → number < r.passes
+    → IsMade (pass_at m r.via_cost r.workers (number + 1)) b made → (0 < made.line.parted)
+    → (0 < number → 0 < made.line.commits) → IsTrue (not made.full)
+    → MayFollow m r made.board (lines ++ made.line ∷ [])
+follow_more m r b lines made number has follow count room is more moved other =
+    follow_last m r b lines made has follow (omega (arith, count, room))
+    (subst (λ (k : ℕ). IsMade (pass_at m r.via_cost r.workers (k + 1)) b made) (sym count) is) more
+    (λ some. moved (omega (arith, some, count))) other
 
 -- ---- where passes stand behind it
 module _ (p : PassOf) (number : ℕ) (old : BoardOf) (lines : List PassLine) (new : Stand) (more_lines : List PassLine)

@@ -34,19 +34,8 @@ use Rattle.route_run.proofs.Best.{no_line}
 use Rattle.route_run.proofs.Passing.{least_on, passes_on}
 
 -- ---- whether a pass follows
-pub follow_more : (lines : List PassLine) (line : PassLine) → (0 < line.parted)
-    → (1 < length lines + 1 → 0 < line.commits) → MayFollow (lines ++ line ∷ [])
-follow_more lines line more moved k l at last = elim (look_last lines line k l at) [
-  | inl there ↦ absurd
-      (let w = slice_get_within lines k l there in
-      let count = length-append lines (line ∷ []) in
-      omega (arith, w, last, count))
-  | inr here ↦ subst (λ (x : PassLine). (0 < x.parted) × (0 < k → 0 < x.commits)) here.1
-      (more, λ some. moved (omega (arith, some, here.0)))
-]
-
-pub follow_none : MayFollow []
-follow_none k line at = absurd (let w = slice_get_within {A = PassLine} [] k line at in omega (arith, w))
+pub follow_none : (m : Mesh) (r : RunOf) (b : BoardOf) → MayFollow m r b []
+follow_none m r b k line at = absurd (let w = slice_get_within {A = PassLine} [] k line at in omega (arith, w))
 
 -- where none may follow the last one they have ended
 pub ended_by : (m : Mesh) (r : RunOf) (b : BoardOf) (lines : List PassLine) (line : PassLine) (full : Bool)

@@ -1,7 +1,7 @@
 -- From what a pass tells to how each net was worked off, for any number of workers.
 use Rattle.std.proofs.Common.{◌≡◌, ◌∙◌, ◌+◌, ◌≤◌, ◌<◌, ℕ, Bool, true, false, cond, zero, suc, refl, sym, ap, subst}
-use Rattle.std.proofs.Common.{arith, List, [], ◌∷◌, length, Option, Some, inl, inr, All, Contains}
-use Rattle.std.specs.Prelude.{AllPairs, IfSome, IsTrue, eqb, slice_get}
+use Rattle.std.proofs.Common.{arith, List, [], ◌∷◌, length, Option, Some, inl, inr, All, Contains, true≢false}
+use Rattle.std.specs.Prelude.{AllPairs, IfSome, IsTrue, eqb, not, slice_get}
 use Rattle.std.proofs.lemmas.Bool.{cases_lt, eqb-true, lt-ltb}
 use Rattle.std.proofs.lemmas.List.Elements.{All-contains, All-head, All-tail}
 use Rattle.std.proofs.lemmas.Option.{slice_get-get_or}
@@ -12,14 +12,15 @@ use Rattle.pcb_board.specs.declared.answer.Answer.{Answer}
 use Rattle.pcb_board.specs.declared.answer.Answer.TheVariants.{Committed, Stale, Wrong, Malformed, Full}
 use Rattle.pcb_board.specs.Boards.{BoardOf, board_at}
 use Rattle.pcb_board.specs.Keeping.{IsBoard}
+use Rattle.pcb_board.specs.Keeping.{Grows as Later}
 use Rattle.pcb_board.specs.Answers.{Step}
-use Rattle.pcb_board.proofs.Prefix.{board_whole}
+use Rattle.pcb_board.proofs.Prefix.{board_before, board_whole}
 use Rattle.least_offer.specs.Least.{IsLeastOffer}
 use Rattle.board_turn.specs.Claims.{one_if, times}
 use Rattle.searcher_pool.specs.declared.log.OfferNote.{OfferNote}
 use Rattle.searcher_pool.specs.declared.log.WorkerLog.{WorkerLog}
 use Rattle.searcher_pool.specs.Passes.{AreAmong, EndsPlace, EndsTask, IsFullAnswer, IsLog, IsPassed, IsSpent, IsStale}
-use Rattle.searcher_pool.specs.Passes.{IsStaleOf, IsTold, PassOf, claimed, named}
+use Rattle.searcher_pool.specs.Passes.{IsStaleOf, IsTold, MetFull, PassOf, claimed, named}
 use Rattle.route_run.specs.declared.passes.Made.{Made}
 use Rattle.route_run.specs.Runs.{AreTooLate, IsOpenCount, IsTooLate, IsWorkedOff}
 use Rattle.route_run.specs.inner.Passing.{AreOpenNets, AreWorkedOff, IsMade, IsMadeAfter}
@@ -61,24 +62,25 @@ Fresh a b = named a.answer ≤ b.offer.base
 abbrev From : ℕ → OfferNote → Type 0
 From floor n = floor ≤ n.offer.base
 
-module _ (p : PassOf) (old new : BoardOf) (worker : ℕ) (drawn : List ℕ) (net : ℕ) where
+module _ (p : PassOf) (old new : BoardOf) (worker : ℕ) (few : worker < p.workers) (drawn : List ℕ) (net : ℕ) where
   abbrev Told : OfferNote → Type 0
   Told = IsTold p old new worker drawn
 
   record Late (floor : ℕ) (tries : List OfferNote) : Type 0 where
     entries : List ℕ
     all : length entries ≡ length tries
-    each : AreTooLate p.lattice p.via_cost p.penalty new (length new.history) net floor entries
+    each : AreTooLate p.lattice p.via_cost p.workers p.penalty new (length new.history) net floor entries
 
   -- an offer came too late for the commit that its note names
   too_late : (floor : ℕ) (n : OfferNote) (a : Answer) → n.answer ≡ a → IsStale a → n.offer.net ≡ net → Told n
       → floor ≤ n.offer.base
-      → IsTooLate p.lattice p.via_cost p.penalty new (length new.history) net floor (named a)
+      → IsTooLate p.lattice p.via_cost p.workers p.penalty new (length new.history) net floor (named a)
   too_late floor n (Stale item commit) is stale net_is told from =
       let step : Step (board_at new told.at) n.offer (Stale item commit) told.next =
       subst (λ (a : Answer). Step (board_at new told.at) n.offer a told.next) is told.answered in
       record {
         offer = n.offer;
+        worker_is = (let is = told.worker_is in omega (arith, is, few));
         net_is = net_is;
         penalty_is = told.penalty_is;
         least = told.least;
@@ -160,7 +162,8 @@ worked_off p old new logs some kept passed place net is within =
         inr (inr (inl (subst IsSpent (sym (board_whole new kept)) spent)))
     by h log (inr (inr (inl stales))) = elim (cases_lt 1 p.workers) [
       | inl several ↦
-          let l = all_late p old new h.log.worker h.log.tasks net (length old.history) stales.tries h.log.notes
+          let l = all_late p old new h.log.worker log.worker_below h.log.tasks net (length old.history) stales.tries
+          h.log.notes
           (λ k d lt. (log.told k d lt).begun) log.told log.fresh stales.stale stales.among in
           inr (inr (inr (record {
             several_workers = several;
@@ -174,15 +177,36 @@ worked_off p old new logs some kept passed place net is within =
           (passed.prompt (omega (arith, one, some))) h.there))
     ]
 
+-- one is true and the other isn't
+never_both : (b : Bool) → IsTrue b → IsTrue (not b) → ⊥
+never_both true t n = true≢false (sym n)
+never_both false t n = true≢false (sym t)
+
+-- the boards of a pass are those after the entries that stood before it, and after its own
+at_ends : (p : PassOf) (old new : BoardOf) (logs : List WorkerLog) → IsBoard old → IsBoard new → IsPassed p old new logs
+    → IsPassed p (board_at new (length old.history)) (board_at new (length new.history)) logs
+at_ends p old new logs before kept passed =
+    let grows : Later old new = record {
+      design_stays = passed.grows.design;
+      start_stays = passed.grows.start;
+      cap_stays = passed.grows.cap;
+      entries = passed.grows.entries;
+      history_is = passed.grows.history;
+    } in
+    let first : board_at new (length old.history) ≡ old =
+    board_before old new (length old.history) grows (omega arith) ∙ board_whole old before in
+    subst (λ (b : BoardOf). IsPassed p b (board_at new (length new.history)) logs) (sym first)
+    (subst (λ (b : BoardOf). IsPassed p old b logs) (sym (board_whole new kept)) passed)
+
 -- a pass over all nets with several islands
 pub worked_from : (p : PassOf) (old new : BoardOf) (full : Bool) (logs : List WorkerLog) (count : ℕ) → 0 < p.workers
-    → IsBoard new → IsPassed p old new logs
+    → IsBoard old → IsBoard new → IsPassed p old new logs
     → ((n : ℕ) (o : Offer) (first after : ℕ) → length old.history ≤ n
     → slice_get new.history n ≡ Some (Join o first after)
     → (o.base ≤ n) × IsLeastOffer p.lattice p.via_cost (board_at new o.base) o)
     → AreOpenNets old.design old.items (length old.design.nets) p.tasks count → (IsTrue full → IsSpent new)
-    → AreWorkedOff (record p { tasks = [] }) old new full
-worked_from p old new full logs count some kept passed least open_nets spent = record {
+    → (MetFull logs → IsTrue full) → AreWorkedOff (record p { tasks = [] }) old new full
+worked_from p old new full logs count some before kept passed least open_nets spent met = record {
   grows = record {
     design = passed.grows.design;
     start = passed.grows.start;
@@ -198,6 +222,12 @@ worked_from p old new full logs count some kept passed least open_nets spent = r
       (slice_get-get_or p.tasks task.0 net task.1 ∙ ap (λ (x : ℕ). Some x) task.2) task.1;
   least = least;
   spent = spent;
+  room = λ other. record {
+    tasks = p.tasks;
+    logs = logs;
+    passed = at_ends p old new logs before kept passed;
+    room = λ is. never_both full (met is) other;
+  };
 }
 
 -- with its line that is a pass that was made

@@ -17,10 +17,11 @@ use Rattle.least_offer.specs.Least.{IsLeastOffer}
 use Rattle.route_plan.specs.Plans.{IsWhole}
 use Rattle.cut_certificate.specs.declared.cut.Cut.{Cut}
 use Rattle.closing_pass.specs.Closing.{Closes, AreEnds}
-use Rattle.searcher_pool.specs.Passes.{PassOf, Between, IsJoinOf, IsShutOn, IsSpent}
+use Rattle.searcher_pool.specs.Passes.{PassOf, Between, IsJoinOf, IsShutOn, IsSpent, IsPassed, MetFull}
 use Rattle.route_run.specs.declared.facts.PassLine.{PassLine}
 use Rattle.route_run.specs.declared.facts.Facts.{Facts}
 use Rattle.route_lattice.specs.Fits.{FitsDesign}
+use Rattle.searcher_pool.specs.declared.log.WorkerLog.{WorkerLog}
 
 -- what a run goes by: the price of a via in nm, how many workers there are, and how many passes there may be
 pub record RunOf : Type 0 where
@@ -46,11 +47,12 @@ pub record IsOpenCount (d : Design) (items : List Item) (count : ℕ) : Type 0 w
   pub sum_is : count ≡ sum_by (λ (own : List Island). length own - 1) found
 
 -- ---- how a net is worked off, between two numbers of entries
--- A least offer for the net came too late for the entry with this number: it rests on a board from `floor` on and
--- before that entry, and a board up to the pass's end answers so.
-pub record IsTooLate (m : Mesh) (via_cost : ℕ) (penalty : Option ℕ) (b : BoardOf) (to net floor entry : ℕ) : Type
-    0 where
+-- A least offer of a worker of the pass for the net came too late for the entry with this number: it rests on a board
+-- from `floor` on and before that entry, and a board up to the pass's end answers so.
+pub record IsTooLate (m : Mesh) (via_cost workers : ℕ) (penalty : Option ℕ) (b : BoardOf)
+    (to net floor entry : ℕ) : Type 0 where
   pub offer : Offer
+  pub worker_is : offer.worker < workers
   pub net_is : offer.net ≡ net
   pub penalty_is : offer.penalty ≡ penalty
   pub least : IsLeastOffer m via_cost (board_at b offer.base) offer
@@ -64,10 +66,11 @@ pub record IsTooLate (m : Mesh) (via_cost : ℕ) (penalty : Option ℕ) (b : Boa
   pub answered : Step (board_at b at) offer (Stale item entry) next
 
 -- offers one after another, each too late for its entry
-abbrev pub AreTooLate : Mesh → ℕ → Option ℕ → BoardOf → ℕ → ℕ → ℕ → List ℕ → Type 0
-AreTooLate m via_cost penalty b to net floor [] = Unit {0}
-AreTooLate m via_cost penalty b to net floor (entry ∷ entries) =
-    IsTooLate m via_cost penalty b to net floor entry × AreTooLate m via_cost penalty b to net entry entries
+abbrev pub AreTooLate : Mesh → ℕ → ℕ → Option ℕ → BoardOf → ℕ → ℕ → ℕ → List ℕ → Type 0
+AreTooLate m via_cost workers penalty b to net floor [] = Unit {0}
+AreTooLate m via_cost workers penalty b to net floor (entry ∷ entries) =
+    IsTooLate m via_cost workers penalty b to net floor entry
+    × AreTooLate m via_cost workers penalty b to net entry entries
 
 -- with several workers, eight of them
 pub record WasTooLate (m : Mesh) (via_cost workers : ℕ) (penalty : Option ℕ) (b : BoardOf) (from to net : ℕ) : Type
@@ -75,7 +78,7 @@ pub record WasTooLate (m : Mesh) (via_cost workers : ℕ) (penalty : Option ℕ)
   pub several_workers : 1 < workers
   pub entries : List ℕ
   pub eight : length entries ≡ 8
-  pub each : AreTooLate m via_cost penalty b to net from entries
+  pub each : AreTooLate m via_cost workers penalty b to net from entries
 
 -- on some board the net has at most one island; or no walk leads on from its first one; or at the end the board takes
 -- no more entries of workers; or eight offers came too late
@@ -110,8 +113,15 @@ pub record IsPass (p : PassOf) (b : BoardOf) (from : ℕ) (line : PassLine) : Ty
       → IsWorkedOff p b from (from + line.commits) net
   pub leaves : IsOpenCount b.design (board_at b (from + line.commits)).items line.parted
 
--- Passes one after another, each with its line. A pass follows only where connections are open, and behind a later
--- pass than the first only where that made an entry.
+-- none of the offers of a pass between two numbers of entries met a full board, as its logs tell
+pub record HadRoom (p : PassOf) (b : BoardOf) (from to : ℕ) : Type 0 where
+  pub tasks : List ℕ
+  pub logs : List WorkerLog
+  pub passed : IsPassed (record p { tasks = tasks }) (board_at b from) (board_at b to) logs
+  pub room : ¬ (MetFull logs)
+
+-- Passes one after another, each with its line. A pass follows only where connections are open and no offer of the pass
+-- before met a full board, and behind a later pass than the first only where that made an entry.
 pub record ArePasses (m : Mesh) (r : RunOf) (b : BoardOf) (lines : List PassLine) : Type 0 where
   pub few : length lines ≤ r.passes
   pub each : (k : ℕ) (line : PassLine) → slice_get lines k ≡ Some line
@@ -119,6 +129,9 @@ pub record ArePasses (m : Mesh) (r : RunOf) (b : BoardOf) (lines : List PassLine
   pub goes_on : (k : ℕ) (line : PassLine) → slice_get lines k ≡ Some line → k + 1 < length lines → 0 < line.parted
   pub moves : (k : ℕ) (line : PassLine) → slice_get lines k ≡ Some line → 0 < k → k + 1 < length lines
       → 0 < line.commits
+  pub room : (k : ℕ) (line : PassLine) → slice_get lines k ≡ Some line → k + 1 < length lines
+      → HadRoom (pass_at m r.via_cost r.workers (k + 1)) b (entries_after lines k)
+      (entries_after lines k + line.commits)
 
 -- no pass follows the last: nothing is open; or it is above the first and made no entry; or it has the last number;
 -- or the board takes no more entries of workers

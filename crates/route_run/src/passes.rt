@@ -1,5 +1,5 @@
 //! Passes one after another: each works off the nets that have several islands when it starts.
-//! They end where nothing is open, where a pass above the first made no entry, or where the board takes no more.
+//! They end where nothing is open, where a pass above the first made no entry, or where an offer met a full board.
 
 ghost use Rattle.std.specs.Prelude.{◌≡◌, ◌+◌, ◌<◌, ◌≤◌, [], IfOk, IfSome, IsTrue, not};
 ghost use Rattle.route_plan.specs.Sights.{IsSeenOn};
@@ -162,7 +162,7 @@ fn one_pass<R: Threads + Wait + Sync, G: Gate + Sync>(
 
 // Whether a pass may follow the one of this number.
 fn may_follow(number: u32, line: PassLine, full: bool) -> bool
-    ensures more { IsTrue result → (0 < line.parted) × (1 < number → 0 < line.commits) }
+    ensures more { IsTrue result → (0 < line.parted) × (1 < number → 0 < line.commits) × IsTrue (not full) }
     ensures ended { IsTrue (not result) → EndsBy number line full }
 {
     0 < line.parted && (number <= 1 || 0 < line.commits) && !full

@@ -1,5 +1,6 @@
 -- Workers that begin, and what comes back of them.
 use Rattle.std.proofs.Common.{◌≡◌, ◌∙◌, ◌+◌, ◌<◌, ℕ, refl, sym, ap, subst, arith, List, [], ◌∷◌, ◌++◌, length}
+use Rattle.std.specs.Prelude.{AllPairs}
 use Rattle.std.proofs.lemmas.List.{append-nil}
 use Rattle.std.proofs.lemmas.List.Elements.{All-nil}
 use Rattle.route_lattice.specs.Mesh.{node_count}
@@ -49,6 +50,7 @@ new_worker p t c w n pass number below size drawn notes table seat = record {
     table = table;
     shares = ap (λ (h : Hand). h.shares) seat;
     drawn = ap (λ (h : Hand). h.drawn) seat ∙ sym drawn;
+    ascends = subst (AllPairs (λ (x y : ℕ). x < y)) (sym drawn) (λ i j d lt within. absurd (omega (arith, within)));
   };
   ended = subst (λ (xs : List ℕ). EndsDrawn p t w.pass xs w.notes.items) (sym drawn) (All-nil _);
 }

@@ -28,7 +28,8 @@ use Rattle.searcher_pool.specs.declared.log.OfferNote.{OfferNote}
 use Rattle.searcher_pool.specs.declared.log.WorkerLog.{WorkerLog}
 use Rattle.searcher_pool.specs.Passes.{PassOf, EndsPlace, EndsTask, Grows, IsFullAnswer, IsJoinOf, IsLog, IsPassed}
 use Rattle.searcher_pool.specs.Passes.{IsSpent, IsStale, IsTold, claimed, commits_in, committed, joins_by}
-use Rattle.searcher_pool.specs.inner.Working.{EndsDrawn, EndsSeen, Knows, note_of, noted}
+use Rattle.searcher_pool.specs.inner.Working.{EndsDrawn, EndsSeen, Knows}
+use Rattle.searcher_pool.specs.Passes.{note_of, noted}
 use Rattle.searcher_pool.specs.inner.Crews.{AreEnded, AreLogsOf, IsLogOf}
 use Rattle.board_turn.proofs.EventLists.{reaches_grows, reaches_one, reaches_parts}
 use Rattle.searcher_pool.proofs.Seen.{spent_later}
@@ -300,6 +301,7 @@ module _ (p : PassOf) (t : TurnOf) (b : BoardOf) (passes : List turn.PassOf) (lo
       let grows = end_grows j q log.tasks log.notes there k in
       record {
         worker_below = (let below = k.below in let is = l.worker_is in omega (arith, below, is));
+        ascends = l.ascends;
         commits = ap commits_in (k.notes_are ∙ ap noted (sym (ended.each j q there).1)) ∙ told.commits q.name
             ∙ ap₂ (λ (n : ℕ) (es : List Entry). joins_by n (length old.history + 1) es) (sym l.worker_is)
             (sym dropped);
@@ -324,6 +326,12 @@ module _ (p : PassOf) (t : TurnOf) (b : BoardOf) (passes : List turn.PassOf) (lo
     grows = grown;
     count = count;
     numbered = logs_of.numbered;
+    events = ended.events;
+    answered = ended.legal;
+    notes_are = by_pairs (IsLogOf p t) (λ (log : WorkerLog). log.notes ≡ noted (own log.worker ended.events)) passes
+        logs
+        (λ j q log there l. l.knows.notes_are ∙ ap noted (sym (ended.each j q there).1)
+        ∙ ap (λ (n : ℕ). noted (own n ended.events)) (sym l.worker_is)) logs_of.logs_are;
     once = once;
     logs_are = by_pairs IsEndedLog (IsLog p old b) passes logs is_log
         (both_zip (IsLogOf p t) (λ (q : turn.PassOf) (log : WorkerLog). EndsDrawn p t q log.tasks log.notes) passes

@@ -14,6 +14,10 @@ use Rattle.least_offer.specs.Least.{IsLeastOffer}
 use Rattle.least_offer.specs.Late.{IsFair}
 use Rattle.route_plan.specs.Plans.{IsWhole, IsShutIn}
 use Rattle.board_turn.specs.Claims.{times, once_below}
+use Rattle.board_turn.specs.declared.Deed.{Deed}
+use Rattle.board_turn.specs.declared.Deed.TheVariants.{Looked, Offered, Idle}
+use Rattle.board_turn.specs.declared.Event.{Event}
+use Rattle.board_turn.specs.Events.{Reaches, own}
 use Rattle.searcher_pool.specs.declared.log.OfferNote.{OfferNote}
 use Rattle.searcher_pool.specs.declared.log.WorkerLog.{WorkerLog}
 use Rattle.pcb_model.specs.declared.design.Design.{Design}
@@ -112,6 +116,15 @@ pub record IsTold (p : PassOf) (old new : BoardOf) (worker : ℕ) (drawn : List 
   pub answered : Step (board_at new at) note.offer note.answer next
   pub fair : IsFair note.answer
 
+-- the offers among events, with their answers
+abbrev pub note_of : Deed → List OfferNote
+note_of Looked = []
+note_of (Offered o a) = record { offer = o; answer = a } ∷ []
+note_of Idle = []
+
+abbrev pub noted : List Event → List OfferNote
+noted events = flat_map (λ (e : Event). note_of e.deed) events
+
 -- ---- how a task ends
 -- xs stand among ys, in order
 abbrev pub AreAmong : {X : Type 0} → List X → List X → Type 0
@@ -146,10 +159,12 @@ abbrev pub EndsPlace : PassOf → BoardOf → BoardOf → List OfferNote → ℕ
 EndsPlace p old new notes place = IfSome (slice_get p.tasks place) (EndsTask p old new notes)
 
 -- ---- logs
--- The log of a worker: its commits are the worker's entries of the pass, each of its notes is told so, an offer is made
--- on a board that has the commits that earlier answers named, and each of its tasks ended.
+-- The log of a worker: the places of its tasks ascend, its commits are the worker's entries of the pass, each of its
+-- notes is told so, an offer is made on a board that has the commits that earlier answers named, and each of its tasks
+-- ended.
 pub record IsLog (p : PassOf) (old new : BoardOf) (log : WorkerLog) : Type 0 where
   pub worker_below : log.worker < p.workers
+  pub ascends : AllPairs (λ (x y : ℕ). x < y) log.tasks
   pub commits : commits_in log.notes
       ≡ joins_by log.worker (length old.history + 1) (drop (length old.history) new.history)
   pub told : All (IsTold p old new log.worker log.tasks) log.notes
@@ -161,13 +176,17 @@ abbrev pub claimed : ℕ → List WorkerLog → ℕ
 claimed place [] = 0
 claimed place (log ∷ logs) = times place log.tasks + claimed place logs
 
--- What a pass leaves: the board grew by joins of its workers; each worker has its log, in order; each place of the task
--- list stands in exactly one log, once; each log is one; where an answer was that the board is full, it is; and one
--- worker alone is never too late.
+-- What a pass leaves: the board grew by joins of its workers; each worker has its log, in order; the notes of a log are
+-- all offers that its worker made, among those that the board answered one after another; each place of the task list
+-- stands in exactly one log, once; each log is one; where an answer was that the board is full, it is; and one worker
+-- alone is never too late.
 pub record IsPassed (p : PassOf) (old new : BoardOf) (logs : List WorkerLog) : Type 0 where
   pub grows : Grows p old new
   pub count : length logs ≡ p.workers
   pub numbered : (k : ℕ) (d : WorkerLog) → k < length logs → (slice_index_or logs k d).worker ≡ k
+  pub events : List Event
+  pub answered : Reaches old events new
+  pub notes_are : All (λ (log : WorkerLog). log.notes ≡ noted (own log.worker events)) logs
   pub once : (place : ℕ) → claimed place logs ≡ once_below place (length p.tasks)
   pub logs_are : All (IsLog p old new) logs
   pub spent : All (λ (log : WorkerLog). All (λ (n : OfferNote). IsFullAnswer n.answer → IsSpent new) log.notes) logs

@@ -79,6 +79,11 @@ impl AllCome {
         }
     }
 
+    /// How many workers have come.
+    pub(crate) fn come(&self) -> u64 {
+        self.come.load(Ordering::SeqCst)
+    }
+
     /// Whether a worker was let go before all had come.
     pub(crate) fn gave_up(&self) -> bool {
         self.gave_up.load(Ordering::SeqCst) != 0

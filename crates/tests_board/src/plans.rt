@@ -12,16 +12,18 @@ ghost use Rattle.route_lattice.specs.Walks.{IsSound as IsGraphSound};
 use crate::board::opened;
 use crate::lattices::lattice_of;
 use crate::offer_board::{CROSS, WALLS, is_chain, takes_first};
+use cut_certificate::{check_cut, make_cut};
 use geo_kernel::List;
 use pcb_board::{Board, Offer, Shoved, Snap, boards_serve};
+use pcb_islands::{Island, islands};
 use pcb_model::{Copper, Design, Metal};
 use ripup::{RipMoves, rip_graph_sound};
-use route_lattice::{Found, Lattice, Moves};
-use route_plan::{Planned, plan};
+use route_lattice::{Found, Lattice, LegalMoves, Moves};
+use route_plan::{Planned, plan, plan_with};
 use shove::shove_run;
 use std::alloc::Global;
 use std::process::Abort;
-use wave_search::least_walk;
+use wave_search::{Search, least_walk};
 
 // ---- what is planned
 
@@ -100,6 +102,106 @@ fn plans(
     }
     match plan(alloc, lat, d, snap, 2_000_000, 0, net, small(penalty)) {
         Ok(planned) => is_planned(&planned, want),
+        Err(_) => false,
+    }
+}
+
+/// Whether the same is planned by the net's legal moves, which are given.
+fn plans_with(
+    alloc: Global,
+    lat: &Lattice,
+    snap: &Snap,
+    net: u32,
+    penalty: Option<u64>,
+    want: &Want,
+) -> bool
+    requires sound { IsSound snap.now.design }
+    requires plain { IsPlainCopper snap.now.design }
+    requires fits { FitsDesign snap.now.design lat.now }
+    requires serves { Serves snap.now.items snap.now.design }
+{
+    let d = snap.design();
+    if net as usize >= d.nets.len() {
+        return false;
+    }
+    let legal = LegalMoves::of(lat, d, snap, net, 2_000_000);
+    let Ok(mut search) = Search::new(alloc, lat.count()) else {
+        return false;
+    };
+    let penalty = small(penalty);
+    match plan_with(
+        alloc,
+        &mut search,
+        lat,
+        d,
+        snap,
+        &legal,
+        2_000_000,
+        0,
+        net,
+        penalty,
+    ) {
+        Ok(planned) => is_planned(&planned, want),
+        Err(_) => false,
+    }
+}
+
+// ---- what cuts an island off
+
+/// Whether a cut of so many nodes and blocks parts the island from the others.
+fn is_cut_off(
+    alloc: Global,
+    lat: &Lattice,
+    snap: &Snap,
+    island: &Island,
+    others: &List<Island>,
+    nodes: usize,
+    blocks: usize,
+) -> bool
+    requires sound { IsSound snap.now.design }
+    requires fits { FitsDesign snap.now.design lat.now }
+    requires serves { Serves snap.now.items snap.now.design }
+{
+    let d = snap.design();
+    if island.pins.is_empty() || island.net as usize >= d.nets.len() {
+        return false;
+    }
+    match make_cut(alloc, lat, d, snap, island, 2_000_000) {
+        Ok(Some(cut)) => {
+            cut.reach.nodes.len() == nodes
+                && cut.blocked.len() == blocks
+                && check_cut(lat, d, snap, island, others, &cut)
+        }
+        _ => false,
+    }
+}
+
+/// Whether the island at this place of a net is parted so from the others of the net.
+fn cuts(
+    alloc: Global,
+    lat: &Lattice,
+    snap: &Snap,
+    net: u32,
+    at: usize,
+    nodes: usize,
+    blocks: usize,
+) -> bool
+    requires sound { IsSound snap.now.design }
+    requires fits { FitsDesign snap.now.design lat.now }
+    requires serves { Serves snap.now.items snap.now.design }
+{
+    let d = snap.design();
+    if net as usize >= d.nets.len() {
+        return false;
+    }
+    match islands(alloc, d, snap, net) {
+        Ok(mut others) => {
+            if at >= others.len() {
+                return false;
+            }
+            let island = others.remove(at);
+            is_cut_off(alloc, lat, snap, &island, &others, nodes, blocks)
+        }
         Err(_) => false,
     }
 }
@@ -193,6 +295,8 @@ fn shoves(alloc: Global, lat: &Lattice, snap: &Snap, id: u64, up: bool, um: &[(u
 enum Tells {
     /// What is planned for a net, by a penalty or without one.
     Plans(u32, Option<u64>, Want),
+    /// By a cut of how many nodes and blocks the island at a place of a net is parted from its others.
+    Cuts(u32, usize, usize, usize),
     /// What a least walk of the second net from node to node costs, past routed items at a penalty.
     Costs(u32, u32, u64, u64),
     /// To which chain an item is shoved upwards or downwards, or none.
@@ -206,7 +310,13 @@ fn is_so(alloc: Global, lat: &Lattice, snap: &Snap, tells: &Tells) -> bool
     requires serves { Serves snap.now.items snap.now.design }
 {
     match tells {
-        Tells::Plans(net, penalty, want) => plans(alloc, lat, snap, *net, *penalty, want),
+        Tells::Plans(net, penalty, want) => {
+            plans(alloc, lat, snap, *net, *penalty, want)
+                && plans_with(alloc, lat, snap, *net, *penalty, want)
+        }
+        Tells::Cuts(net, at, nodes, blocks) => {
+            cuts(alloc, lat, snap, *net, *at, *nodes, *blocks)
+        }
         Tells::Costs(from, to, penalty, price) => {
             costs(alloc, lat, snap, *from, *to, *penalty, *price)
         }
@@ -262,8 +372,10 @@ const STRAIGHT_OVER: Route = Route {
 static UNLAID: [Tells; 1] = [Tells::Plans(1, None, Want::Offer(STRAIGHT))];
 
 /// Once the first net is laid. The walk over its wire is of 6 mm, and two of its moves are in the wire's way.
-static LAID: [Tells; 5] = [
+static LAID: [Tells; 7] = [
     Tells::Plans(1, None, Want::Shut(36)),
+    Tells::Cuts(1, 0, 36, 9),
+    Tells::Cuts(1, 1, 36, 9),
     Tells::Plans(0, None, Want::Whole),
     Tells::Plans(0, Some(10_000_000), Want::Whole),
     Tells::Plans(1, Some(10_000_000), Want::Offer(STRAIGHT_OVER)),

@@ -3,27 +3,18 @@
 
 ghost use Rattle.std.specs.Prelude.{◌≡◌, ◌<◌, [], ◌∷◌};
 ghost use Rattle.pcb_model.specs.Bounds.{IsItemFit};
-ghost use Rattle.pcb_model.specs.Sound.{IsSound};
 ghost use Rattle.pcb_tiles.specs.Spread.{ServesSpread};
 ghost use Rattle.pcb_tiles.specs.Tiling.{own_block, asked_block, entries_in};
 ghost use Rattle.tests_board.specs.Row.{row_area, row_items, wire_of_a, wire_of_b, edge, pad, at};
 
-use crate::board::{Says, held, routed};
-use crate::copper::{fixed_tiles, lay};
+use crate::board::{opened, routed};
 use crate::laying::CROSS;
-use geo_kernel::Rect4;
+use pcb_board::Board;
 use pcb_model::{Copper, Design, Item, Steps};
 use pcb_tiles::Tiles;
 use std::alloc::Global;
 use std::marker::Brand;
 use std::sync::ledger::{Blank, Ledger};
-
-const AREA: Rect4 = Rect4 {
-    x0: 0,
-    y0: 0,
-    x1: 10_000_000,
-    y1: 10_000_000,
-};
 
 /// The tiles of the wire of A, and how many entries a search looks at for the wire of B at a reach of 200,000 nm:
 /// five of the edge, two of each of its pads and one of the wire. On a call that does nothing.
@@ -55,33 +46,18 @@ fn clash(tiles: &Tiles, d: &Design, a: &Item) -> Option<u64>
     clash_counting::<Brand>(tiles, d, a, Blank::new(1))
 }
 
-/// The number of fixed items, and what the wire of B clashes with once the wire of A has the next id.
-fn row_in(alloc: Global, d: &Design, tiles: &mut Tiles) -> Option<(usize, Option<u64>)>
-    requires sound { IsSound d.now }
-    requires serves { ServesSpread tiles.old d.now }
-{
-    lay(alloc, d, tiles, 0, 5)?;
-    let a = routed(alloc, d, 1, 6)?;
-    Some((d.fixed.len(), clash(tiles, d, &a)))
-}
-
-/// On tiles of the board's five fixed items that is the wire of A.
-struct IsInTheWay;
-
-impl Says for IsInTheWay {
-    fn holds(&self, alloc: Global, d: &Design) -> bool {
-        match fixed_tiles(alloc, d, AREA) {
-            Ok(fixed) => {
-                let mut tiles = fixed;
-                row_in(alloc, d, &mut tiles) == Some((5, Some(5)))
-            }
-            Err(_) => false,
-        }
-    }
+/// The number of fixed items, and what the wire of B clashes with on the board, which has loaded the wire of A behind
+/// them. The board's tiles are those of the row: their area is the box of its boundary, and their reach its clearance.
+fn row_on(alloc: Global, board: &Board) -> Option<(usize, Option<u64>)> {
+    board.keeps();
+    let d = board.design();
+    let b = routed(alloc, d, 1, 6)?;
+    Some((d.fixed.len(), clash(board.items(), d, &b)))
 }
 
 #[test]
 fn the_wire_of_a_is_in_the_way_of_that_of_b(rt: HostRuntime) {
     row_has_entries();
-    assert_eq!(rt; held(rt.alloc(), CROSS, &[IsInTheWay]), 1);
+    let board = opened(rt.alloc(), CROSS).expect(&rt, "no board");
+    assert!(rt; row_on(rt.alloc(), &board) == Some((5, Some(5))));
 }

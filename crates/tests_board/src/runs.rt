@@ -1,4 +1,4 @@
-//! Runs of the top call with several workers, between gates.
+//! Runs of the top call with several workers, between gates, which tell that they were called.
 
 use crate::calls::called;
 use crate::designs::CROSSING;
@@ -29,7 +29,7 @@ fn two_workers_route_side_by_side(rt: HostRuntime) {
     let gate = FirstWaits::new();
     let line = "route u.dsn u.ses --grid 1000 --workers 2 --passes 1";
     assert!(rt; routes(&rt, rt.alloc(), CROSSING.as_bytes(), line, &gate));
-    assert!(rt; !gate.gave_up());
+    assert!(rt; gate.held() < 2 && !gate.gave_up());
 }
 
 // There are four workers without an option.
@@ -39,5 +39,5 @@ fn four_workers_route_side_by_side(rt: HostRuntime) {
     let text = design_text(rt.alloc(), 8).expect(&rt, "no board");
     let line = "route u.dsn u.ses --passes 1";
     assert!(rt; routes(&rt, rt.alloc(), text.as_slice(), line, &gate));
-    assert!(rt; !gate.gave_up());
+    assert!(rt; gate.come() == 4 && !gate.gave_up());
 }

@@ -3,12 +3,11 @@ use Rattle.std.specs.Prelude.{◌≡◌, ℕ, ◌⊎◌, List, [], ◌∷◌, �
 use Rattle.pcb_model.specs.declared.item.Item.{Item}
 use Rattle.pcb_model.specs.declared.design.FreeWire.{FreeWire}
 use Rattle.pcb_model.specs.declared.design.Design.{Design}
-use Rattle.pcb_model.specs.Bounds.{HasClearancesWithin}
 use Rattle.pcb_model.specs.Board.{IsLegal}
-use Rattle.pcb_tiles.specs.Tiling.{IsArea}
 use Rattle.board_offers.specs.Given.{AreGiven}
 use Rattle.pcb_board.specs.declared.load.Loaded.{Loaded}
 use Rattle.pcb_board.specs.Boards.{Loads, free_item}
+use Rattle.pcb_board.specs.Snaps.{AreTilesOf}
 
 -- what is loaded is legal, and each item has its place as id
 pub record IsLoaded (d : Design) (items : List Item) : Type 0 where
@@ -19,16 +18,14 @@ pub record IsLoaded (d : Design) (items : List Item) : Type 0 where
 pub record IsKept (d : Design) (l : Loaded) : Type 0 where
   pub held : l.tiles.items ≡ l.given.items
   pub loaded : IsLoaded d l.given.items
-  pub area : IsArea l.tiles.area
-  pub reach : HasClearancesWithin l.tiles.reach d
+  pub spread : AreTilesOf d l.tiles.area l.tiles.reach
 
 -- the first n fixed items are loaded, and nothing else
 pub record AreFixed (d : Design) (n : ℕ) (l : Loaded) : Type 0 where
   pub tiles : l.tiles.items ≡ take n d.fixed
   pub given : l.given.items ≡ take n d.fixed
   pub dropped : l.dropped ≡ []
-  pub area : IsArea l.tiles.area
-  pub reach : HasClearancesWithin l.tiles.reach d
+  pub spread : AreTilesOf d l.tiles.area l.tiles.reach
 
 -- one free item is kept where the list with it is legal, and else its place is listed
 abbrev pub LoadsOne : Design → Loaded → FreeWire → Loaded → Type 0

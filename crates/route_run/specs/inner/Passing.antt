@@ -26,7 +26,7 @@ use Rattle.route_run.specs.declared.run.Kept.{Kept}
 use Rattle.route_run.specs.declared.run.Routed.{Routed}
 use Rattle.route_run.specs.declared.passes.Stand.{Stand}
 use Rattle.route_run.specs.Runs.{RunOf, IsOpenCount, HasSeveral, IsWorkedOff, ArePasses, AreLeast, HaveEnded, IsBest}
-use Rattle.route_run.specs.Runs.{complete_from, entries_after}
+use Rattle.route_run.specs.Runs.{complete_from, entries_after, HadRoom, pass_at}
 
 -- ---- what is open
 -- so many connections of the net are open
@@ -51,7 +51,7 @@ pub record AreOpenOn (b : BoardOf) (open_nets : OpenNets) : Type 0 where
 
 -- ---- passes
 -- The nets with several islands were worked off, by joins of the pass's workers, each of them a least offer. Where the
--- board was full for an offer, it takes no more.
+-- board was full for an offer, it takes no more, and else no offer met a full board.
 pub record AreWorkedOff (p : PassOf) (old new : BoardOf) (full : Bool) : Type 0 where
   pub grows : Grows p old new
   pub board : IsBoard new
@@ -61,6 +61,7 @@ pub record AreWorkedOff (p : PassOf) (old new : BoardOf) (full : Bool) : Type 0 
       → slice_get new.history n ≡ Some (Join o first after)
       → (o.base ≤ n) × IsLeastOffer p.lattice p.via_cost (board_at new o.base) o
   pub spent : IsTrue full → IsSpent new
+  pub room : IsTrue (not full) → HadRoom p new (length old.history) (length new.history)
 
 -- a pass was made: its nets were worked off, and its line counts its joins and what is open now
 pub record IsMade (p : PassOf) (old : BoardOf) (made : Made) : Type 0 where
@@ -92,7 +93,7 @@ pub record StandsAfter (number : ℕ) (made : Made) (last : Option Sight) (lines
   pub open_nets_are : new.open_nets ≡ made.open_nets
   pub last_is : new.last ≡ last
   pub lines_are : more_lines ≡ lines ++ made.line ∷ []
-  pub goes_on : IsTrue more → (0 < made.line.parted) × (1 < number → 0 < made.line.commits)
+  pub goes_on : IsTrue more → (0 < made.line.parted) × (1 < number → 0 < made.line.commits) × IsTrue (not made.full)
   pub ended : IsTrue (not more) → EndsBy number made.line made.full
 
 -- so it stands after the pass of this number was made
@@ -113,9 +114,10 @@ pub record HasPassed (m : Mesh) (r : RunOf) (b : BoardOf) (lines : List PassLine
   pub no_more : length b.history ≡ entries_after lines (length lines)
 
 -- a further pass may follow these
-abbrev pub MayFollow : List PassLine → Type 0
-MayFollow lines = (k : ℕ) (line : PassLine) → slice_get lines k ≡ Some line → k + 1 ≡ length lines
+abbrev pub MayFollow : Mesh → RunOf → BoardOf → List PassLine → Type 0
+MayFollow m r b lines = (k : ℕ) (line : PassLine) → slice_get lines k ≡ Some line → k + 1 ≡ length lines
     → (0 < line.parted) × (0 < k → 0 < line.commits)
+    × HadRoom (pass_at m r.via_cost r.workers (k + 1)) b (entries_after lines k) (entries_after lines k + line.commits)
 
 -- a board keeps its design, its start list and its cap
 pub record Stays (old new : BoardOf) : Type 0 where

@@ -1,5 +1,6 @@
 -- The workers of a pass, before and after their work, and their logs.
-use Rattle.std.specs.Prelude.{◌≡◌, ℕ, ◌+◌, ◌<◌, ◌≤◌, List, [], length, All, slice_index_or, vec_len, vec_capacity}
+use Rattle.std.specs.Prelude.{◌≡◌, ℕ, ◌+◌, ◌<◌, ◌≤◌, List, [], length, All, AllPairs, slice_index_or}
+use Rattle.std.specs.Prelude.{vec_len, vec_capacity}
 use Rattle.std.specs.List.{AllZip}
 use Rattle.crossbeam_utils.specs.Padded.{padded_value}
 use Rattle.crossbeam_utils.specs.declared.cache_padded.CachePadded.{CachePadded}
@@ -43,9 +44,10 @@ pub record AreBack (p : PassOf) (t : TurnOf) (c : CounterOf) (crew : List (Cache
   pub names : NamesFall crew
   pub back : All (λ (w : CachePadded Worker). Worked p t c (padded_value w).pass.name (padded_value w)) crew
 
--- the log of the worker with a pass of the turn
+-- the log of the worker with a pass of the turn, whose places ascend
 pub record IsLogOf (p : PassOf) (t : TurnOf) (q : turn.PassOf) (log : WorkerLog) : Type 0 where
   pub worker_is : log.worker ≡ q.name
+  pub ascends : AllPairs (λ (x y : ℕ). x < y) log.tasks
   pub knows : Knows p t q log.tasks log.notes
 
 -- the passes of the turn that came back, in order of their names, and their logs

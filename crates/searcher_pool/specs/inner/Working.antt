@@ -1,5 +1,5 @@
 -- What one worker keeps while it works.
-use Rattle.std.specs.Prelude.{◌≡◌, ℕ, ◌+◌, ◌-◌, ◌<◌, ◌≤◌, List, [], ◌∷◌, ◌++◌, length, flat_map, sum_by}
+use Rattle.std.specs.Prelude.{◌≡◌, ℕ, ◌+◌, ◌-◌, ◌<◌, ◌≤◌, List, [], ◌∷◌, ◌++◌, length, flat_map, sum_by, ◌^◌}
 use Rattle.std.specs.Prelude.{All, AllPairs, Any, false, cond, Option, Some, IfSome, slice_get}
 use Rattle.pcb_model.specs.declared.design.Design.{Design}
 use Rattle.route_lattice.specs.Mesh.{node_count}
@@ -14,7 +14,7 @@ use Rattle.route_plan.specs.Sights.{IsSeenOn}
 use Rattle.route_plan.specs.Plans.{IsOfferOf}
 use Rattle.board_turn.specs.Claims.{CounterOf}
 use Rattle.board_turn.specs.declared.Deed.{Deed}
-use Rattle.board_turn.specs.declared.Deed.TheVariants.{Looked, Offered, Idle}
+use Rattle.board_turn.specs.declared.Deed.TheVariants.{Offered}
 use Rattle.board_turn.specs.declared.Event.{Event}
 use Rattle.board_turn.specs.Events.{Reaches, own, IsPrefix}
 use Rattle.board_turn.specs.Turns.{TurnOf, opening, count_of}
@@ -25,7 +25,7 @@ use Rattle.searcher_pool.specs.declared.worker.Worker.{Worker}
 use Rattle.searcher_pool.specs.declared.worker.Attempt.{Attempt}
 use Rattle.searcher_pool.specs.declared.worker.Attempt.TheVariants.{Ended, Joined, Late}
 use Rattle.searcher_pool.specs.Passes.{PassOf, IsTold, IsSpent, EndsTask}
-use Rattle.searcher_pool.specs.Passes.{named, IsStale, IsStaleOf, IsFullAnswer}
+use Rattle.searcher_pool.specs.Passes.{named, noted, IsStale, IsStaleOf, IsFullAnswer}
 use Rattle.board_offers.specs.declared.offer.TheConstants.{CLOSER}
 use Rattle.searcher_pool.specs.Passes.{IsTask, pass_from}
 
@@ -44,15 +44,6 @@ pub record HasFixed (j : Job) (d : Design) : Type 0 where
   pub maps : IfSome j.fixed (λ f. AreMapsOf d j.lat.now d.fixed f.now)
 
 -- ---- what a worker knows
--- the offers among events, with their answers
-abbrev pub note_of : Deed → List OfferNote
-note_of Looked = []
-note_of (Offered o a) = record { offer = o; answer = a } ∷ []
-note_of Idle = []
-
-abbrev pub noted : List Event → List OfferNote
-noted events = flat_map (λ (e : Event). note_of e.deed) events
-
 -- A pass of the turn and the notes of its worker: they are the offers that the pass made, with their answers. On the
 -- board that the events leave which it has seen, each is told so; an offer rests on a board that has the commits that
 -- earlier answers named; where an answer was that the board is full, it is; and one worker alone is never too late.
@@ -129,11 +120,12 @@ abbrev pub EndsDrawn : PassOf → TurnOf → turn.PassOf → List ℕ → List O
 EndsDrawn p t q drawn notes = All (λ place. IfSome (slice_get p.tasks place) (EndsSeen p t q notes)) drawn
 
 -- ---- the whole work of a worker
--- its seat is one at the counter, and drew what it drew
+-- its seat is one at the counter, and drew what it drew, each place above those before
 pub record IsSeated (c : CounterOf) (w : Worker) : Type 0 where
   pub table : w.seat.table ≡ c.table
   pub shares : w.seat.hand.shares ≡ 1
   pub drawn : w.seat.hand.drawn ≡ w.drawn.items
+  pub ascends : AllPairs (λ (x y : ℕ). x < y) w.drawn.items
 
 -- it may work, and left no task behind
 pub record MayWork (p : PassOf) (t : TurnOf) (c : CounterOf) (w : Worker) : Type 0 where

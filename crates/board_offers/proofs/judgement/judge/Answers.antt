@@ -13,8 +13,8 @@ use Rattle.board_offers.proofs.Faults.{fails_first, fails_second, fails_third, f
 use Rattle.board_offers.proofs.Faults.{fails_seventh, fails_eighth, fails_ninth}
 use Rattle.board_offers.proofs.judgement.judge.Goals as goal
 
-pub returns-then-not-is_timely : goal.returns-then-not-is_timely
-returns-then-not-is_timely c =
+pub returns-then-not-is_timely-clause-judged : goal.returns-then-not-is_timely-clause-judged
+returns-then-not-is_timely-clause-judged c =
     let d = c.args.d.now in
     let given = c.args.given.now in
     let n = c.args.entries in
@@ -22,8 +22,8 @@ returns-then-not-is_timely c =
     fails_first d given n o
     (refuted c.is_timely.result _ _ (timely_is d given n o) c.is_timely.ensures.1 c.if-not-is_timely.true)
 
-pub returns-then-not-has_ends : goal.returns-then-not-has_ends
-returns-then-not-has_ends c =
+pub returns-then-not-has_ends-clause-judged : goal.returns-then-not-has_ends-clause-judged
+returns-then-not-has_ends-clause-judged c =
     let d = c.args.d.now in
     let given = c.args.given.now in
     let n = c.args.entries in
@@ -31,8 +31,8 @@ returns-then-not-has_ends c =
     fails_second d given n o ((timely_is d given n o).0 (c.is_timely.ensures.0 c.if-not-is_timely.false))
     (refuted c.has_ends.result _ _ (ends_are d given n o) c.has_ends.ensures.1 c.if-not-has_ends.true)
 
-pub returns-then-not-has_metals : goal.returns-then-not-has_metals
-returns-then-not-has_metals c =
+pub returns-then-not-has_metals-clause-judged : goal.returns-then-not-has_metals-clause-judged
+returns-then-not-has_metals-clause-judged c =
     let d = c.args.d.now in
     let given = c.args.given.now in
     let n = c.args.entries in
@@ -122,8 +122,8 @@ replacements-requires-clause-fit c =
     (added_fit d o.net (length given) o.add c.requires.sound
     (c.has_ends.ensures.0 c.if-not-has_ends.false).0 metals.each)
 
-pub returns-then-not-leads_across : goal.returns-then-not-leads_across
-returns-then-not-leads_across c =
+pub returns-then-not-leads_across-clause-judged : goal.returns-then-not-leads_across-clause-judged
+returns-then-not-leads_across-clause-judged c =
     let d = c.args.d.now in
     let given = c.args.given.now in
     let n = c.args.entries in
@@ -142,8 +142,8 @@ returns-then-not-leads_across c =
     (refuted c.leads_across.result _ _ (across_is d given n o items is) c.leads_across.ensures.1
     c.if-not-leads_across.true)
 
-pub returns-then-not-lie_inside : goal.returns-then-not-lie_inside
-returns-then-not-lie_inside c =
+pub returns-then-not-lie_inside-clause-judged : goal.returns-then-not-lie_inside-clause-judged
+returns-then-not-lie_inside-clause-judged c =
     let d = c.args.d.now in
     let given = c.args.given.now in
     let n = c.args.entries in
@@ -162,8 +162,8 @@ returns-then-not-lie_inside c =
     ((across_is d given n o items is).0 (c.leads_across.ensures.0 c.if-not-leads_across.false))
     (refuted c.lie_inside.result _ _ (inside_is d given n o items is) c.lie_inside.ensures.1 c.if-not-lie_inside.true)
 
-pub returns-then-not-names_once : goal.returns-then-not-names_once
-returns-then-not-names_once c =
+pub returns-then-not-names_once-clause-judged : goal.returns-then-not-names_once-clause-judged
+returns-then-not-names_once-clause-judged c =
     let d = c.args.d.now in
     let given = c.args.given.now in
     let n = c.args.entries in
@@ -183,8 +183,8 @@ returns-then-not-names_once c =
     ((inside_is d given n o items is).0 (c.lie_inside.ensures.0 c.if-not-lie_inside.false))
     (λ once. true≢false (sym (c.names_once.ensures.1 once) ∙ c.if-not-names_once.true))
 
-pub returns-then-not-may_rip_all : goal.returns-then-not-may_rip_all
-returns-then-not-may_rip_all c =
+pub returns-then-not-may_rip_all-clause-judged : goal.returns-then-not-may_rip_all-clause-judged
+returns-then-not-may_rip_all-clause-judged c =
     let d = c.args.d.now in
     let given = c.args.given.now in
     let n = c.args.entries in
@@ -208,8 +208,8 @@ returns-then-not-may_rip_all c =
     (refuted c.may_rip_all.result _ _ (rips_are d given n o items is c.as_slice.result.now c.as_slice.ensures)
     c.may_rip_all.ensures.1 c.if-not-may_rip_all.true)
 
-pub returns-in_default : goal.returns-in_default
-returns-in_default c =
+pub returns-in_default-clause-judged : goal.returns-in_default-clause-judged
+returns-in_default-clause-judged c =
     let d = c.args.d.now in
     let given = c.args.given.now in
     let n = c.args.entries in
@@ -263,8 +263,8 @@ all_agree-requires-clause-fit c =
     (replaced_fit d given o.net items (length given + length o.add) o.shoves c.requires.sound c.requires.given
     (subst (All (MayShove d given o.net items)) c.as_slice-shoves.ensures r.0)))
 
-pub returns-then-not-all_agree : goal.returns-then-not-all_agree
-returns-then-not-all_agree c =
+pub returns-then-not-all_agree-clause-judged : goal.returns-then-not-all_agree-clause-judged
+returns-then-not-all_agree-clause-judged c =
     let d = c.args.d.now in
     let given = c.args.given.now in
     let n = c.args.entries in
@@ -301,8 +301,8 @@ returns-then-not-all_agree c =
     (sym (c.all_agree.ensures.1 (subst (AllPairs (Agrees d)) (sym (c.as_slice-2.ensures.value ∙ new)) h.each))
     ∙ c.if-not-all_agree.true))
 
-pub returns : goal.returns
-returns c =
+pub returns-clause-judged : goal.returns-clause-judged
+returns-clause-judged c =
     let d = c.args.d.now in
     let given = c.args.given.now in
     let n = c.args.entries in

@@ -6,6 +6,5 @@ load_all-requires-clause-nothing c = record {
   tiles = c.in_ok-empty_tiles.ensures.empty;
   given = search rules;
   dropped = c.new-2.ensures;
-  area = c.in_ok-empty_tiles.ensures.area;
-  reach = c.in_ok-empty_tiles.ensures.reach;
+  spread = c.in_ok-empty_tiles.ensures.spread;
 }

@@ -3,8 +3,8 @@ use Rattle.std.specs.Prelude.{All, slice_get}
 use Rattle.std.proofs.lemmas.List.{take_all}
 use Rattle.std.proofs.lemmas.Option.{slice_get_read}
 use Rattle.pcb_model.specs.declared.item.Item.{Item}
-use Rattle.pcb_model.specs.Bounds.{IsItemFit, HasClearancesWithin}
-use Rattle.pcb_tiles.specs.Tiling.{IsArea}
+use Rattle.pcb_model.specs.Bounds.{IsItemFit}
+use Rattle.pcb_board.specs.Snaps.{AreTilesOf}
 use Rattle.pcb_tiles.specs.Spread.{Spread}
 use Rattle.pcb_board.proofs.Loading.{fixed_all}
 use Rattle.pcb_board.proofs.Opening.{fixed_below, fixed_more}
@@ -47,8 +47,7 @@ loop-item-preserved c =
       given = c.in_ok-keep.ensures.given
           ∙ ap (λ (xs : List Item). xs ++ c.in_ok-copy_item.field-0 ∷ []) c.loop-item.invariant.given ∙ more;
       dropped = c.in_ok-keep.ensures.dropped ∙ c.loop-item.invariant.dropped;
-      area = subst (λ (t : Spread). IsArea t.area) (sym is) c.loop-item.invariant.area;
-      reach = subst (λ (t : Spread). HasClearancesWithin t.reach c.args.d.now) (sym is) c.loop-item.invariant.reach;
+      spread = subst (λ (t : Spread). AreTilesOf c.args.d.now t.area t.reach) (sym is) c.loop-item.invariant.spread;
     }
 
 pub load_free-requires-clause-fixed : goal.load_free-requires-clause-fixed
@@ -57,5 +56,4 @@ load_free-requires-clause-fixed c =
     take_all c.loop-item.item-index c.args.d.now.fixed
     (let e = ap length c.as_slice-item-items.ensures in omega (arith, e, c.loop-item-test.false)) in
     fixed_all c.args.d.now c.loop-item.loaded c.requires.sound (c.loop-item.invariant.tiles ∙ all)
-    (c.loop-item.invariant.given ∙ all) c.loop-item.invariant.dropped c.loop-item.invariant.area
-    c.loop-item.invariant.reach
+    (c.loop-item.invariant.given ∙ all) c.loop-item.invariant.dropped c.loop-item.invariant.spread

@@ -5,8 +5,7 @@ use Rattle.std.proofs.lemmas.List.{take_all}
 use Rattle.std.proofs.lemmas.Option.{slice_get_read}
 use Rattle.std.proofs.lemmas.List.Elements.{All-filter}
 use Rattle.pcb_model.specs.declared.item.Item.{Item}
-use Rattle.pcb_model.specs.Bounds.{HasClearancesWithin}
-use Rattle.pcb_tiles.specs.Tiling.{IsArea}
+use Rattle.pcb_board.specs.Snaps.{AreTilesOf}
 use Rattle.pcb_tiles.specs.Spread.{Spread}
 use Rattle.pcb_board.specs.inner.Turning.{is_marked}
 use Rattle.pcb_board.proofs.Opening.{fronts}
@@ -17,8 +16,7 @@ use Rattle.pcb_board.proofs.marks.marked_tiles.Goals.{then-is_marked+in-Ok, else
 pub loop-item-init : goal.loop-item-init
 loop-item-init c = record {
   items = c.in_ok-tiles.ensures.empty;
-  area = c.in_ok-tiles.ensures.area;
-  reach = c.in_ok-tiles.ensures.reach;
+  spread = c.in_ok-tiles.ensures.spread;
 }
 
 pub add_copy-requires-clause-above : goal.add_copy-requires-clause-above
@@ -52,18 +50,16 @@ loop-item-preserved c =
                 c.if-is_marked.tiles.items c.loop-item.item-index c.item-item.result c.loop-item-test.true
                 c.item-item.is (sym c.is_marked.ensures ∙ w.if-is_marked.true) c.loop-item.invariant.items
                 (ap (λ (t : Spread). t.items) is);
-            area = subst (λ (t : Spread). IsArea t.area) (sym is) c.loop-item.invariant.area;
-            reach = subst (λ (t : Spread). HasClearancesWithin t.reach c.args.d.now) (sym is)
-                c.loop-item.invariant.reach;
+            spread = subst (λ (t : Spread). AreTilesOf c.args.d.now t.area t.reach) (sym is)
+                c.loop-item.invariant.spread;
           }
       | else-is_marked w ↦ record {
         items = fails_more (λ (a : Item). is_marked c.args.marks.now a.id) c.args.given.now c.loop-item.tiles.items
             c.if-is_marked.tiles.items c.loop-item.item-index c.item-item.result c.loop-item-test.true
             c.item-item.is (sym c.is_marked.ensures ∙ w.if-is_marked.false) c.loop-item.invariant.items
             (ap (λ (t : Spread). t.items) w.tiles-is);
-        area = subst (λ (t : Spread). IsArea t.area) (sym w.tiles-is) c.loop-item.invariant.area;
-        reach = subst (λ (t : Spread). HasClearancesWithin t.reach c.args.d.now) (sym w.tiles-is)
-            c.loop-item.invariant.reach;
+        spread = subst (λ (t : Spread). AreTilesOf c.args.d.now t.area t.reach) (sym w.tiles-is)
+            c.loop-item.invariant.spread;
       }
     ]
 

@@ -4,11 +4,11 @@ use Rattle.pcb_model.specs.declared.item.Item.{Item}
 use Rattle.pcb_model.specs.Bounds.{HasClearancesWithin}
 use Rattle.pcb_tiles.specs.Tiling.{IsArea}
 use Rattle.pcb_board.specs.inner.Turning.{is_marked}
+use Rattle.pcb_board.specs.Snaps.{AreTilesOf}
 use Rattle.pcb_board.proofs.marks.marked_tiles.Given as goal
 
 abbrev pub invariant-loop-item : goal.invariant-loop-item
 invariant-loop-item l = record {
   items : l.tiles.items ≡ filter (λ (a : Item). is_marked l.marks a.id) (take l.item-index l.given);
-  area : IsArea l.tiles.area;
-  reach : HasClearancesWithin l.tiles.reach l.d;
+  spread : AreTilesOf l.d l.tiles.area l.tiles.reach;
 }

@@ -13,9 +13,8 @@ returns-in-Route-clause-leads g c = λ b place of stands first.
     let cost = c.args.via_cost in
     let route : IsRoute d m s.items island.net cost None island others c.in-Route.route =
     subst (FindsRoute d m s.items island.net cost None island others) c.in-Route.is c.in_ok-reach.ensures.finds in
-    let bare = c.bare_offer-offer.ensures in (
-      legal_offer d m s island.net cost b c.args.worker island others place c.in-Route.route c.bare_offer-offer.result
-          c.number.result c.requires.can_plan of c.in_order.ensures.ascends c.requires.worker stands first route
-          c.number.ensures bare c.least_offers_may_be_made.ensures,
-      bare.takes,
-    )
+    let bare = c.bare_offer-offer.ensures in
+    let made = legal_offer d m s island.net cost b c.args.worker island others place c.in-Route.route
+    c.bare_offer-offer.result c.number.result c.requires.can_plan of c.in_order.ensures.ascends c.requires.worker stands
+    first route c.number.ensures bare c.least_offers_may_be_made.ensures in
+    (made.0, bare.takes, made.1)

@@ -3,7 +3,7 @@ use Rattle.pcb_islands.specs.Islands.{AreIslands}
 use Rattle.route_lattice.specs.Legal.{legal_graph}
 use Rattle.cut_certificate.specs.Same.{SameMoves}
 use Rattle.route_plan.specs.Plans.{CanPlan, LeadsFrom, IsOfferOf}
-use Rattle.route_plan.proofs.Planning.{on_board, first_net, first_leads, some_left, shut_first, whole}
+use Rattle.route_plan.proofs.Planning.{on_board, first_net, first_leads, some_left, shut_first, split, whole}
 use Rattle.route_plan.proofs.plans.plan_legal_with.Goals as goal
 
 pub islands-requires-clause-sound : goal.islands-requires-clause-sound
@@ -88,4 +88,14 @@ returns-in-Ok-Offer-clause-plan g c = λ b of.
     c.requires.can_plan of c.in_ok-others.ensures c.remove-island.ensures.value c.remove-island.ensures.rest
     (λ place. c.in-Ok-Offer.ensures.leads b place of) in
     let offer = subst (LeadsFrom m cost b c.args.worker island others) c.in-Ok-Offer.field-0-is leads.1 in
-    subst (λ n. IsOfferOf m cost b c.args.worker n None c.in-Ok-Offer.offer) leads.0 offer.0
+    record {
+      offer = subst (λ n. IsOfferOf m cost b c.args.worker n None c.in-Ok-Offer.offer) leads.0 offer.0;
+      first = island;
+      others = others;
+      islands = split b.design b.items c.args.net c.in_ok-others.others others island
+          (on_board c.args.d.now m c.args.snap.now c.args.net cost b
+          (λ d xs. AreIslands d xs c.args.net c.in_ok-others.others) c.requires.can_plan.own of c.in_ok-others.ensures)
+          c.remove-island.ensures.value c.remove-island.ensures.rest;
+      joins = offer.2;
+      takes = λ e. offer.1;
+    }

@@ -1,17 +1,20 @@
 use Rattle.std.proofs.Common.{rules, ◌+◌, ◌<◌, ℕ, [], ◌∷◌, length, length-append, sym, ap, subst, arith}
-use Rattle.std.specs.Prelude.{not}
+use Rattle.std.specs.Prelude.{IsTrue, not}
 use Rattle.pcb_model.specs.declared.design.Design.{Design}
 use Rattle.route_run.specs.Runs.{HaveEnded, run_from, pass_at}
 use Rattle.route_run.specs.inner.Passing.{EndsBy, HasPassed, MayFollow}
 use Rattle.route_run.specs.Runs.{IsTask}
-use Rattle.route_run.proofs.Passing.{made_on, pass_more, ready_on}
-use Rattle.route_run.proofs.Running.{ended_by, ended_last, follow_more, follow_none, stays_same, stays_on}
+use Rattle.route_run.proofs.Passing.{made_on, pass_more, ready_on, follow_more}
+use Rattle.route_run.proofs.Running.{ended_by, ended_last, follow_none, stays_same, stays_on}
 use Rattle.route_run.proofs.passes.pass_on.Goals as goal
 
 pub loop-k-init : goal.loop-k-init
 loop-k-init g c = record {
   passed = c.requires.new;
-  follows = subst MayFollow (sym c.requires.none) follow_none;
+  follows =
+      let r = run_from c.args.via_cost c.args.workers c.args.passes in
+      subst (MayFollow c.args.lat.now r c.args.stand.board) (sym c.requires.none)
+      (follow_none c.args.lat.now r c.args.stand.board);
   count = ap length c.requires.none;
   ready = c.requires.stand;
   same = stays_same c.args.stand.board;
@@ -72,12 +75,13 @@ loop-k-preserved g c =
     let is = made_on p (c.loop-k.k + 1) c.loop-k.stand.board c.loop-k.lines next _ c.in_ok-next.more one in
     let has = pass_more m r c.loop-k.stand.board c.loop-k.lines _ c.loop-k.k before.passed before.follows before.count
     c.loop-k-test.true is in
-    let follow : (0 < one.made.line.parted) × (1 < c.loop-k.k + 1 → 0 < one.made.line.commits) =
-    one.stands.goes_on c.if-not-more.false in
+    let follow : (0 < one.made.line.parted) × (1 < c.loop-k.k + 1 → 0 < one.made.line.commits)
+    × IsTrue (not one.made.full) = one.stands.goes_on c.if-not-more.false in
     record {
       passed = subst (HasPassed m r next.board) (sym one.stands.lines_are) has;
-      follows = subst MayFollow (sym one.stands.lines_are)
-          (follow_more c.loop-k.lines one.made.line follow.0 (λ some. follow.1 (omega (arith, some, before.count))));
+      follows = subst (MayFollow m r next.board) (sym one.stands.lines_are)
+          (follow_more m r c.loop-k.stand.board c.loop-k.lines _ c.loop-k.k before.passed before.follows before.count
+          c.loop-k-test.true is follow.0 (λ some. follow.1 (omega (arith, some))) follow.2);
       count = (let long = ap length one.stands.lines_are in
           let more = length-append c.loop-k.lines (one.made.line ∷ []) in
           omega (arith, long, more, before.count));

@@ -1,4 +1,4 @@
-use Rattle.std.proofs.Common.{ℕ, List, [], Option, subst, arith}
+use Rattle.std.proofs.Common.{ℕ, List, [], Option, sym, subst, arith}
 use Rattle.std.specs.Prelude.{IsTrue}
 use Rattle.searcher_pool.specs.declared.log.WorkerLog.{WorkerLog}
 use Rattle.searcher_pool.specs.Passes.{IsSpent, MetFull}
@@ -22,5 +22,7 @@ returns-in-Ok g c =
       tasks = [];
       penalty = o;
     }) old new full) c.penalty_of-penalty.ensures
-    (worked_from _ old new full _ c.args.open_nets.count (omega (arith, c.requires.workers.0)) c.keeps.ensures passed
-    (c.passes_are_least.ensures _ old new _ passed) c.requires.open_nets.are spent)
+    (worked_from _ old new full _ c.args.open_nets.count (omega (arith, c.requires.workers.0)) c.requires.kept
+    c.keeps.ensures passed (c.passes_are_least.ensures _ old new _ passed) c.requires.open_nets.are spent
+    (λ met. c.is_full-full.ensures.1 (subst (λ (logs : List WorkerLog). MetFull logs) (sym c.as_slice.ensures.value)
+    met)))

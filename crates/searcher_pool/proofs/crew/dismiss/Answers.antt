@@ -1,6 +1,6 @@
 use Rattle.std.proofs.Common.{◌≡◌, ◌∙◌, ◌+◌, ◌<◌, ℕ, arith, ap, sym, subst, List, [], ◌∷◌, ◌++◌, length}
 use Rattle.std.proofs.Common.{All}
-use Rattle.std.specs.Prelude.{slice_index_or}
+use Rattle.std.specs.Prelude.{AllPairs, slice_index_or}
 use Rattle.std.proofs.lemmas.List.{length-append}
 use Rattle.std.proofs.lemmas.List.Elements.{All-nil}
 use Rattle.crossbeam_utils.specs.Padded.{padded_value}
@@ -89,6 +89,7 @@ loop-padded-preserved c =
     let log : WorkerLog = record { worker = w.number; tasks = c.from_vec.result; notes = c.from_vec-in-Some.result } in
     let is_log : IsLogOf p t w.pass log = record {
       worker_is = worked.ready.number_is;
+      ascends = subst (AllPairs (λ (x y : ℕ). x < y)) (sym c.from_vec.ensures) worked.seated.ascends;
       knows = subst (λ (xs : List ℕ). Knows p t w.pass xs log.notes) (sym c.from_vec.ensures)
           (subst (λ (ns : List OfferNote). Knows p t w.pass w.drawn.items ns) (sym c.from_vec-in-Some.ensures)
           worked.ready.knows);

@@ -1,5 +1,6 @@
-use Rattle.std.proofs.Common.{◌≡◌, ◌∙◌, ap, sym, subst, refl, arith, ℕ, List, [], ◌∷◌, ◌++◌, Some}
-use Rattle.std.specs.Prelude.{Vec, slice_get}
+use Rattle.std.proofs.Common.{◌≡◌, ◌<◌, ◌∙◌, ap, sym, subst, refl, arith, All, ℕ, List, [], ◌∷◌, ◌++◌, Some}
+use Rattle.std.specs.Prelude.{AllPairs, Vec, slice_get}
+use Rattle.std.proofs.lemmas.List.Quantifiers.{all_pairs_push}
 use Rattle.std.specs.declared.alloc.Global.{Global}
 use Rattle.std.proofs.lemmas.Option.{slice_get-get_or}
 use Rattle.geo_kernel.proofs.Paths.{Any-append_second, Any-here}
@@ -30,6 +31,7 @@ seated_moved c v w seat drawn before = record {
   table = ap (λ (x : Claim). x.table) seat ∙ before.table;
   shares = ap (λ (x : Claim). x.hand.shares) seat ∙ before.shares;
   drawn = ap (λ (x : Claim). x.hand.drawn) seat ∙ before.drawn ∙ sym drawn;
+  ascends = subst (AllPairs (λ (x y : ℕ). x < y)) (sym drawn) before.ascends;
 }
 
 -- a seat that saw that no place is left
@@ -39,17 +41,21 @@ seated_saw c v w before table hand drawn = record {
   table = table ∙ before.table;
   shares = ap (λ (h : Hand). h.shares) hand ∙ before.shares;
   drawn = ap (λ (h : Hand). h.drawn) hand ∙ before.drawn ∙ sym drawn;
+  ascends = subst (AllPairs (λ (x y : ℕ). x < y)) (sym drawn) before.ascends;
 }
 
 -- a seat that drew one place more, which was noted
 seated_more : (c : CounterOf) (v w : Worker) (s : Claim) (n : ℕ) → IsSeated c v → s.table ≡ v.seat.table
-    → s.hand ≡ drew (saw v.seat.hand s.hand.floor) n → w.seat ≡ s → w.drawn.items ≡ v.drawn.items ++ n ∷ []
-    → IsSeated c w
-seated_more c v w s n before table hand seat drawn = record {
+    → All (λ x. x < n) v.seat.hand.drawn → s.hand ≡ drew (saw v.seat.hand s.hand.floor) n → w.seat ≡ s
+    → w.drawn.items ≡ v.drawn.items ++ n ∷ [] → IsSeated c w
+seated_more c v w s n before table above hand seat drawn = record {
   table = ap (λ (x : Claim). x.table) seat ∙ table ∙ before.table;
   shares = ap (λ (x : Claim). x.hand.shares) seat ∙ ap (λ (h : Hand). h.shares) hand ∙ before.shares;
   drawn = ap (λ (x : Claim). x.hand.drawn) seat ∙ ap (λ (h : Hand). h.drawn) hand
       ∙ ap (λ (xs : List ℕ). xs ++ n ∷ []) before.drawn ∙ sym drawn;
+  ascends = subst (AllPairs (λ (x y : ℕ). x < y)) (sym drawn)
+      (all_pairs_push (λ (x y : ℕ). x < y) v.drawn.items n before.ascends
+      (subst (All (λ x. x < n)) before.drawn above));
 }
 
 -- the net of the last place is drawn
@@ -169,7 +175,8 @@ pub returns-in_err-work_off-clause-seated : goal.returns-in_err-work_off-clause-
 returns-in_err-work_off-clause-seated g c =
     let after = c.work_off.ensures.after in
     seated_more c.args.counter.now c.loop.w c.work_off.new.w c.claim.new.me c.in-Some-claim.place
-    c.loop.invariant.may_work.seated c.claim.ensures.table c.in-Some-claim.ensures.some.2 after.seat
+    c.loop.invariant.may_work.seated c.claim.ensures.table c.in-Some-claim.ensures.some.1
+    c.in-Some-claim.ensures.some.2 after.seat
     (ap (λ (v : Vec ℕ Global). v.items) after.drawn ∙ c.push_reserved.ensures.items
     ∙ ap (λ (xs : List ℕ). xs ++ c.in-Some-claim.place ∷ []) c.in_ok-reserve.ensures.items)
 
@@ -193,7 +200,7 @@ loop-preserved g c =
       may_work = record {
         ready = c.work_off.ensures.ready;
         seated = seated_more c.args.counter.now c.loop.w w c.claim.new.me c.in-Some-claim.place before.seated
-            c.claim.ensures.table drew.2 after.seat drawn_is;
+            c.claim.ensures.table drew.1 drew.2 after.seat drawn_is;
         ended = subst (λ (xs : List ℕ). EndsDrawn p t w.pass xs w.notes.items) (sym drawn_is)
             (drawn_more p t w.pass c.loop.w.drawn.items c.in-Some-claim.place _ w.notes.items
             (slice_get-get_or c.args.job.tasks.now c.in-Some-claim.place 0

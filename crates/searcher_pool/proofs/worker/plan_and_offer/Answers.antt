@@ -137,10 +137,10 @@ make-requires-clause-plan g c =
       board = b;
       reached = board_seen (pass_of c.args.job) c.args.turn.now turn keep c.args.w.now c.snap.new.pass b
           c.requires.ready calls;
-      plan = subst (Plans c.args.job.lat.now c.args.job.via_cost b c.args.w.now.number c.args.net
+      plan = (subst (Plans c.args.job.lat.now c.args.job.via_cost b c.args.w.now.number c.args.net
           c.args.job.penalty) c.in-Offer.is
           (c.in_ok-planned.ensures.plan b (snap_is (pass_of c.args.job) c.args.turn.now turn keep c.args.w.now
-          c.snap.new.pass b c.requires.ready calls c.in_ok-snap.snap c.in_ok-snap.ensures.ok.2));
+          c.snap.new.pass b c.requires.ready calls c.in_ok-snap.snap c.in_ok-snap.ensures.ok.2))).offer;
     }
 
 pub returns-in-Offer-clause-attempt : goal.returns-in-Offer-clause-attempt

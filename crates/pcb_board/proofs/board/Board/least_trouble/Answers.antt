@@ -19,7 +19,8 @@ pub least_trouble-requires-clause-serves : goal.least_trouble-requires-clause-se
 least_trouble-requires-clause-serves c = record {
   serves = subst (Serves c.self.inside.tiles.items) (sym c.get.ensures)
       (serves_now (board_of c.self.inside) c.self.invariant.board);
-  reaches = subst (HasClearancesWithin c.self.inside.tiles.reach) (sym c.get.ensures) c.self.invariant.spread.reach;
+  reaches = subst (HasClearancesWithin c.self.inside.tiles.reach) (sym c.get.ensures)
+      c.self.invariant.spread.greatest.within;
 }
 
 pub least_trouble-requires-clause-fit : goal.least_trouble-requires-clause-fit

@@ -2,9 +2,9 @@ use Rattle.std.proofs.Common.{◌≡◌, ◌+◌, ◌++◌, ◌∷◌, [], ℕ, 
 use Rattle.std.specs.List.{filter}
 use Rattle.pcb_model.specs.declared.item.Item.{Item}
 use Rattle.pcb_model.specs.declared.design.Design.{Design}
-use Rattle.pcb_model.specs.Bounds.{HasClearancesWithin}
+use Rattle.pcb_model.specs.declared.design.Design.{Design}
 use Rattle.pcb_tiles.specs.Spread.{Spread}
-use Rattle.pcb_tiles.specs.Tiling.{IsArea}
+use Rattle.pcb_board.specs.Snaps.{AreTilesOf}
 use Rattle.board_offers.specs.Given.{AreGiven}
 use Rattle.pcb_board.specs.declared.answer.Entry.TheVariants.{Back}
 use Rattle.pcb_board.specs.declared.board.Board.TheInside.{Inside}
@@ -60,9 +60,9 @@ parts c = record {
   history_is = history_is c;
   given_is = refl;
   items_are = items_are c;
-  area = subst (λ (t : Spread). IsArea t.area) (sym c.put_tiles.ensures) c.in_ok-tiles.ensures.area;
-  reach = subst (λ (t : Spread). HasClearancesWithin t.reach c.self.inside.design) (sym c.put_tiles.ensures)
-      (subst (HasClearancesWithin c.in_ok-tiles.tiles.reach) c.get.ensures c.in_ok-tiles.ensures.reach);
+  spread = subst (λ (t : Spread). AreTilesOf c.self.inside.design t.area t.reach) (sym c.put_tiles.ensures)
+      (subst (λ (d : Design). AreTilesOf d c.in_ok-tiles.tiles.area c.in_ok-tiles.tiles.reach) c.get.ensures
+      c.in_ok-tiles.ensures.spread);
   changed_is = changed_is c;
   workers_are = refl;
 }

@@ -11,6 +11,6 @@ returns-clause-cost g c =
     let t = c.self.inside.tiles in
     let ps = pieces_of c.args.d.now (metal_of c.args.p.now) in
     let few = few_entries t.area (box_of_points (vertices_of ps)) t.items (t.reach + half_up (greatest_width ps))
-    c.self.invariant.area in
+    c.self.invariant.is_area in
     let same = ap (λ (s : SnapOf). length s.items) c.self.view_is in
     omega (arith, few, same, c.is_blocked.ensures.cost)

@@ -10,6 +10,6 @@ returns-clause-cost g c =
     let t = c.self.inside.tiles in
     let ps = c.args.a.now.pieces in
     let few = few_entries t.area (box_of_points (vertices_of ps)) t.items (half_up (greatest_width ps))
-    c.self.invariant.area in
+    c.self.invariant.is_area in
     let same = ap (λ (s : SnapOf). length s.items) c.self.view_is in
     omega (arith, few, same, c.next_touch.ensures.cost)

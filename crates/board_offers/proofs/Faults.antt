@@ -18,7 +18,7 @@ use Rattle.board_offers.specs.Offers.{RipsInTheWay, ShovesInTheWay, NewAgree, Is
 use Rattle.board_offers.specs.Offers.{FailsFirst}
 use Rattle.board_offers.specs.Given.{AreGiven}
 use Rattle.board_offers.specs.Judging.{known_by}
-use Rattle.board_offers.specs.Inner.{LeadsBetween, IsInTheWayOf, IsShovableOf, MayShove}
+use Rattle.board_offers.specs.inner.Adding.{LeadsBetween, IsInTheWayOf, IsShovableOf, MayShove}
 use Rattle.board_offers.proofs.Lists.{all_from, found_at, that}
 use Rattle.board_offers.proofs.Fitting.{addable_fits}
 use Rattle.board_offers.proofs.New.{shoved_given}

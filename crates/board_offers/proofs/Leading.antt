@@ -4,7 +4,7 @@ use Rattle.std.proofs.Common.{arith}
 use Rattle.pcb_model.specs.declared.item.Item.{Item}
 use Rattle.pcb_model.specs.Pairs.{AreTouching}
 use Rattle.pcb_model.specs.Board.{LeadsTo}
-use Rattle.board_offers.specs.Inner.{last_item}
+use Rattle.board_offers.specs.inner.Adding.{last_item}
 
 pub last_more : (a : Item) (xs : List Item) (x : Item) → last_item a (xs ++ x ∷ []) ≡ x
 last_more a [] x = refl

@@ -3,7 +3,7 @@ use Rattle.std.proofs.Common.{◌≡◌, ℕ, ◌<◌, ◌≤◌, Bool, true, fa
 use Rattle.std.specs.Prelude.{nat_le, if◌then◌else◌}
 use Rattle.std.proofs.lemmas.Bool.{leb-true, leb-false}
 use Rattle.board_offers.specs.Troubles.{FailsLeast}
-use Rattle.board_offers.specs.Searching.{least_of}
+use Rattle.board_offers.specs.inner.Searching.{least_of}
 
 -- where each says what the other does
 pub least_same : (A B : ℕ → Type 0) → ((x : ℕ) → A x → B x) → ((x : ℕ) → B x → A x) → (r : Option ℕ) → FailsLeast A r

@@ -24,7 +24,8 @@ use Rattle.board_offers.specs.Items.{no_item, item_at, added, new_items, replace
 use Rattle.board_offers.specs.Items.{after_shoves}
 use Rattle.board_offers.specs.Given.{AreGiven}
 use Rattle.board_offers.specs.Troubles.{FailsLeast, StaysJoined}
-use Rattle.board_offers.specs.Searching.{least_of, lies_after, TouchesAfter, StaysBy, StayBy, StaysWith, StaysWithAll}
+use Rattle.board_offers.specs.inner.Searching.{least_of, lies_after, TouchesAfter, StaysBy, StayBy, StaysWith}
+use Rattle.board_offers.specs.inner.Searching.{StaysWithAll}
 use Rattle.board_offers.proofs.New.{added_length}
 use Rattle.board_offers.proofs.Least.{least_both, least_same}
 

@@ -9,7 +9,7 @@ use Rattle.std.proofs.lemmas.Bool.{eqb-true, false≢true, ltb-false, ltb-true}
 use Rattle.std.proofs.lemmas.Option.{none-some, slice_get-get_or, slice_get_past}
 use Rattle.pcb_model.specs.declared.item.Item.{Item}
 use Rattle.pcb_model.specs.Board.{LeadsTo}
-use Rattle.board_offers.specs.Inner.{LeadsBetween}
+use Rattle.board_offers.specs.inner.Adding.{LeadsBetween}
 
 -- the test of what is at a place
 pub at_some : {X : Type 0} (P : X → Type 0) (o : Option X) (x : X) (r : Bool) → Some x ≡ o → IsTrue r ↔ P x

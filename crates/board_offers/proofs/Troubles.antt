@@ -13,7 +13,7 @@ use Rattle.pcb_model.specs.Copper.{Finds, IsLeast, IsOther}
 use Rattle.board_offers.specs.Items.{names, is_on}
 use Rattle.board_offers.specs.declared.offer.Offer.{Offer}
 use Rattle.board_offers.specs.Troubles.{FailsLeast, IsThere, AgreesWithNew, StaysJoined, IsClear}
-use Rattle.board_offers.specs.Searching.{least_of, IsNamedThere, AgreesUnless, AgreesWithAll, ArePassed}
+use Rattle.board_offers.specs.inner.Searching.{least_of, IsNamedThere, AgreesUnless, AgreesWithAll, ArePassed}
 use Rattle.board_offers.proofs.Least.{least_both, least_same}
 
 -- ---- names

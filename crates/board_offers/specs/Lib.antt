@@ -3,5 +3,4 @@ pub mod Given
 pub mod Offers
 pub mod Judging
 pub mod Troubles
-pub mod Inner
-pub mod Searching
+pub mod inner

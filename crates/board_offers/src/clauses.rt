@@ -7,7 +7,7 @@ ghost use Rattle.pcb_model.specs.declared.item.Item.{Item as OneItem};
 ghost use Rattle.pcb_model.specs.Bounds.{IsItemFit, IsBoundFit, HasRulesWithin};
 ghost use Rattle.pcb_model.specs.Board.{AreInside, LeadsTo};
 ghost use Rattle.board_offers.specs.Offers.{IsOfNet, LeadsAcross};
-ghost use Rattle.board_offers.specs.Inner.{IsInTheWayOf, LeadsBetween};
+ghost use Rattle.board_offers.specs.inner.Adding.{IsInTheWayOf, LeadsBetween};
 
 use crate::offer::{CLOSER, Offer};
 use crate::pairs::{has_net, some_disagrees, touching};

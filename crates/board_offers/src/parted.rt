@@ -7,7 +7,7 @@ ghost use Rattle.pcb_model.specs.declared.design.Design.{Design as TheDesign};
 ghost use Rattle.pcb_model.specs.Bounds.{IsItemFit};
 ghost use Rattle.board_offers.specs.Given.{AreGiven};
 ghost use Rattle.board_offers.specs.Troubles.{FailsLeast};
-ghost use Rattle.board_offers.specs.Searching.{lies_after, TouchesAfter, StaysBy, StaysWith, StaysWithAll};
+ghost use Rattle.board_offers.specs.inner.Searching.{lies_after, TouchesAfter, StaysBy, StaysWith, StaysWithAll};
 
 use crate::clauses::given_item;
 use crate::offer::Shoved;

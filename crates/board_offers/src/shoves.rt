@@ -10,7 +10,7 @@ ghost use Rattle.board_offers.specs.declared.offer.Shoved.{Shoved as OneShove};
 ghost use Rattle.board_offers.specs.Items.{item_at, replaced_from, reshaped as reshaped_item};
 ghost use Rattle.board_offers.specs.Offers.{IsWire};
 ghost use Rattle.board_offers.specs.Given.{AreGiven};
-ghost use Rattle.board_offers.specs.Inner.{IsInTheWayOf, IsShovableOf, MayShove};
+ghost use Rattle.board_offers.specs.inner.Adding.{IsInTheWayOf, IsShovableOf, MayShove};
 
 use crate::clauses::{given_item, is_in_the_way};
 use crate::make::reshaped;

@@ -9,7 +9,7 @@ ghost use Rattle.pcb_model.specs.Pairs.{Agrees, AreTouching};
 ghost use Rattle.board_offers.specs.Given.{AreGiven};
 ghost use Rattle.board_offers.specs.Items.{names, is_on, new_items, gone};
 ghost use Rattle.board_offers.specs.Troubles.{FailsLeast, IsThere, AgreesWithNew, StaysJoined, IsClear};
-ghost use Rattle.board_offers.specs.Searching.{least_of, IsNamedThere, AgreesUnless, AgreesWithAll};
+ghost use Rattle.board_offers.specs.inner.Searching.{least_of, IsNamedThere, AgreesUnless, AgreesWithAll};
 
 use crate::ids::{gone_ids, is_named};
 use crate::offer::Offer;

@@ -6,7 +6,7 @@ use mathlib.Core.Option.{some, some-ne-none}
 use lib.ListN.{get_elem?}
 use Rattle.board_turn.specs.declared.lock.PassView.{PassView}
 use Rattle.board_turn.specs.Claims.{one_if, once_below}
-use Rattle.board_turn.specs.Lock.{named}
+use Rattle.board_turn.specs.inner.Lock.{named}
 
 -- what is set stands there
 pub set_at : {A : Type 0} (l : List A) (i : ℕ) (a b : A) → get_elem? l i ≡ some a → get_elem? (set l i b) i ≡ some b

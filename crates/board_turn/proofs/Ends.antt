@@ -18,7 +18,8 @@ use Rattle.board_turn.specs.declared.lock.Role.TheVariants.{Free, Holds}
 use Rattle.board_turn.specs.declared.lock.View.{View}
 use Rattle.board_turn.specs.Events.{Reaches, own, IsPrefix, AllNamed}
 use Rattle.board_turn.specs.Turns.{TurnOf, PassOf, turn_of, count_of, Ended}
-use Rattle.board_turn.specs.Lock.{named, HaveSeen, FitsRole, Slot, HasHolder, Kept}
+use Rattle.board_turn.specs.Lock.{Slot}
+use Rattle.board_turn.specs.inner.Lock.{named, HaveSeen, FitsRole, HasHolder, Kept}
 use Rattle.board_turn.specs.Claims.{one_if, once_below}
 use Rattle.board_turn.specs.Seats.{pass_of}
 use Rattle.board_turn.proofs.Totals.{total-at, total-two}

@@ -18,7 +18,7 @@ use Rattle.board_turn.specs.declared.event.Deed.TheVariants.{Looked, Offered, Id
 use Rattle.board_turn.specs.declared.event.Event.{Event}
 use Rattle.board_turn.specs.declared.lock.PassView.{PassView}
 use Rattle.board_turn.specs.Events.{Does, Reaches, Extends, own, IsPrefix, AllNamed, committed_by, committed, offer_in}
-use Rattle.board_turn.specs.Lock.{HaveSeen, named}
+use Rattle.board_turn.specs.inner.Lock.{HaveSeen, named}
 
 -- ---- parts of lists of events
 pub own-append : (n : ℕ) (xs ys : List Event) → own n (xs ++ ys) ≡ own n xs ++ own n ys

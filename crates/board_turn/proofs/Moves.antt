@@ -21,9 +21,11 @@ use Rattle.board_turn.specs.declared.lock.Role.TheVariants.{Free, Waits, Holds}
 use Rattle.board_turn.specs.declared.lock.View.{View}
 use Rattle.board_turn.specs.Events.{event, Does, Reaches, own, IsPrefix}
 use Rattle.board_turn.specs.Claims.{one_if, once_below}
-use Rattle.board_turn.specs.Lock.{named, has_ticket, HaveSeen, FitsRole, IsTrueView, Slot, HasHolder, Kept, pass_view}
-use Rattle.board_turn.specs.Lock.{new_passes, view_of, no_passes, with_role, Reads, Draws, Served, Looks, with_event}
-use Rattle.board_turn.specs.Lock.{Advances, without_first, first_alone, both_views}
+use Rattle.board_turn.specs.Lock.{Slot, pass_view}
+use Rattle.board_turn.specs.inner.Lock.{named, has_ticket, HaveSeen, FitsRole, IsTrueView, HasHolder, Kept}
+use Rattle.board_turn.specs.Lock.{view_of}
+use Rattle.board_turn.specs.inner.Lock.{new_passes, no_passes, with_role, Reads, Draws, Served, Looks, with_event}
+use Rattle.board_turn.specs.inner.Lock.{Advances, without_first, first_alone, both_views}
 use Rattle.board_turn.proofs.Totals.{total-set, total-snoc, total-at, total-two, once_below-suc}
 use Rattle.board_turn.proofs.Counts.{set_at, one_if_same, one_if_most, is_below, named-append}
 use Rattle.board_turn.proofs.EventLists.{prefix_refl, reaches-snoc, named_snoc, seen-append, seen-other}

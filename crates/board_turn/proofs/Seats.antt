@@ -12,7 +12,8 @@ use Rattle.board_turn.specs.declared.lock.View.{View}
 use Rattle.atomic_table.specs.Seated.{TableId}
 use Rattle.board_turn.specs.Events.{event}
 use Rattle.board_turn.specs.Turns.{PassOf, TurnOf, Calls, passes_of, turn_of}
-use Rattle.board_turn.specs.Lock.{new_passes, without_first, first_alone, Slot, view_of, Served, pass_view, with_event}
+use Rattle.board_turn.specs.Lock.{Slot, view_of, pass_view}
+use Rattle.board_turn.specs.inner.Lock.{new_passes, without_first, first_alone, Served, with_event}
 use Rattle.board_turn.specs.Seats.{pass_at, HasRole, HasBoardOut, HasTaken, pass_of, key_of}
 
 -- a seat that has the slot holds it first

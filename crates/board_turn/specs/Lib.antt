@@ -3,3 +3,4 @@ pub mod Events
 pub mod Lock
 pub mod Turns
 pub mod Seats
+pub mod inner

@@ -5,11 +5,13 @@
 
 mod claims;
 mod event;
+mod gate;
 mod laws;
 mod lock;
 mod turn;
 
 pub use claims::{Claimer, Counter};
 pub use event::{Deed, Event};
+pub use gate::{Gate, NoGate};
 pub use laws::{events_keep, one_pass_sees_all};
 pub use turn::{Pass, Turn};

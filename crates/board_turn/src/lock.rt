@@ -4,7 +4,7 @@
 
 ghost use Rattle.std.specs.Prelude.{◌≡◌};
 ghost use Rattle.board_turn.specs.Events.{Does, Reaches};
-ghost use Rattle.board_turn.specs.Lock.{with_event};
+ghost use Rattle.board_turn.specs.inner.Lock.{with_event};
 ghost use Rattle.board_turn.specs.Seats.{pass_at, HasRole, HasBoardOut, HasTaken, deed_of};
 ghost use Rattle.board_turn.specs.declared.lock.Role.TheVariants.{Free, Waits};
 ghost use Rattle.pcb_board.specs.Boards.{BoardOf};
@@ -51,7 +51,8 @@ pub struct TicketLock;
 
 impl TableRule<Option<Board>, View, Opening> for TicketLock {
     ghost use Rattle.board_turn.specs.declared.lock.Role.TheVariants.{Free};
-    ghost use Rattle.board_turn.specs.Lock.{Kept, view_of, new_passes};
+    ghost use Rattle.board_turn.specs.Lock.{view_of};
+    ghost use Rattle.board_turn.specs.inner.Lock.{Kept, new_passes};
 
     ghost holds = { Kept };
 
@@ -62,7 +63,7 @@ impl TableRule<Option<Board>, View, Opening> for TicketLock {
 pub(crate) struct SplitsFirst;
 
 impl Split<View> for SplitsFirst {
-    ghost use Rattle.board_turn.specs.Lock.{without_first, first_alone};
+    ghost use Rattle.board_turn.specs.inner.Lock.{without_first, first_alone};
 
     ghost left = { without_first };
 
@@ -73,7 +74,7 @@ impl Split<View> for SplitsFirst {
 pub(crate) struct JoinsAll;
 
 impl Join<View> for JoinsAll {
-    ghost use Rattle.board_turn.specs.Lock.{both_views, no_passes};
+    ghost use Rattle.board_turn.specs.inner.Lock.{both_views, no_passes};
 
     ghost both = { both_views };
 
@@ -84,7 +85,7 @@ impl Join<View> for JoinsAll {
 struct Reads;
 
 impl Play<Option<Board>, View> for Reads {
-    ghost use Rattle.board_turn.specs.Lock.{Reads};
+    ghost use Rattle.board_turn.specs.inner.Lock.{Reads};
 
     ghost then = { Reads };
 }
@@ -93,7 +94,7 @@ impl Play<Option<Board>, View> for Reads {
 struct Draws;
 
 impl Play<Option<Board>, View> for Draws {
-    ghost use Rattle.board_turn.specs.Lock.{Draws};
+    ghost use Rattle.board_turn.specs.inner.Lock.{Draws};
 
     ghost then = { Draws };
 }
@@ -102,7 +103,7 @@ impl Play<Option<Board>, View> for Draws {
 struct Looks;
 
 impl Play<Option<Board>, View> for Looks {
-    ghost use Rattle.board_turn.specs.Lock.{Looks};
+    ghost use Rattle.board_turn.specs.inner.Lock.{Looks};
 
     ghost then = { Looks };
 }
@@ -126,7 +127,7 @@ struct Advances<E> {
 }
 
 impl<E: Noted> Play<Option<Board>, View> for Advances<E> {
-    ghost use Rattle.board_turn.specs.Lock.{Advances};
+    ghost use Rattle.board_turn.specs.inner.Lock.{Advances};
 
     ghost then = { Advances E.deed };
 }

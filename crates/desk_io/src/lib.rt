@@ -1,5 +1,4 @@
-//! Named files, a place for a report, and a gate between the steps of a worker: all that the router sees of the
-//! outside.
+//! Named files and a place for a report: all that the router sees of the outside.
 //! Contracts see a desk as its files, a sink as the bytes that were put, and both as a count of faults and as calm
 //! or not.
 #![tactic(auto)]
@@ -7,14 +6,12 @@
 mod calm;
 mod count;
 mod desk;
-mod gate;
 mod host;
 mod memory;
 mod sink;
 
 pub use calm::CalmDesk;
 pub use desk::{Desk, DeskFail, Sink, SinkFail};
-pub use gate::{Gate, NoGate};
 pub use host::{HostDesk, HostSink};
 pub use memory::MemDesk;
 pub use sink::MemSink;

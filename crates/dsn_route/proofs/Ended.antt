@@ -14,7 +14,7 @@ use Rattle.dsn_route.specs.declared.status.Status.TheVariants.{Usage, Refused, R
 use Rattle.dsn_route.specs.Status.{ended_of}
 use Rattle.dsn_route.specs.Commands.{IsText}
 use Rattle.dsn_route.specs.Answers.{Stops, Said, Stopped, Answers}
-use Rattle.dsn_route.specs.Said.{RoutesDesign}
+use Rattle.dsn_route.specs.inner.Said.{RoutesDesign}
 
 -- the line of a cause was put
 line_said : (command : Result Command WordFault) (desk later : DeskState) (sink after : SinkState) (status : Status)

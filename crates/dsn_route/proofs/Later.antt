@@ -5,7 +5,7 @@ use Rattle.desk_io.specs.Answers.{DeskFaulted}
 use Rattle.route_words.specs.declared.command.Command.{Command}
 use Rattle.route_words.specs.declared.command.Command.TheVariants.{Route, Gen}
 use Rattle.route_run.specs.declared.run.Routed.{Routed}
-use Rattle.route_report.specs.declared.facts.Facts.{Facts}
+use Rattle.route_run.specs.declared.facts.Facts.{Facts}
 use Rattle.pcb_board.specs.Boards.{BoardOf}
 use Rattle.dsn_route.specs.declared.status.Status.{Status}
 use Rattle.dsn_route.specs.declared.status.Status.TheVariants.{Complete, SomeOpen, Usage, Refused, ReadFault}

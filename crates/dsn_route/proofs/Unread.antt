@@ -23,7 +23,7 @@ use Rattle.dsn_route.specs.Texts.{tree_refusal, refusal_of, IsMisspelt, LacksDes
 use Rattle.dsn_route.specs.Lines.{over_line, refused_line}
 use Rattle.dsn_route.specs.Commands.{IsText}
 use Rattle.dsn_route.specs.Answers.{Stops, Stopped}
-use Rattle.dsn_route.specs.Said.{EndsBy, line_of, due_of}
+use Rattle.dsn_route.specs.inner.Said.{EndsBy, line_of, due_of}
 use Rattle.dsn_route.proofs.Ended.{stopped}
 
 -- a fault of the tree, or want of memory, of which there is no refusal

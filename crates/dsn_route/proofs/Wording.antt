@@ -10,7 +10,7 @@ use Rattle.route_words.specs.declared.command.WordFault.TheVariants.{NoCommand, 
 use Rattle.route_words.specs.Words.{Says}
 use Rattle.dsn_route.specs.Lines.{max_bytes, number_of, read_fault_line, limit_line}
 use Rattle.dsn_route.specs.Answers.{IsUnread, IsOverlong}
-use Rattle.dsn_route.specs.Said.{IsInputOf}
+use Rattle.dsn_route.specs.inner.Said.{IsInputOf}
 
 -- a fault that has a number is that of the words
 pub misworded : (told : Result Command WordFault) (fault : WordFault) (n : ℕ) → Says told (Err fault)

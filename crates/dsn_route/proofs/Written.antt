@@ -5,13 +5,13 @@ use Rattle.desk_io.specs.Answers.{PutGives}
 use Rattle.desk_io.specs.declared.desk.SinkFail.{SinkFail}
 use Rattle.desk_io.specs.declared.desk.SinkFail.TheVariants as sink_fail
 use Rattle.route_words.specs.declared.command.Command.{Command}
-use Rattle.route_report.specs.declared.facts.Facts.{Facts}
+use Rattle.route_run.specs.declared.facts.Facts.{Facts}
 use Rattle.pcb_board.specs.Boards.{BoardOf}
 use Rattle.dsn_route.specs.declared.status.Status.{Status}
 use Rattle.dsn_route.specs.declared.status.Status.TheVariants.{Complete, SomeOpen}
 use Rattle.dsn_route.specs.Status.{ended_of}
 use Rattle.dsn_route.specs.Answers.{HasWritten, Leaves, report_for}
-use Rattle.dsn_route.specs.Said.{IsVerdict}
+use Rattle.dsn_route.specs.inner.Said.{IsVerdict}
 
 module _ (command : Command) (b : BoardOf) (facts : Facts) (desk later : DeskState) (sink after : SinkState)
     (has : HasWritten command b desk later) where

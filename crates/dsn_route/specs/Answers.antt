@@ -12,7 +12,7 @@ use Rattle.ses_writer.specs.Session.{session_of}
 use Rattle.route_words.specs.declared.command.Command.{Command}
 use Rattle.route_words.specs.declared.command.Command.TheVariants.{Route, Gen}
 use Rattle.route_words.specs.declared.command.WordFault.{WordFault}
-use Rattle.route_report.specs.declared.facts.Facts.{Facts}
+use Rattle.route_run.specs.declared.facts.Facts.{Facts}
 use Rattle.route_report.specs.Report.{report_of}
 use Rattle.pcb_board.specs.Boards.{BoardOf}
 use Rattle.route_run.specs.declared.run.Routed.{Routed}

@@ -4,4 +4,4 @@ pub mod Texts
 pub mod Commands
 pub mod Answers
 pub mod Due
-pub mod Said
+pub mod inner

@@ -3,7 +3,7 @@
 
 ghost use Rattle.std.specs.Prelude.{◌≡◌};
 ghost use Rattle.dsn_route.specs.Texts.{refusal_of, tree_refusal};
-ghost use Rattle.dsn_route.specs.Said.{EndsBy, due_of, line_of};
+ghost use Rattle.dsn_route.specs.inner.Said.{EndsBy, due_of, line_of};
 
 use crate::Status;
 use crate::lines::{say_over, say_refused};

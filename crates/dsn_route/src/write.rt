@@ -6,7 +6,7 @@ ghost use Rattle.desk_io.specs.States.{DeskState};
 ghost use Rattle.route_words.specs.declared.command.Command.TheVariants.{Route, Gen};
 ghost use Rattle.dsn_route.specs.Commands.{mesh_at, mesh_of, default_knobs};
 ghost use Rattle.dsn_route.specs.Answers.{Leaves};
-ghost use Rattle.dsn_route.specs.Said.{IsVerdict};
+ghost use Rattle.dsn_route.specs.inner.Said.{IsVerdict};
 
 use crate::Status;
 use crate::status::ended;

@@ -42,9 +42,9 @@ use Rattle.dsn_shapes.specs.Shapes.{area_of, ban_of, ban_refusals, ban_shape, bo
 use Rattle.dsn_shapes.specs.Shapes.{empty_rim, empty_shape, form_in, held_loop, held_shape, loop_of, loop_refusals}
 use Rattle.dsn_shapes.specs.Shapes.{no_form, refusals_in, rim, rim_of, rim_refusals, shape_of, shape_refusals, shaped}
 use Rattle.dsn_shapes.specs.Shapes.{spine_of, spine_refusals, windows_of}
-use Rattle.dsn_shapes.specs.Rules.{clearances_in, is_plain, is_zero, pairing_of, plain_at, rule_refusals, rule_set}
-use Rattle.dsn_shapes.specs.Rules.{rules_left_out, set_of, set_refusals, typed_at, typed_by, width_refusals, widths_in}
-use Rattle.dsn_shapes.specs.Rules.{zero_width}
+use Rattle.dsn_shapes.specs.Rules.{clearances_in, is_plain, is_zero, pair_rule_refusals, pair_rule_set, pairing_of}
+use Rattle.dsn_shapes.specs.Rules.{plain_at, rule_refusals, rule_set, rules_left_out, set_of, set_refusals, typed_at}
+use Rattle.dsn_shapes.specs.Rules.{typed_by, width_left_out, width_refusals, widths_in, zero_width}
 use Rattle.dsn_shapes.specs.Fits.{IsArea, IsBoundShape, IsPlainShape, IsRuleSetFit, IsShapeFit}
 use Rattle.dsn_shapes.proofs.Within.{ban_near, bound_near, held_near, shape_near}
 
@@ -572,3 +572,10 @@ set_fit nm widths clearances e = record {
 pub rules_fit : (nm : ℕ) (rules : List Tree) → rule_refusals nm rules ≡ [] → IsRuleSetFit (rule_set nm rules)
 rules_fit nm rules e =
     set_fit nm (widths_in rules) (clearances_in rules) (back_nil (rules_left_out rules (clearances_in rules)) _ e)
+
+pub pair_rules_fit : (nm : ℕ) (rules : List Tree) → pair_rule_refusals nm rules ≡ []
+    → IsRuleSetFit (pair_rule_set nm rules)
+unfolding pair_rule_refusals
+pair_rules_fit nm rules e =
+    set_fit nm [] (clearances_in rules) (back_nil (rules_left_out rules (clearances_in rules)) _
+    (back_nil (flat_map width_left_out (widths_in rules)) _ e))

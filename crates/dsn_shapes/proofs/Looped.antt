@@ -7,7 +7,7 @@ use Rattle.std.proofs.lemmas.List.{flat_map_more, map_more, map_push}
 use Rattle.std.proofs.lemmas.List.Sums.{fold-append}
 use Rattle.dsn_tree.specs.declared.tree.Tree.{Tree}
 use Rattle.dsn_shapes.specs.declared.refusal.Refusal.{Refusal}
-use Rattle.dsn_shapes.specs.Lists.{trees_of}
+use Rattle.dsn_shapes.specs.Lists.{lists, trees_of}
 use Rattle.dsn_shapes.specs.Refusals.{kept, noted}
 
 -- what is noted after something else is noted with it
@@ -50,3 +50,8 @@ pub noted_more : (f : Tree → List Refusal) (ts : List (Bor Tree)) (i : ℕ) (t
 noted_more f ts i t first now new h e p q =
     then_noted first now new (flat_map f (trees_of (take i ts))) (f t.now) p q
     ∙ ap (noted first) (all_more f ts i t (flat_map f (trees_of (take i ts))) h e refl)
+
+-- the lists of one head, which is given as another
+pub headed_by : (head given : List ℕ) (rules ts : List Tree) → ts ≡ lists (given ∷ []) rules → given ≡ head
+    → ts ≡ lists (head ∷ []) rules
+headed_by head given rules ts p e = p ∙ ap (λ h. lists (h ∷ []) rules) e

@@ -1,6 +1,6 @@
 -- Each refusal of the shared parts is one of the table.
-use Rattle.std.proofs.Common.{◌≡◌, ◌≢◌, ◌++◌, ◌+◌, ◌-◌, ℕ, Bool, true, false, cond, ◌&&◌, ◌||◌, List, [], ◌∷◌, Option}
-use Rattle.std.proofs.Common.{Some, None, length, refl, subst, arith}
+use Rattle.std.proofs.Common.{◌≡◌, ◌≢◌, ◌++◌, ◌+◌, ◌-◌, ◌*◌, ℕ, Bool, true, false, cond, ◌&&◌, ◌||◌, List, []}
+use Rattle.std.proofs.Common.{◌∷◌, Option, Some, None, length, refl, subst, arith}
 use Rattle.std.specs.Prelude.{◌==◌, nat_le, nat_lt, not, All, codes, slice_get}
 use Rattle.std.specs.List.{flat_map}
 use Rattle.std.specs.Option.{option_map_or}
@@ -11,6 +11,7 @@ use Rattle.dsn_tree.specs.Heads.{is_headed, items_of}
 use Rattle.dsn_units.specs.declared.number.Decimal.{Decimal}
 use Rattle.dsn_units.specs.Length.{angle_of, coord_of, extent_of}
 use Rattle.dsn_units.specs.Reading.{decimal_of}
+use Rattle.pcb_model.specs.declared.limits.TheConstants.{MOST_VERTICES}
 use Rattle.dsn_shapes.specs.declared.refusal.Refusal.{Refusal}
 use Rattle.dsn_shapes.specs.declared.refusal.What.{What}
 use Rattle.dsn_shapes.specs.declared.refusal.What.TheVariants.{Nothing, Vertices}
@@ -21,6 +22,7 @@ use Rattle.dsn_shapes.specs.declared.parts.Layer.{Layer}
 use Rattle.dsn_shapes.specs.Refusals.{least, refused}
 use Rattle.dsn_shapes.specs.Limits.{most_of, past_limit, too_many}
 use Rattle.dsn_shapes.specs.Tabled.{IsTabled}
+use Rattle.dsn_shapes.specs.declared.table.TheConstants.{NO_BOARD, PAST_LIMIT, BAD_PAIR}
 use Rattle.dsn_shapes.specs.Lists.{at_of, has_quote, is_left_out, left_out, left_out_in, name_of, nth_word, place_of}
 use Rattle.dsn_shapes.specs.Lists.{quoted_name, text_of, words_of}
 use Rattle.dsn_shapes.specs.Names.{first_place, given_again, is_at, names_at, same_names}
@@ -32,8 +34,8 @@ use Rattle.dsn_shapes.specs.Forms.{coord_words, first_coord, form_of, has_count,
 use Rattle.dsn_shapes.specs.Forms.{points_of, ring_of, ring_refusals, vertex_limit, width_refusal}
 use Rattle.dsn_shapes.specs.Shapes.{ban_refusals, bound_forms, bound_refusals, form_in, is_circle, loop_refusals}
 use Rattle.dsn_shapes.specs.Shapes.{no_form, refusals_in, rim_refusals, shape_refusals, spine_refusals, windows_of}
-use Rattle.dsn_shapes.specs.Rules.{clearances_in, is_zero, rule_refusals, rules_left_out, set_refusals, width_refusals}
-use Rattle.dsn_shapes.specs.Rules.{widths_in}
+use Rattle.dsn_shapes.specs.Rules.{clearances_in, is_zero, pair_rule_refusals, refusals_with, rule_refusals}
+use Rattle.dsn_shapes.specs.Rules.{rules_left_out, set_refusals, width_left_out, width_refusals, widths_in}
 use Rattle.dsn_shapes.proofs.First.{first_of}
 use Rattle.dsn_shapes.proofs.Fits.{all_joined}
 
@@ -43,7 +45,7 @@ AreTabled rs = All IsTabled rs
 -- ---- one refusal
 -- a number of no limit
 abbrev pub is_plain : ℕ → Bool
-is_plain n = nat_le 7 n && (nat_le n 24 && not (n == 23))
+is_plain n = nat_le NO_BOARD n && (nat_le n BAD_PAIR && not (n == PAST_LIMIT))
 
 plain : (n at : ℕ) → is_plain n ≡ true → IsTabled (refused n at)
 plain n at e = record {
@@ -163,7 +165,8 @@ outline_tabled nm layers form t = either (has_count form (length (words_of t))) 
 
 limit_of_vertices : (form : Form) (t : Tree) (n : ℕ) → AreTabled (vertex_limit form t n)
 limit_of_vertices form t n =
-    either (nat_lt 4096 n) _ [] (passed Vertices (place_of t (first_coord form + 8192)) (λ e. cc)) none
+    either (nat_lt MOST_VERTICES n) _ []
+    (passed Vertices (place_of t (first_coord form + 2 * MOST_VERTICES)) (λ e. cc)) none
 
 ring_tabled : (form : Form) (t : Tree) (n : ℕ) → AreTabled (ring_refusals form t n)
 ring_tabled form t n = both _ _ (where_holds (nat_lt n 3) 22 (at_of t) refl) (limit_of_vertices form t n)
@@ -224,9 +227,17 @@ widths_tabled nm t =
     both _ _ (extent_tabled nm t 1)
     (where_holds (is_zero (option_map_or (word_extent nm) (nth_word t 1) None)) 9 (place_of t 1) refl)
 
-pub rules_tabled : (nm : ℕ) (rules : List Tree) → AreTabled (rule_refusals nm rules)
+with_tabled : (nm : ℕ) (rules widths : List Tree) → AreTabled (refusals_with nm rules widths)
 unfolding rules_left_out set_refusals
-rules_tabled nm rules = both (rules_left_out rules (clearances_in rules)) _
+with_tabled nm rules widths = both (rules_left_out rules (clearances_in rules)) _
     (both _ _ (all_left_out_tabled rules) (all_left_out_tabled (clearances_in rules)))
-    (both _ _ (each (width_refusals nm) (widths_tabled nm) (widths_in rules))
+    (both _ _ (each (width_refusals nm) (widths_tabled nm) widths)
     (each (λ t. extent_refusal nm t 1) (λ t. extent_tabled nm t 1) (clearances_in rules)))
+
+pub rules_tabled : (nm : ℕ) (rules : List Tree) → AreTabled (rule_refusals nm rules)
+rules_tabled nm rules = with_tabled nm rules (widths_in rules)
+
+pub pair_rules_tabled : (nm : ℕ) (rules : List Tree) → AreTabled (pair_rule_refusals nm rules)
+unfolding pair_rule_refusals
+pair_rules_tabled nm rules =
+    both _ _ (each width_left_out (λ t. one 21 (place_of t 0) refl) (widths_in rules)) (with_tabled nm rules [])

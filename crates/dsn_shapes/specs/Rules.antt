@@ -17,7 +17,7 @@ use Rattle.dsn_shapes.specs.declared.rules.Pairing.TheVariants.{Plain, Unknown, 
 use Rattle.dsn_shapes.specs.Refusals.{refused}
 use Rattle.dsn_shapes.specs.Lists.{lists, name_of, nth_word, place_of, notes_in, left_out_in}
 use Rattle.dsn_shapes.specs.Numbers.{word_extent, extent_at, extent_refusal}
-use Rattle.dsn_shapes.specs.declared.table.TheConstants.{NO_NUMBER}
+use Rattle.dsn_shapes.specs.declared.table.TheConstants.{LEFT_OUT, NO_NUMBER}
 
 -- ---- which pairs a clearance is for
 abbrev pub kind_of : List ℕ → Option Kind
@@ -111,9 +111,13 @@ set_refusals nm widths clearances =
 unfoldable pub rules_left_out : List Tree → List Tree → List Refusal
 rules_left_out rules clearances = left_out_in rules ++ left_out_in clearances
 
+-- of some rules, of whose widths these are looked at
+abbrev pub refusals_with : ℕ → List Tree → List Tree → List Refusal
+refusals_with nm rules widths =
+    rules_left_out rules (clearances_in rules) ++ set_refusals nm widths (clearances_in rules)
+
 abbrev pub rule_refusals : ℕ → List Tree → List Refusal
-rule_refusals nm rules =
-    rules_left_out rules (clearances_in rules) ++ set_refusals nm (widths_in rules) (clearances_in rules)
+rule_refusals nm rules = refusals_with nm rules (widths_in rules)
 
 -- a clearance of an unknown type is passed over
 unfoldable pub notes_with : List Tree → List Tree → ℕ
@@ -122,3 +126,14 @@ notes_with rules clearances = notes_in list.Rule rules
 
 abbrev pub rule_notes : List Tree → ℕ
 rule_notes rules = notes_with rules (clearances_in rules)
+
+-- ---- rules between two classes, which give clearances alone
+abbrev pub pair_rule_set : ℕ → List Tree → RuleSet
+pair_rule_set nm rules = set_of nm [] (clearances_in rules)
+
+-- a width there is left out, and its number isn't looked at
+abbrev pub width_left_out : Tree → List Refusal
+width_left_out t = refused LEFT_OUT (place_of t 0) ∷ []
+
+unfoldable pub pair_rule_refusals : ℕ → List Tree → List Refusal
+pair_rule_refusals nm rules = flat_map width_left_out (widths_in rules) ++ refusals_with nm rules []

@@ -175,8 +175,8 @@ pub(crate) fn read_outline(
     })
 }
 
-/// The points of coordinates that are taken two by two.
-pub(crate) fn points_of(alloc: Global, coords: &[Option<i64>]) -> Result<List<Point>, AllocError>
+/// The points of coordinates that are taken two by two; a coordinate that isn't there is 0.
+pub fn points_of(alloc: Global, coords: &[Option<i64>]) -> Result<List<Point>, AllocError>
     ensures { IfOk result (λ ps. ps ≡ points_of coords.now) }
 {
     let mut points = List::new(alloc);

@@ -23,6 +23,7 @@ mod trees;
 
 pub use angles::angle_in;
 pub use area::{Bounds, Keepouts, Shapes, ban_notes, shape_notes};
+pub use form::points_of;
 pub use known::{ListKind, form_heads, idle_in, keepout_heads, read_in};
 pub use laws::first_counts;
 pub use limits::{most_of, past_limit, refuse_past};
@@ -39,6 +40,6 @@ pub use parts::{
     ReadClass, ReadNet, ReadWire, Split, Stack, Structure, Wiring,
 };
 pub use refusal::{DesignFault, ReadFault, Refusal, What, note, refused};
-pub use rules::{Rules, read_rules};
+pub use rules::{Rules, copy_rules, read_pair_rules, read_rules};
 pub use shape::{note_shape, read_shape};
 pub use trees::{Trees, has_head, pass_over};

@@ -1,4 +1,4 @@
-//! Rule sets of a structure, a class or a net: widths and clearances in nm.
+//! Rule sets of a structure, a class, a net or a class pair: widths and clearances in nm.
 //! Source: SPECCTRA reference, rule, width and clearance descriptors.
 
 ghost use Rattle.std.specs.Prelude.{◌==◌, ◌<◌, length, position, IfSome, ◌≡◌, ◌++◌, ◌∷◌, [], map, codes, count_by};
@@ -9,15 +9,16 @@ ghost use Rattle.dsn_shapes.specs.Lists.{capped, left_out_in, trees_of};
 ghost use Rattle.dsn_shapes.specs.Numbers.{extent_at, extent_refusal};
 ghost use Rattle.dsn_shapes.specs.Refusals.{noted};
 ghost use Rattle.dsn_shapes.specs.Rules.{clearances_in, is_plain, is_unknown, is_zero, kind_of, last_of};
-ghost use Rattle.dsn_shapes.specs.Rules.{pair_of, pairing_of, plain_at, notes_with, rule_notes, rule_refusals};
-ghost use Rattle.dsn_shapes.specs.Rules.{rule_set, rules_left_out, set_of, set_refusals, split_pair, typed_at};
-ghost use Rattle.dsn_shapes.specs.Rules.{typed_by, width_refusals, widths_in, zero_width};
+ghost use Rattle.dsn_shapes.specs.Rules.{notes_with, pair_of, pair_rule_refusals, pair_rule_set, pairing_of, plain_at};
+ghost use Rattle.dsn_shapes.specs.Rules.{refusals_with, rule_notes, rule_refusals, rule_set, rules_left_out, set_of};
+ghost use Rattle.dsn_shapes.specs.Rules.{set_refusals, split_pair, typed_at, typed_by, width_left_out, width_refusals};
+ghost use Rattle.dsn_shapes.specs.Rules.{zero_width};
 
 use crate::known::ListKind;
 use crate::lists::{name_of, nth_word, place_of};
 use crate::numbers::{extent_at, peek_extent};
 use crate::refusal::{Refusal, note, refused};
-use crate::table::NO_NUMBER;
+use crate::table::{LEFT_OUT, NO_NUMBER};
 use crate::trees::{Trees, pass_over};
 use dsn_tree::{Tree, child};
 use dsn_units::Scale;
@@ -252,6 +253,32 @@ pub struct Rules {
     pub notes: u64,
 }
 
+// The rule set of some rules, of whose widths these are looked at.
+fn read_with(
+    alloc: Global,
+    first: &mut Option<Refusal>,
+    rules: &Trees,
+    widths: &Trees,
+    s: Scale,
+) -> Result<Rules, AllocError>
+    ensures noted { OnOk result (first.new ≡ noted first.old (refusals_with s.nm rules.now widths.now)) }
+    ensures set { IfOk result (λ v. v.set ≡ set_of s.nm widths.now (clearances_in rules.now)) }
+    ensures notes { IfOk result (λ v. v.notes ≡ capped (rule_notes rules.now)) }
+{
+    let clearances = rules.lists(alloc, &[b"clearance".as_slice()])?;
+    let notes = pass_over_rules(first, rules, &clearances);
+    match read_set(alloc, first, widths, &clearances, s) {
+        Ok(set) => {
+            drop(clearances);
+            Ok(Rules { set, notes })
+        }
+        Err(error) => {
+            drop(clearances);
+            Err(error)
+        }
+    }
+}
+
 /// The rule set of some rules, each a list such as `(rule (width 200) (clearance 200))`.
 pub fn read_rules(
     alloc: Global,
@@ -264,22 +291,48 @@ pub fn read_rules(
     ensures notes { IfOk result (λ v. v.notes ≡ capped (rule_notes rules.now)) }
 {
     let widths = rules.lists(alloc, &[b"width".as_slice()])?;
-    let clearances = match rules.lists(alloc, &[b"clearance".as_slice()]) {
-        Ok(clearances) => clearances,
-        Err(error) => {
-            drop(widths);
-            return Err(error);
-        }
-    };
-    let notes = pass_over_rules(first, rules, &clearances);
-    match read_set(alloc, first, &widths, &clearances, s) {
-        Ok(set) => {
-            drop((widths, clearances));
-            Ok(Rules { set, notes })
-        }
-        Err(error) => {
-            drop((widths, clearances));
-            Err(error)
-        }
+    let read = read_with(alloc, first, rules, &widths, s);
+    drop(widths);
+    read
+}
+
+fn leave_out_widths(first: &mut Option<Refusal>, widths: &[&Tree])
+    ensures { first.new ≡ noted first.old (flat_map width_left_out (trees_of widths.now)) }
+{
+    for tree in widths {
+        note(first, refused(LEFT_OUT, place_of(tree, 0)));
     }
+}
+
+/// The rule set of rules between two classes, each a list such as `(rule (clearance 200))`.
+/// It has no width: a `width` in them is refused at its head word, whatever stands behind that.
+#[tactic(auto, unfolding(crate::specs::Rules::pair_rule_refusals))]
+pub fn read_pair_rules(
+    alloc: Global,
+    first: &mut Option<Refusal>,
+    rules: &Trees,
+    s: Scale,
+) -> Result<Rules, AllocError>
+    ensures noted { OnOk result (first.new ≡ noted first.old (pair_rule_refusals s.nm rules.now)) }
+    ensures set { IfOk result (λ v. v.set ≡ pair_rule_set s.nm rules.now) }
+    ensures notes { IfOk result (λ v. v.notes ≡ capped (rule_notes rules.now)) }
+{
+    let widths = rules.lists(alloc, &[b"width".as_slice()])?;
+    leave_out_widths(first, widths.as_slice());
+    drop(widths);
+    let none = Trees::new(alloc);
+    let read = read_with(alloc, first, rules, &none, s);
+    drop(none);
+    read
+}
+
+/// An equal rule set.
+pub fn copy_rules(alloc: Global, rules: &RuleSet) -> Result<RuleSet, AllocError>
+    ensures { IfOk result (λ r. r ≡ rules.now) }
+{
+    Ok(RuleSet {
+        width: rules.width,
+        plain: rules.plain,
+        typed: List::from_slice(alloc, rules.typed.as_slice())?,
+    })
 }

@@ -2,7 +2,8 @@
 //! Its exit code is that of the top call's status; where there is no report, standard error says why to a person.
 #![tactic(auto)]
 
-use desk_io::{Desk, HostDesk, HostSink, NoGate};
+use board_turn::NoGate;
+use desk_io::{Desk, HostDesk, HostSink};
 use dsn_route::{MAX_BYTES, Status, dsn_route};
 use fault_notes::{Fault, KeptLine, Said, note_text, read_line};
 use route_words::{Command, read_words};

@@ -10,7 +10,7 @@ use Rattle.std.proofs.lemmas.List.{length-append, length-take-le, take_at, drop_
 use Rattle.std.proofs.lemmas.Str.{IsUtf8-from_ascii}
 use Rattle.std.proofs.lemmas.Str.Parse.{tells_all_ascii_digits, numerals_by_value}
 use Rattle.std.proofs.lemmas.Fmt.{IsAscii-decimal_wide, decimal_is_IsNumeral_wide}
-use Rattle.fault_notes.specs.Numbers.{digit_count, EndsDigits}
+use Rattle.fault_notes.specs.inner.Numbers.{digit_count, EndsDigits}
 
 pub fits_wide : (n : ℕ) → n < 2 ^ 128 → n < 10 ^ 64
 fits_wide n small = omega arith

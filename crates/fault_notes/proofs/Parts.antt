@@ -4,7 +4,7 @@ use Rattle.std.proofs.Common.{flat_map, append_assoc, append-nil, Result, Ok, Er
 use Rattle.std.specs.Prelude.{OnOk, is_ok, if◌then◌else◌}
 use Rattle.std.proofs.lemmas.List.{at_drop_all, at_drop_more}
 use Rattle.fault_notes.specs.declared.notes.Part.{Part}
-use Rattle.fault_notes.specs.Parts.{part_word, part_words, words_before}
+use Rattle.fault_notes.specs.inner.Parts.{part_word, part_words, words_before}
 
 -- what was pushed stands at the end
 pub pushed : {T E : Type 0} (r : Result T E) (old new text : List ℕ)

@@ -4,7 +4,7 @@
 ghost use Rattle.std.specs.Prelude.{◌≡◌, ◌++◌, IfOk, OnOk, codes, flat_map, string_bytes};
 ghost use Rattle.std.specs.Option.{option_map};
 ghost use Rattle.fault_notes.specs.Notes.{IsFramed, IsNote, place_front, number_back, limit_front};
-ghost use Rattle.fault_notes.specs.Parts.{part_word, part_words};
+ghost use Rattle.fault_notes.specs.inner.Parts.{part_word, part_words};
 
 use crate::line::word;
 use crate::refusals::{limit_words, refusal_words, usage_words};

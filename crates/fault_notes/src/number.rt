@@ -2,7 +2,7 @@
 //! What stands behind a number is no digit.
 
 ghost use Rattle.std.specs.Prelude.{◌≡◌, ◌<◌, ◌^◌, ◌++◌, ℕ, List as Seq, Some, IfSome, IsSomeAnd, codes, decimal};
-ghost use Rattle.fault_notes.specs.Numbers.{digit_count, EndsDigits};
+ghost use Rattle.fault_notes.specs.inner.Numbers.{digit_count, EndsDigits};
 
 use itoa::Buffer;
 

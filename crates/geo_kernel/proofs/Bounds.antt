@@ -7,6 +7,7 @@ use lib.Signed.{le_z, lt_z}
 use borrow.Author.Differences.{true_is_le}
 use mir.Val.{SFits, Fits}
 use Rattle.geo_kernel.specs.declared.point.Point.{Point}
+use Rattle.geo_kernel.specs.declared.bounded.Vector.{Vector}
 use Rattle.geo_kernel.specs.Plane.{IsWithin}
 use Rattle.geo_kernel.specs.Moved.{moved}
 use Rattle.geo_kernel.specs.Spine.{is_right}
@@ -215,7 +216,7 @@ pub apart_within : (p q : ℤ) → unsigned_abs p ≤ 2 ^ 29 → unsigned_abs q 
 apart_within p q h k = rw (apart_value p q h k) (omega (arith, ints, h, k))
 
 -- the four ways through the test whether a segment is right of a point
-module _ (p a b u v : Point) (turn : ℤ) (hp : IsWithin (2 ^ 29) p) (ha : IsWithin (2 ^ 29) a)
+module _ (p a b : Point) (u v : Vector) (turn : ℤ) (hp : IsWithin (2 ^ 29) p) (ha : IsWithin (2 ^ 29) a)
     (hb : IsWithin (2 ^ 29) b) (ht : unsigned_abs turn ≤ 2 ^ 61) (ux : u.x ≡ b.x -ℤ a.x) (uy : u.y ≡ b.y -ℤ a.y)
     (vx : v.x ≡ p.x -ℤ a.x) (vy : v.y ≡ p.y -ℤ a.y) (e : turn ≡ cross u.x u.y v.x v.y) where
   abbrev turned : ℤ

@@ -1,12 +1,13 @@
 -- The first vertex of a spine.
 use Rattle.std.proofs.Common.{◌≡◌, ◌<◌, ◌≤◌, List, [], ◌∷◌, get_or, length, ◌↔◌, sym, ap, ◌∙◌, subst, arith}
+use Rattle.std.proofs.Common.{Bool, IsTrue, ◌⊎◌, pos}
 use Rattle.geo_kernel.specs.declared.point.Point.{Point}
 use Rattle.geo_kernel.specs.declared.spine.Spine.{Spine}
 use Rattle.geo_kernel.specs.declared.spine.Spine.TheVariants.{Chain, Area}
 use Rattle.geo_kernel.specs.Spine.{outline, IsFirst, IsWellFormed, IsInside, BeginInside, BeginsInside}
-use Rattle.geo_kernel.specs.Moved.{moved, moved_spine}
+use Rattle.geo_kernel.specs.Moved.{moved_spine}
 use Rattle.geo_kernel.specs.Close.{IsInsideSpine}
-use Rattle.geo_kernel.proofs.Moves.{moved_is_first}
+use Rattle.geo_kernel.proofs.Moves.{spine_stays}
 
 first_of : (s : Spine) (ps : List Point) (d : Point) → outline s ≡ ps → 0 < length ps → IsFirst s (get_or ps 0 d)
 first_of s [] d e h = absurd (omega arith)
@@ -39,7 +40,9 @@ begins_is s (Chain ps) p f = (λ x. x, λ x. x)
 begins_is s (Area loops) p f = let Q : List Point → Type 0 = λ ps. IsInside p loops ↔ BeginInside ps loops in
     subst Q (sym f.is) (λ x. x, λ x. x)
 
-pub begins_moved : (by : Point) (s t : Spine) (p q : Point) → q ≡ moved by p → IsFirst s p
-    → IsInsideSpine q t ↔ BeginsInside (moved_spine by s) t
-begins_moved by s t p q e f = let Q : Point → Type 0 = λ r. IsInsideSpine r t ↔ BeginsInside (moved_spine by s) t in
-    subst Q (sym e) (begins_is (moved_spine by s) t (moved by p) (moved_is_first by s p f))
+-- a test whether s or t begins inside the other, where t was moved by nothing
+pub either_still : (s t : Spine) (r : Bool)
+    → (let still = moved_spine (record { x = pos 0; y = pos 0 }) t in
+    IsTrue r ↔ (BeginsInside s still ⊎ BeginsInside still s)) → IsTrue r ↔ (BeginsInside s t ⊎ BeginsInside t s)
+either_still s t r h =
+    let P : Spine → Type 0 = λ u. IsTrue r ↔ (BeginsInside s u ⊎ BeginsInside u s) in subst P (spine_stays t) h

@@ -170,3 +170,11 @@ outline_within m (Area (l ∷ ls)) h = All-head (All (IsWithin m)) l ls h
 
 pub first_within : (m : ℕ) (s : Spine) (p : Point) → IsFirst s p → IsSpineWithin m s → IsWithin m p
 first_within m s p f h = All-head (IsWithin m) p f.rest (subst (All (IsWithin m)) f.is (outline_within m s h))
+
+-- points and loops within the bounds stay so where they are moved by nothing
+pub still_movable : (ps : List Point) → All (IsWithin (2 ^ 29)) ps → All (IsMovable (record { x = pos 0; y = pos 0 })) ps
+still_movable ps h = all_movable _ ps h (still_within (2 ^ 29) (Chain ps) h)
+
+pub still_loops_movable : (ls : List (List Point)) → All (All (IsWithin (2 ^ 29))) ls
+    → All (All (IsMovable (record { x = pos 0; y = pos 0 }))) ls
+still_loops_movable ls h = all_loops_movable _ ls h (still_within (2 ^ 29) (Area ls) h)

@@ -4,6 +4,7 @@ use Rattle.std.proofs.Common.{inl, inr, ⊎_elim, ap, ap₂, sym, ◌∙◌, ari
 use Rattle.std.proofs.Common.{Bool, true, false, not, IsTrue, true≢false, refl}
 use Rattle.std.proofs.lemmas.Int.{ints, by_lt_z}
 use Rattle.geo_kernel.specs.declared.point.Point.{Point}
+use Rattle.geo_kernel.specs.declared.bounded.Vector.{Vector}
 use Rattle.geo_kernel.specs.Plane.{apart, distance_at, SegmentsKeep, SegmentsTouch}
 use Rattle.geo_kernel.specs.Nearest.{dot, cross, norm, IsNearest, Meets, Cross, EndsKeep, EndsTouch}
 use Rattle.geo_kernel.proofs.Ring.{ring, lit, ◌⊕◌, ◌⊖◌, ◌⊗◌, x0, x1, x2, x3, x4, x5, x6}
@@ -147,7 +148,7 @@ touches_by_nearest p c d k above below h =
     then_also (nearest_touches (pos (k * k)) _ _ _ _ above below (is_nearest p c d above below h)) (point_near p c d k)
 
 -- the three cases of a point against a segment, as the code meets them
-module _ (p c d w v : Point) (along length : ℤ)
+module _ (p c d : Point) (w v : Vector) (along length : ℤ)
     (wx : w.x ≡ p.x -ℤ c.x) (wy : w.y ≡ p.y -ℤ c.y) (vx : v.x ≡ d.x -ℤ c.x) (vy : v.y ≡ d.y -ℤ c.y)
     (is_along : along ≡ dot w.x w.y v.x v.y) (is_length : length ≡ dot v.x v.y v.x v.y) where
   way : along ≡ dot (p.x -ℤ c.x) (p.y -ℤ c.y) (d.x -ℤ c.x) (d.y -ℤ c.y)
@@ -159,7 +160,7 @@ module _ (p c d w v : Point) (along length : ℤ)
   pub at_first : (above : ℤ) → along ≤ℤ pos 0 → above ≡ norm w.x w.y → IsNearest p c d above (pos 1)
   at_first above h e = nearest_is p c d above (pos 1) (rw (e, wx, wy) (nearest_first _ _ _ _ (rw (← way) h)))
 
-  pub at_second : (z : Point) (above : ℤ) → z.x ≡ p.x -ℤ d.x → z.y ≡ p.y -ℤ d.y → length ≤ℤ along → above ≡ norm z.x z.y
+  pub at_second : (z : Vector) (above : ℤ) → z.x ≡ p.x -ℤ d.x → z.y ≡ p.y -ℤ d.y → length ≤ℤ along → above ≡ norm z.x z.y
       → IsNearest p c d above (pos 1)
   at_second z above zx zy h e =
       let ex : z.x ≡ (p.x -ℤ c.x) -ℤ (d.x -ℤ c.x) = omega (arith, ints) in
@@ -178,7 +179,7 @@ module _ (p c d w v : Point) (along length : ℤ)
       (nearest_between _ _ _ _ (rw (← way) least) (rw (← way, ← whole) most) (rw (← whole) some)))
 
 -- ---- where the code's numbers say that the segments cross
-pub cross_is : (a b c d w u v : Point) (all g h : ℤ) →
+pub cross_is : (a b c d : Point) (w u v : Vector) (all g h : ℤ) →
     w.x ≡ a.x -ℤ c.x → w.y ≡ a.y -ℤ c.y → u.x ≡ b.x -ℤ a.x → u.y ≡ b.y -ℤ a.y → v.x ≡ d.x -ℤ c.x → v.y ≡ d.y -ℤ c.y →
     all ≡ cross u.x u.y v.x v.y → g ≡ cross v.x v.y w.x w.y → h ≡ cross u.x u.y w.x w.y →
     (Meets all g h ⊎ Meets (pos 0 -ℤ all) (pos 0 -ℤ g) (pos 0 -ℤ h)) ↔ Cross a b c d

@@ -1,16 +1,18 @@
 //! Whether some segment of one spine is close to some segment of another.
 //! One set of loops serves both tests, keeping and touching, and moves the first spine as it goes.
 
-ghost use Rattle.std.specs.Prelude.{◌≡◌, ◌↔◌, ◌≤◌, ◌<◌, ◌^◌, IsTrue, All, Any, length};
-ghost use Rattle.geo_kernel.specs.Plane.{IsWithin};
+ghost use Rattle.std.specs.Prelude.{◌↔◌, ◌^◌, IsTrue, Any};
 ghost use Rattle.geo_kernel.specs.Spine.{links, area_segments, spine_segments, chain_segments, IsWellFormed};
 ghost use Rattle.geo_kernel.specs.Spine.{IsSpineWithin};
-ghost use Rattle.geo_kernel.specs.Moved.{moved, moved_spine};
-ghost use Rattle.geo_kernel.specs.Close.{IsClose, IsCloseTo, IsMovedClose, IsMovable};
+ghost use Rattle.geo_kernel.specs.Moved.{moved_spine};
+ghost use Rattle.geo_kernel.specs.Close.{IsClose, IsCloseTo, IsMovedClose};
+ghost use Rattle.geo_kernel.specs.Props.{well_formed_prop, spine_within_prop};
 
-use crate::path::{chain_path, loop_path};
-use crate::segment::{seg_keeps, seg_touches};
-use crate::{List, Point, Spine};
+use crate::Spine;
+use crate::bounded::{Bounded, Doubled, shifted};
+use crate::moved::{Moved, STILL};
+use crate::path::{Loops, Path, Points};
+use crate::segment::Segment;
 
 /// What is asked of two segments: that they don't keep a distance, or that they touch by it.
 #[derive(Clone, Copy)]
@@ -19,149 +21,143 @@ pub(crate) enum Closeness {
     Touching,
 }
 
-pub(crate) fn shifted(p: Point, by: Point) -> Point
-    requires p_within { IsWithin (2 ^ 29) p }
-    requires moved_within { IsWithin (2 ^ 29) (moved by p) }
-    ensures { result ≡ moved by p }
-{
-    Point {
-        x: p.x + by.x,
-        y: p.y + by.y,
-    }
+/// What is asked of a segment: that it is close to some segment of the spine `t`.
+#[derive(Clone, Copy)]
+pub(crate) struct CloseTo<'a> {
+    pub how: Closeness,
+    pub t: &'a Spine,
+    pub k: Doubled,
+    ghost well_formed: { IsWellFormed t.now } by { well_formed_prop t.now },
+    ghost within: { IsSpineWithin (2 ^ 29) t.now } by { spine_within_prop (2 ^ 29) t.now },
 }
 
-fn seg_close(how: Closeness, a: Point, b: Point, c: Point, d: Point, k: u64) -> bool
-    requires a_within { IsWithin (2 ^ 29) a }
-    requires b_within { IsWithin (2 ^ 29) b }
-    requires c_within { IsWithin (2 ^ 29) c }
-    requires d_within { IsWithin (2 ^ 29) d }
-    requires k_within { k ≤ 2 ^ 30 }
-    ensures { IsTrue result ↔ IsClose how k (record { from = a; to = b }) (record { from = c; to = d }) }
-{
-    match how {
-        Closeness::Nearer => !seg_keeps(a, b, c, d, k),
-        Closeness::Touching => seg_touches(a, b, c, d, k),
-    }
-}
-
-fn path_close(how: Closeness, a: Point, b: Point, start: Point, points: &[Point], k: u64) -> bool
-    requires a_within { IsWithin (2 ^ 29) a }
-    requires b_within { IsWithin (2 ^ 29) b }
-    requires start_within { IsWithin (2 ^ 29) start }
-    requires points_within { All (IsWithin (2 ^ 29)) points.now }
-    requires k_within { k ≤ 2 ^ 30 }
-    ensures { IsTrue result ↔ Any (IsClose how k (record { from = a; to = b })) (links start points.now) }
-{
-    let mut last = start;
-    for p in points {
-        if seg_close(how, a, b, last, *p, k) {
-            return true;
-        }
-        last = *p;
-    }
-    false
-}
-
-fn area_close(how: Closeness, a: Point, b: Point, loops: &[List<Point>], k: u64) -> bool
-    requires a_within { IsWithin (2 ^ 29) a }
-    requires b_within { IsWithin (2 ^ 29) b }
-    requires some { All (λ points. 3 ≤ length points) loops.now }
-    requires loops_within { All (All (IsWithin (2 ^ 29))) loops.now }
-    requires k_within { k ≤ 2 ^ 30 }
-    ensures { IsTrue result ↔ Any (IsClose how k (record { from = a; to = b })) (area_segments loops.now) }
-{
-    for points in loops {
-        let path = loop_path(points.as_slice());
-        if path_close(how, a, b, path.start, path.rest, k) {
-            return true;
+impl CloseTo<'_> {
+    fn is_pair(&self, g: Segment, h: Segment) -> bool
+        ensures { IsTrue result ↔ IsClose self.now.how self.now.k.value
+            (record { from = g.from.at; to = g.to.at }) (record { from = h.from.at; to = h.to.at }) }
+    {
+        match self.how {
+            Closeness::Nearer => !g.keeps(h, self.k),
+            Closeness::Touching => g.touches(h, self.k),
         }
     }
-    false
-}
 
-pub(crate) fn seg_spine_close(how: Closeness, a: Point, b: Point, t: &Spine, k: u64) -> bool
-    requires a_within { IsWithin (2 ^ 29) a }
-    requires b_within { IsWithin (2 ^ 29) b }
-    requires well_formed { IsWellFormed t.now }
-    requires within { IsSpineWithin (2 ^ 29) t.now }
-    requires k_within { k ≤ 2 ^ 30 }
-    ensures { IsTrue result ↔ IsCloseTo how k t.now (record { from = a; to = b }) }
-{
-    match t {
-        Spine::Chain(points) => {
-            let path = chain_path(points.as_slice());
-            path_close(how, a, b, path.start, path.rest, k)
+    // The segment against a path of `t`.
+    fn is_path(&self, g: Segment, path: &Path<'_>) -> bool
+        ensures { IsTrue result ↔ Any (IsClose self.now.how self.now.k.value (record { from = g.from.at; to = g.to.at }))
+            (links path.now.start path.now.rest.now) }
+    {
+        let mut last = path.start;
+        for p in path.rest {
+            let link = Segment {
+                from: Bounded { at: last },
+                to: Bounded { at: *p },
+            };
+            if self.is_pair(g, link) {
+                return true;
+            }
+            last = *p;
         }
-        Spine::Area(loops) => area_close(how, a, b, loops.as_slice(), k),
+        false
     }
-}
 
-fn path_spine_close(
-    how: Closeness,
-    start: Point,
-    points: &[Point],
-    by: Point,
-    t: &Spine,
-    k: u64,
-) -> bool
-    requires start_movable { IsMovable by start }
-    requires points_movable { All (IsMovable by) points.now }
-    requires well_formed { IsWellFormed t.now }
-    requires within { IsSpineWithin (2 ^ 29) t.now }
-    requires k_within { k ≤ 2 ^ 30 }
-    ensures { IsTrue result ↔ Any (IsMovedClose how k t.now by) (links start points.now) }
-{
-    let mut from = shifted(start, by);
-    for p in points {
-        let to = shifted(*p, by);
-        if seg_spine_close(how, from, to, t, k) {
-            return true;
+    // The segment against the loops of `t`.
+    fn is_area(&self, g: Segment, area: &Loops<'_>) -> bool
+        ensures { IsTrue result ↔ Any (IsClose self.now.how self.now.k.value (record { from = g.from.at; to = g.to.at }))
+            (area_segments area.now.loops.now) }
+    {
+        for points in area.loops {
+            let points = Points {
+                points: points.as_slice(),
+                by: area.by,
+            };
+            if self.is_path(g, &points.closed()) {
+                return true;
+            }
         }
-        from = to;
+        false
     }
-    false
-}
 
-pub(crate) fn points_close(how: Closeness, points: &[Point], by: Point, t: &Spine, k: u64) -> bool
-    requires some { 0 < length points.now }
-    requires movable { All (IsMovable by) points.now }
-    requires well_formed { IsWellFormed t.now }
-    requires within { IsSpineWithin (2 ^ 29) t.now }
-    requires k_within { k ≤ 2 ^ 30 }
-    ensures { IsTrue result ↔ Any (IsMovedClose how k t.now by) (chain_segments points.now) }
-{
-    let path = chain_path(points);
-    path_spine_close(how, path.start, path.rest, by, t, k)
-}
-
-fn loops_close(how: Closeness, loops: &[List<Point>], by: Point, t: &Spine, k: u64) -> bool
-    requires some { All (λ points. 3 ≤ length points) loops.now }
-    requires movable { All (All (IsMovable by)) loops.now }
-    requires well_formed { IsWellFormed t.now }
-    requires within { IsSpineWithin (2 ^ 29) t.now }
-    requires k_within { k ≤ 2 ^ 30 }
-    ensures { IsTrue result ↔ Any (IsMovedClose how k t.now by) (area_segments loops.now) }
-{
-    for points in loops {
-        let path = loop_path(points.as_slice());
-        if path_spine_close(how, path.start, path.rest, by, t, k) {
-            return true;
+    pub(crate) fn is_segment(&self, g: Segment) -> bool
+        ensures { IsTrue result ↔ IsCloseTo self.now.how self.now.k.value self.now.t.now
+            (record { from = g.from.at; to = g.to.at }) }
+    {
+        match self.t {
+            Spine::Chain(points) => {
+                let points = Points {
+                    points: points.as_slice(),
+                    by: STILL,
+                };
+                self.is_path(g, &points.chain())
+            }
+            Spine::Area(loops) => {
+                let area = Loops {
+                    loops: loops.as_slice(),
+                    by: STILL,
+                };
+                self.is_area(g, &area)
+            }
         }
     }
-    false
-}
 
-pub(crate) fn spine_close(how: Closeness, s: &Spine, by: Point, t: &Spine, k: u64) -> bool
-    requires s_well_formed { IsWellFormed s.now }
-    requires s_within { IsSpineWithin (2 ^ 29) s.now }
-    requires moved_within { IsSpineWithin (2 ^ 29) (moved_spine by s.now) }
-    requires well_formed { IsWellFormed t.now }
-    requires within { IsSpineWithin (2 ^ 29) t.now }
-    requires k_within { k ≤ 2 ^ 30 }
-    ensures { IsTrue result ↔ Any (IsCloseTo how k t.now) (spine_segments (moved_spine by s.now)) }
-{
-    match s {
-        Spine::Chain(points) => points_close(how, points.as_slice(), by, t, k),
-        Spine::Area(loops) => loops_close(how, loops.as_slice(), by, t, k),
+    fn is_moved_path(&self, path: &Path<'_>) -> bool
+        ensures { IsTrue result ↔ Any (IsMovedClose self.now.how self.now.k.value self.now.t.now path.now.by)
+            (links path.now.start path.now.rest.now) }
+    {
+        let mut from = shifted(path.start, path.by);
+        for p in path.rest {
+            let to = shifted(*p, path.by);
+            if self.is_segment(Segment { from, to }) {
+                return true;
+            }
+            from = to;
+        }
+        false
+    }
+
+    pub(crate) fn is_moved_chain(&self, points: &Points<'_>) -> bool
+        ensures { IsTrue result ↔ Any (IsMovedClose self.now.how self.now.k.value self.now.t.now points.now.by)
+            (chain_segments points.now.points.now) }
+    {
+        self.is_moved_path(&points.chain())
+    }
+
+    fn is_moved_area(&self, area: &Loops<'_>) -> bool
+        ensures { IsTrue result ↔ Any (IsMovedClose self.now.how self.now.k.value self.now.t.now area.now.by)
+            (area_segments area.now.loops.now) }
+    {
+        for points in area.loops {
+            let points = Points {
+                points: points.as_slice(),
+                by: area.by,
+            };
+            if self.is_moved_path(&points.closed()) {
+                return true;
+            }
+        }
+        false
+    }
+
+    /// Whether some segment of the moved spine is close to some segment of `t`.
+    pub(crate) fn is_spine(&self, s: &Moved<'_>) -> bool
+        ensures { IsTrue result ↔ Any (IsCloseTo self.now.how self.now.k.value self.now.t.now)
+            (spine_segments (moved_spine s.now.by s.now.spine.now)) }
+    {
+        match s.spine {
+            Spine::Chain(points) => {
+                let points = Points {
+                    points: points.as_slice(),
+                    by: s.by,
+                };
+                self.is_moved_chain(&points)
+            }
+            Spine::Area(loops) => {
+                let area = Loops {
+                    loops: loops.as_slice(),
+                    by: s.by,
+                };
+                self.is_moved_area(&area)
+            }
+        }
     }
 }

@@ -3,43 +3,37 @@
 
 ghost use Rattle.std.specs.Prelude.{◌≡◌, ◌↔◌, ◌≤◌, ◌^◌, IsTrue, All, length};
 ghost use Rattle.geo_kernel.specs.Plane.{IsWithin};
-ghost use Rattle.geo_kernel.specs.Spine.{links, area_segments, is_right as is_right_of, IsInside, BeginInside};
+ghost use Rattle.geo_kernel.specs.Spine.{links, area_segments, is_right as is_right_of, IsInside};
 ghost use Rattle.geo_kernel.specs.Spine.{IsFirst, IsWellFormed, IsSpineWithin};
-ghost use Rattle.geo_kernel.specs.Moved.{moved, moved_spine};
-ghost use Rattle.geo_kernel.specs.Close.{IsMovedOdd, IsMovable, IsInsideSpine};
+ghost use Rattle.geo_kernel.specs.Close.{IsMovedOdd};
 
-use crate::close::shifted;
-use crate::path::loop_path;
-use crate::segment::{cross, minus};
+use crate::bounded::{Bounded, shifted};
+use crate::moved::STILL;
+use crate::path::{Loops, Path, Points};
+use crate::segment::Segment;
 use crate::{List, Point, Spine};
 
-fn is_right(p: Point, a: Point, b: Point) -> bool
-    requires p_within { IsWithin (2 ^ 29) p }
-    requires a_within { IsWithin (2 ^ 29) a }
-    requires b_within { IsWithin (2 ^ 29) b }
-    ensures { result ≡ is_right_of p (record { from = a; to = b }) }
+fn is_right(p: Bounded, g: Segment) -> bool
+    ensures { result ≡ is_right_of p.at (record { from = g.from.at; to = g.to.at }) }
 {
-    let turn = cross(minus(b, a), minus(p, a));
-    if a.y <= p.y {
-        if p.y < b.y { 0 < turn } else { false }
-    } else if b.y <= p.y {
+    let turn = g.to.minus(g.from).cross(p.minus(g.from));
+    if g.from.at.y <= p.at.y {
+        if p.at.y < g.to.at.y { 0 < turn } else { false }
+    } else if g.to.at.y <= p.at.y {
         turn < 0
     } else {
         false
     }
 }
 
-fn path_odd(p: Point, start: Point, points: &[Point], by: Point) -> bool
-    requires p_within { IsWithin (2 ^ 29) p }
-    requires start_movable { IsMovable by start }
-    requires points_movable { All (IsMovable by) points.now }
-    ensures { IsTrue result ↔ IsMovedOdd by p (links start points.now) }
+fn is_odd_path(p: Bounded, path: &Path<'_>) -> bool
+    ensures { IsTrue result ↔ IsMovedOdd path.now.by p.at (links path.now.start path.now.rest.now) }
 {
     let mut odd = false;
-    let mut from = shifted(start, by);
-    for q in points {
-        let to = shifted(*q, by);
-        if is_right(p, from, to) {
+    let mut from = shifted(path.start, path.by);
+    for q in path.rest {
+        let to = shifted(*q, path.by);
+        if is_right(p, Segment { from, to }) {
             odd = !odd;
         }
         from = to;
@@ -47,16 +41,17 @@ fn path_odd(p: Point, start: Point, points: &[Point], by: Point) -> bool
     odd
 }
 
-fn inside_moved(p: Point, loops: &[List<Point>], by: Point) -> bool
-    requires p_within { IsWithin (2 ^ 29) p }
-    requires some { All (λ points. 3 ≤ length points) loops.now }
-    requires movable { All (All (IsMovable by)) loops.now }
-    ensures { IsTrue result ↔ IsMovedOdd by p (area_segments loops.now) }
+/// Whether the point is inside the moved loops.
+pub(crate) fn is_odd_area(p: Bounded, area: &Loops<'_>) -> bool
+    ensures { IsTrue result ↔ IsMovedOdd area.now.by p.at (area_segments area.now.loops.now) }
 {
     let mut odd = false;
-    for points in loops {
-        let path = loop_path(points.as_slice());
-        if path_odd(p, path.start, path.rest, by) {
+    for points in area.loops {
+        let points = Points {
+            points: points.as_slice(),
+            by: area.by,
+        };
+        if is_odd_path(p, &points.closed()) {
             odd = !odd;
         }
     }
@@ -70,7 +65,11 @@ pub fn inside(p: Point, loops: &List<List<Point>>) -> bool
     requires loops_within { All (All (IsWithin (2 ^ 29))) loops.now }
     ensures { IsTrue result ↔ IsInside p loops.now }
 {
-    inside_moved(p, loops.as_slice(), Point { x: 0, y: 0 })
+    let area = Loops {
+        loops: loops.as_slice(),
+        by: STILL,
+    };
+    is_odd_area(Bounded { at: p }, &area)
 }
 
 /// The first vertex of a spine.
@@ -83,19 +82,5 @@ pub fn first_point(s: &Spine) -> Point
     match s {
         Spine::Chain(points) => points.as_slice()[0],
         Spine::Area(loops) => loops.as_slice()[0].as_slice()[0],
-    }
-}
-
-/// Whether `p` is inside the spine `t` moved by `by`, if that is an area.
-pub(crate) fn inside_spine(p: Point, t: &Spine, by: Point) -> bool
-    requires p_within { IsWithin (2 ^ 29) p }
-    requires well_formed { IsWellFormed t.now }
-    requires within { IsSpineWithin (2 ^ 29) t.now }
-    requires moved_within { IsSpineWithin (2 ^ 29) (moved_spine by t.now) }
-    ensures { IsTrue result ↔ IsInsideSpine p (moved_spine by t.now) }
-{
-    match t {
-        Spine::Chain(_) => false,
-        Spine::Area(loops) => inside_moved(p, loops.as_slice(), by),
     }
 }

@@ -7,22 +7,19 @@ ghost use Rattle.geo_kernel.specs.Spine.{SpinesKeep, SpinesTouch, BeginsInside, 
 ghost use Rattle.geo_kernel.specs.Solid.{IsSimple, StaysOutside};
 ghost use Rattle.geo_kernel.specs.Moved.{moved_spine};
 
-use crate::close::{Closeness, points_close, seg_spine_close, shifted, spine_close};
-use crate::interior::{first_point, inside_spine};
+use crate::bounded::{Bounded, Doubled};
+use crate::close::{CloseTo, Closeness};
+use crate::moved::{Moved, STILL};
+use crate::path::Points;
+use crate::segment::Segment;
 use crate::{Point, Spine};
 
-const STILL: Point = Point { x: 0, y: 0 };
-
-/// Whether the first vertex of `s`, moved by `by`, is inside `t`, or that of `t` inside the moved `s`.
-fn either_inside(s: &Spine, by: Point, t: &Spine) -> bool
-    requires s_well_formed { IsWellFormed s.now }
-    requires s_within { IsSpineWithin (2 ^ 29) s.now }
-    requires moved_within { IsSpineWithin (2 ^ 29) (moved_spine by s.now) }
-    requires t_well_formed { IsWellFormed t.now }
-    requires t_within { IsSpineWithin (2 ^ 29) t.now }
-    ensures { IsTrue result ↔ (BeginsInside (moved_spine by s.now) t.now ⊎ BeginsInside t.now (moved_spine by s.now)) }
+/// Whether the first vertex of `s` is inside `t`, or that of `t` inside `s`.
+fn either_inside(s: &Moved<'_>, t: &Moved<'_>) -> bool
+    ensures { let moved_s = moved_spine s.now.by s.now.spine.now in let moved_t = moved_spine t.now.by t.now.spine.now in
+        IsTrue result ↔ (BeginsInside moved_s moved_t ⊎ BeginsInside moved_t moved_s) }
 {
-    inside_spine(shifted(first_point(s), by), t, STILL) || inside_spine(first_point(t), s, by)
+    t.holds(s.first()) || s.holds(t.first())
 }
 
 /// Whether the spine `s` moved by `by` and the spine `t` keep the distance `k / 2`.
@@ -35,7 +32,17 @@ pub fn spine_keeps_moved(s: &Spine, by: Point, t: &Spine, k: u64) -> bool
     requires k_within { k ≤ 2 ^ 30 }
     ensures { IsTrue result ↔ SpinesKeep (moved_spine by s.now) t.now k }
 {
-    !spine_close(Closeness::Nearer, s, by, t, k) && !either_inside(s, by, t)
+    let moved = Moved { spine: s, by };
+    let near = CloseTo {
+        how: Closeness::Nearer,
+        t,
+        k: Doubled { value: k },
+    };
+    let still = Moved {
+        spine: t,
+        by: STILL,
+    };
+    !near.is_spine(&moved) && !either_inside(&moved, &still)
 }
 
 /// Whether the spine `s` moved by `by` and the spine `t` touch by the distance `k / 2`.
@@ -48,7 +55,17 @@ pub fn spine_touch_moved(s: &Spine, by: Point, t: &Spine, k: u64) -> bool
     requires k_within { k ≤ 2 ^ 30 }
     ensures { IsTrue result ↔ SpinesTouch (moved_spine by s.now) t.now k }
 {
-    spine_close(Closeness::Touching, s, by, t, k) || either_inside(s, by, t)
+    let moved = Moved { spine: s, by };
+    let touching = CloseTo {
+        how: Closeness::Touching,
+        t,
+        k: Doubled { value: k },
+    };
+    let still = Moved {
+        spine: t,
+        by: STILL,
+    };
+    touching.is_spine(&moved) || either_inside(&moved, &still)
 }
 
 /// Whether the spines `s` and `t` keep the distance `k / 2`.
@@ -88,7 +105,17 @@ pub fn points_keep(points: &[Point], t: &Spine, k: u64) -> bool
     requires k_within { k ≤ 2 ^ 30 }
     ensures { IsTrue result ↔ SpinesKeep (Spine.Chain points.now) t.now k }
 {
-    !points_close(Closeness::Nearer, points, STILL, t, k) && !inside_spine(points[0], t, STILL)
+    let chain = Points { points, by: STILL };
+    let near = CloseTo {
+        how: Closeness::Nearer,
+        t,
+        k: Doubled { value: k },
+    };
+    let still = Moved {
+        spine: t,
+        by: STILL,
+    };
+    !near.is_moved_chain(&chain) && !still.holds(Bounded { at: points[0] })
 }
 
 /// Whether the point `p` lies on a segment of the chain `s`, or is its one point; for an area the answer is no.
@@ -99,7 +126,15 @@ pub fn on_spine(p: Point, s: &Spine) -> bool
     ensures { IsTrue result ↔ IsOnSpine p s.now }
 {
     match s {
-        Spine::Chain(_) => seg_spine_close(Closeness::Touching, p, p, s, 0),
+        Spine::Chain(_) => {
+            let touching = CloseTo {
+                how: Closeness::Touching,
+                t: s,
+                k: Doubled { value: 0 },
+            };
+            let at = Bounded { at: p };
+            touching.is_segment(Segment { from: at, to: at })
+        }
         Spine::Area(_) => false,
     }
 }

@@ -2,12 +2,14 @@
 //! Distances are compared over all rational points, without rounding; no call takes memory or refuses.
 #![tactic(auto)]
 
+mod bounded;
 mod close;
 mod interior;
 mod keep;
 mod laws;
 pub mod limits;
 mod list;
+mod moved;
 mod path;
 mod point;
 mod rect;

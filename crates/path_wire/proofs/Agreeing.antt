@@ -18,7 +18,7 @@ use Rattle.pcb_model.specs.Rules.{width_for, clearance_of}
 use Rattle.pcb_model.specs.Pieces.{wire_piece}
 use Rattle.pcb_model.specs.Pairs.{PieceKeeps, KeepsFrom, is_same_net, is_compared, must_keep, Agrees, ProbeAgrees}
 use Rattle.pcb_model.specs.Board.{BeginsInEach}
-use Rattle.pcb_model.specs.Inner.{meets_wires}
+use Rattle.pcb_model.specs.Pairs.{meets_wires}
 use Rattle.route_lattice.specs.declared.moves.Move.{Move}
 use Rattle.route_lattice.specs.declared.moves.Move.TheVariants as move
 use Rattle.route_lattice.specs.Mesh.{Mesh, point_of, layer_of}

@@ -24,10 +24,14 @@ use Rattle.std.proofs.lemmas.Bool.{ltb-true}
 
 -- ---- directions
 abbrev pub along_x : ℕ → ℤ
-along_x dir = cond (dir == 0) (pos 1) (cond (dir == 1) (negsuc 0) (pos 0))
+along_x dir =
+    cond (dir == 0) (pos 1) (cond (dir == 1) (negsuc 0) (cond (dir == 2) (pos 0) (cond (dir == 3) (pos 0)
+    (cond (dir == 4) (pos 1) (cond (dir == 7) (pos 1) (negsuc 0))))))
 
 abbrev pub along_y : ℕ → ℤ
-along_y dir = cond (dir == 0) (pos 0) (cond (dir == 1) (pos 0) (cond (dir == 2) (pos 1) (negsuc 0)))
+along_y dir =
+    cond (dir == 0) (pos 0) (cond (dir == 1) (pos 0) (cond (dir == 2) (pos 1) (cond (dir == 3) (negsuc 0)
+    (cond (dir == 4) (pos 1) (cond (dir == 5) (pos 1) (negsuc 0))))))
 
 -- q lies in the direction from p
 pub record IsAhead (dir : ℕ) (p q : Point) : Type 0 where
@@ -107,7 +111,7 @@ pub chosen : {X : Type 0} (b : Bool) (x y z : X) → cond b x y ≡ z → ((b �
 chosen true x y z e = inl (refl, e)
 chosen false x y z e = inr (refl, e)
 
-abbrev dir_in : Option (Move × ℕ) → ℕ
+abbrev pub dir_in : Option (Move × ℕ) → ℕ
 dir_in (Some (move.Step dir, to)) = dir
 dir_in _ = 0
 
@@ -216,3 +220,23 @@ module _ (d : Design) (m : Mesh) (v : ℕ) (fits : FitsDesign d m) (there : v < 
       ]
     ]
   ]
+
+  -- a leg of a direction
+  leg : (b : Bool) (from to : ℕ) (s : Move × ℕ) → (b ≡ true → IsStraight m from v to)
+      → cond {A = Option (Move × ℕ)} b (Some (move.Step from, to)) None ≡ Some s → IsStraight m from v s.1
+  leg b from to s f e = elim (chosen b (Some (move.Step from, to)) None (Some s) e) [
+    | inl h ↦ subst (λ (n : ℕ). IsStraight m from v n) (ap node_in h.1) (f h.0)
+    | inr h ↦ absurd (some_not_none s h.1)
+  ]
+
+  pub right_leg : (s : Move × ℕ) → step_at m v 0 ≡ Some s → IsStraight m 0 v s.1
+  right_leg s e = leg (nat_lt (column m v + 1) (length m.xs)) 0 _ s (λ t. to_right (is_below _ _ t)) e
+
+  pub left_leg : (s : Move × ℕ) → step_at m v 1 ≡ Some s → IsStraight m 1 v s.1
+  left_leg s e = leg (nat_lt 0 (column m v)) 1 _ s (λ t. to_left (is_below _ _ t)) e
+
+  pub upper_leg : (s : Move × ℕ) → step_at m v 2 ≡ Some s → IsStraight m 2 v s.1
+  upper_leg s e = leg (nat_lt (row m v + 1) (length m.ys)) 2 _ s (λ t. to_upper (is_below _ _ t)) e
+
+  pub lower_leg : (s : Move × ℕ) → step_at m v 3 ≡ Some s → IsStraight m 3 v s.1
+  lower_leg s e = leg (nat_lt 0 (row m v)) 3 _ s (λ t. to_lower (is_below _ _ t)) e

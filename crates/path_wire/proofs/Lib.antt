@@ -1,5 +1,6 @@
 pub mod Bends
 pub mod Laying
+pub mod Diagonals
 pub mod Dirs
 pub mod Stretches
 pub mod Walking

@@ -3,7 +3,7 @@ use Rattle.std.proofs.Common.{◌≡◌, ℕ, ◌+◌, ◌-◌, ◌*◌, ◌/◌
 use Rattle.std.proofs.Common.{Some, None, List, [], ◌∷◌, length, All, sym, ap, ap₂, ◌∙◌, subst, arith, inl, inr}
 use Rattle.std.proofs.Common.{true≢false}
 use Rattle.std.specs.Prelude.{slice_index}
-use Rattle.std.proofs.lemmas.Bool.{ltb-false}
+use Rattle.std.proofs.lemmas.Bool.{ltb-true, ltb-false}
 use Rattle.std.proofs.lemmas.Nat.{div_below, mod_below}
 use Rattle.route_lattice.proofs.Places.{width_positive}
 use Rattle.std.proofs.lemmas.List.Elements.{All-nil, All-cons, All-head, All-tail}
@@ -19,7 +19,10 @@ use Rattle.route_lattice.specs.declared.moves.Move.{Move}
 use Rattle.route_lattice.specs.declared.moves.Move.TheVariants as move
 use Rattle.route_lattice.specs.Mesh.{Mesh, node_count, node_at, column, row, point_of, layer_of}
 use Rattle.route_lattice.specs.Fits.{FitsDesign}
-use Rattle.route_lattice.specs.Ways.{vias_of, can_join, step_at, via_at}
+use Rattle.route_lattice.specs.Ways.{vias_of, can_join, step_at, via_at, way, way_count}
+use Rattle.route_lattice.proofs.Leading.{way_leads}
+use Rattle.path_wire.specs.Diagonals.{wide_count, diagonal_at}
+use Rattle.path_wire.proofs.Diagonals.{IsDiagonal, diagonal, legs}
 use Rattle.route_lattice.specs.Legal.{probe_of}
 use Rattle.path_wire.specs.Wires.{IsMoveOf, MovesLead, wire_from, copper_from}
 use Rattle.path_wire.specs.Lays.{move_probes}
@@ -58,6 +61,10 @@ pub record Walks (d : Design) (m : Mesh) (net : ℕ) (R : Probe → Type 0) (v :
     pub laid : All R (move_probes d m net (v ∷ vs) ms)
 
 -- ---- what a move of the net is
+abbrev step_dir : Move × ℕ → ℕ
+step_dir (move.Step dir, to) = dir
+step_dir (move.Via padstack layer, to) = 0
+
 abbrev is_step : Option (Move × ℕ) → Bool
 is_step (Some (move.Step dir, to)) = true
 is_step (Some (move.Via padstack layer, to)) = false
@@ -92,13 +99,36 @@ module _ (d : Design) (m : Mesh) (net : ℕ) (R : Probe → Type 0) where
   Stepped layer g = R (probe.Step layer (width_for d net) g.from g.to)
 
 module _ (d : Design) (m : Mesh) (net : ℕ) (fits : FitsDesign d m) where
-  pub move_straight : (v dir w : ℕ) → v < node_count m → IsMoveOf d m net v (move.Step dir) w → IsStraight m dir v w
-  move_straight v dir w h g = elim (chosen (nat_lt g.index 4) _ _ _ g.leads) [
-    | inl a ↦ step_straight d m v fits h g.index dir w a.1
+  way_straight : (v i dir w : ℕ) → v < node_count m → way d m net v i ≡ Some (move.Step dir, w) → IsStraight m dir v w
+  way_straight v i dir w h e = elim (chosen (nat_lt i 4) _ _ _ e) [
+    | inl a ↦ step_straight d m v fits h i dir w a.1
     | inr a ↦ absurd
-        (no_step (can_join (padstack_pieces d (slice_index (vias_of d net) ((g.index - 4) / length m.layers)))
-        (point_of m v) (layer_of m v) (slice_index m.layers ((g.index - 4) % length m.layers)))
+        (no_step (can_join (padstack_pieces d (slice_index (vias_of d net) ((i - 4) / length m.layers)))
+        (point_of m v) (layer_of m v) (slice_index m.layers ((i - 4) % length m.layers)))
         _ _ _ dir w a.1)
+  ]
+
+  -- what is behind the moves along the lines and the vias is a diagonal
+  pub move_diagonal : (v i : ℕ) (r : Move × ℕ) → v < node_count m → i < wide_count d m net
+      → nat_lt i (way_count d m net) ≡ false → diagonal_at m v (4 + (i - way_count d m net)) ≡ Some r
+      → IsDiagonal m v (4 + (i - way_count d m net)) r
+  move_diagonal v i r h listed behind e =
+      let le = ltb-false i (way_count d m net) behind in
+      diagonal d m v r fits h (i - way_count d m net) (omega (arith, listed, le)) e
+
+  pub move_straight : (v dir w : ℕ) → v < node_count m → IsMoveOf d m net v (move.Step dir) w → IsStraight m dir v w
+  move_straight v dir w h g = elim (chosen (nat_lt g.index (way_count d m net)) _ _ _ g.leads) [
+    | inl a ↦ way_straight v g.index dir w h a.1
+    | inr a ↦
+        let o = move_diagonal v g.index (move.Step dir, w) h g.listed a.0 a.1 in
+        subst (λ (n : ℕ). IsStraight m n v w) (ap step_dir o.step) o.straight
+  ]
+
+  -- a move leads to a node
+  pub move_leads : (v w : ℕ) (a : Move) → v < node_count m → IsMoveOf d m net v a w → w < node_count m
+  move_leads v w a h g = elim (chosen (nat_lt g.index (way_count d m net)) _ _ _ g.leads) [
+    | inl x ↦ way_leads d m net v g.index a w h x.1
+    | inr x ↦ (move_diagonal v g.index (a, w) h g.listed x.0 x.1).there
   ]
 
   pub steps_have : (R : Probe → Type 0) (layer v : ℕ) (vs : List ℕ) (ms : List Move) → layer_of m v ≡ layer
@@ -180,9 +210,22 @@ module _ (d : Design) (m : Mesh) (net : ℕ) where
         | inr h ↦ absurd (some_not_none (move.Via padstack layer, w) h.1)
       ]
 
+  way_via : (v i padstack layer w : ℕ) → i < way_count d m net → way d m net v i ≡ Some (move.Via padstack layer, w)
+      → IsViaOf d m net v padstack layer w
+  way_via v i padstack layer w listed e = elim (chosen (nat_lt i 4) _ _ _ e) [
+    | inl a ↦ absurd (step_no_via v i padstack layer w a.1)
+    | inr a ↦ via_made v i padstack layer w listed (ltb-false i 4 a.0) a.1
+  ]
+
+  -- a diagonal is no via
+  diagonal_no_via : (v k padstack layer w : ℕ) → diagonal_at m v k ≡ Some (move.Via padstack layer, w) → ⊥
+  diagonal_no_via v k padstack layer w e =
+      let l = legs m v k (move.Via padstack layer, w) e in
+      true≢false (ap is_step l.result)
+
   pub move_via : (v padstack layer w : ℕ) → IsMoveOf d m net v (move.Via padstack layer) w
       → IsViaOf d m net v padstack layer w
-  move_via v padstack layer w g = elim (chosen (nat_lt g.index 4) _ _ _ g.leads) [
-    | inl a ↦ absurd (step_no_via v g.index padstack layer w a.1)
-    | inr a ↦ via_made v g.index padstack layer w g.listed (ltb-false g.index 4 a.0) a.1
+  move_via v padstack layer w g = elim (chosen (nat_lt g.index (way_count d m net)) _ _ _ g.leads) [
+    | inl a ↦ way_via v g.index padstack layer w (ltb-true g.index (way_count d m net) a.0) a.1
+    | inr a ↦ absurd (diagonal_no_via v (4 + (g.index - way_count d m net)) padstack layer w a.1)
   ]

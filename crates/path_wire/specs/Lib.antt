@@ -1,3 +1,4 @@
+pub mod Diagonals
 pub mod Wires
 pub mod Lays
 pub mod Joins

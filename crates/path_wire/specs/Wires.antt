@@ -7,14 +7,14 @@ use Rattle.pcb_model.specs.Rules.{width_for}
 use Rattle.route_lattice.specs.declared.moves.Move.{Move}
 use Rattle.route_lattice.specs.declared.moves.Move.TheVariants as move
 use Rattle.route_lattice.specs.Mesh.{Mesh, node_count, point_of, layer_of}
-use Rattle.route_lattice.specs.Ways.{way, way_count}
+use Rattle.path_wire.specs.Diagonals.{wide_way, wide_count}
 
 -- ---- walks of a net
--- the move is one of the net's at the node, and leads to the other
+-- the move is one of the net's at the node, along the lines, by a via or at 45 degrees, and leads to the other
 pub record IsMoveOf (d : Design) (m : Mesh) (net node : ℕ) (a : Move) (to : ℕ) : Type 0 where
   pub index : ℕ
-  pub listed : index < way_count d m net
-  pub leads : way d m net node index ≡ Some (a, to)
+  pub listed : index < wide_count d m net
+  pub leads : wide_way d m net node index ≡ Some (a, to)
 
 -- each move leads from its node to the next, and the last move to the last node
 abbrev pub MovesLead : Design → Mesh → ℕ → List ℕ → List Move → Type 0

@@ -1,7 +1,7 @@
 //! Laws of a walk's copper, for the proofs of callers.
 //! The functions do nothing; a call brings the law that its clauses state.
 
-ghost use Rattle.std.specs.Prelude.{◌≡◌, ℕ, ◌<◌, ◌≤◌, ◌∷◌, List as Seq, All, Any, Contains, length, map, Some};
+ghost use Rattle.std.specs.Prelude.{◌≡◌, ℕ, ◌+◌, ◌*◌, ◌<◌, ◌≤◌, ◌∷◌, List as Seq, All, Any, Contains, length, map, Some};
 ghost use Rattle.geo_kernel.specs.declared.point.Point.{Point as OnePoint};
 ghost use Rattle.pcb_model.specs.declared.item.Item.{Item as OneItem};
 ghost use Rattle.pcb_model.specs.declared.item.Metal.{Metal as OneMetal};
@@ -17,6 +17,7 @@ ghost use Rattle.route_lattice.specs.Mesh.{Mesh, node_count};
 ghost use Rattle.route_lattice.specs.Fits.{FitsDesign};
 ghost use Rattle.route_lattice.specs.Anchors.{Holds, Anchors};
 ghost use Rattle.route_lattice.specs.Legal.{IsLegalProbe, legal_graph};
+ghost use Rattle.path_wire.specs.Diagonals.{diagonal_price, wide_graph};
 ghost use Rattle.path_wire.specs.Wires.{IsNetWalk, copper_of};
 ghost use Rattle.path_wire.specs.Lays.{move_probes, walk_probes, laid_item, IsProbeInside, IsMetalInside};
 ghost use Rattle.path_wire.specs.Lays.{IsWellLaid, IsWireOrVia};
@@ -39,6 +40,27 @@ pub fn net_walks()
         (w : OneWalk)
         → IsWalk (legal_graph d m items net via_cost) starts goals w → (v : ℕ) × (vs : Seq ℕ) × (w.nodes ≡ v ∷ vs)
         × Contains starts v × Contains goals (last_node v vs) }
+{}
+
+/// The same of a walk over legal moves and diagonals.
+pub fn wide_walks()
+    ensures walk { (d : TheDesign) (m : Mesh) (items : Seq OneItem) (net via_cost : ℕ) (starts goals : Seq ℕ)
+        (w : OneWalk) → FitsDesign d m
+        → All (λ v. v < node_count m) starts → IsWalk (wide_graph d m items net via_cost) starts goals w
+        → IsNetWalk d m net w.nodes w.moves }
+    ensures legal { (d : TheDesign) (m : Mesh) (items : Seq OneItem) (net via_cost : ℕ) (starts goals : Seq ℕ)
+        (w : OneWalk) → FitsDesign d m → IsWalk (wide_graph d m items net via_cost) starts goals w
+        → All (IsLegalProbe d items net) (move_probes d m net w.nodes w.moves) }
+    ensures ends { (d : TheDesign) (m : Mesh) (items : Seq OneItem) (net via_cost : ℕ) (starts goals : Seq ℕ)
+        (w : OneWalk) → FitsDesign d m
+        → IsWalk (wide_graph d m items net via_cost) starts goals w → (v : ℕ) × (vs : Seq ℕ) × (w.nodes ≡ v ∷ vs)
+        × Contains starts v × Contains goals (last_node v vs) }
+{}
+
+/// A diagonal's price is its gap times 1.414214, rounded up to a whole number of nm.
+pub fn diagonal_prices_round_up()
+    ensures { (gap : ℕ) → (gap * 1414214 ≤ diagonal_price gap * 1000000)
+        × (diagonal_price gap * 1000000 < gap * 1414214 + 1000000) }
 {}
 
 /// The copper of a walk with moves is that of the walk's parts, in order: a wire for each longest stretch of steps,

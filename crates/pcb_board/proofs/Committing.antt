@@ -20,14 +20,15 @@ use Rattle.pcb_board.specs.Boards.{BoardOf, given, worker_entries, is_of_worker,
 use Rattle.board_offers.specs.Offers.{IsWellFormed}
 use Rattle.pcb_board.specs.Answers.{IsHeard, IsClearOn, known, joined}
 use Rattle.pcb_board.specs.Keeping.{IsBoard}
-use Rattle.pcb_board.specs.Renewing.{IsRenewed, AreIndexed}
+use Rattle.pcb_board.specs.inner.Renewing.{IsRenewed}
+use Rattle.pcb_board.specs.Indexing.{AreIndexed}
 use Rattle.pcb_board.specs.Indexing.{board_of, IsIndexed}
 use Rattle.board_offers.proofs.Lists.{all_from, found_at}
 use Rattle.board_offers.proofs.New.{new_at, new_id, new_given}
 use Rattle.pcb_board.proofs.Standing.{id_within}
 use Rattle.pcb_board.proofs.Joining.{joined_board}
 use Rattle.pcb_board.proofs.Index.{renewed}
-use Rattle.pcb_board.specs.Turning.{AreNumbered}
+use Rattle.pcb_board.specs.Indexing.{AreNumbered}
 use Rattle.pcb_board.proofs.Numbered.{joined_numbered}
 
 -- ---- the new items

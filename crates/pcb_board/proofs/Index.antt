@@ -13,7 +13,8 @@ use Rattle.pcb_board.specs.Boards.{BoardOf, given, IsLast, Changes}
 use Rattle.board_offers.specs.Troubles.{wanted}
 use Rattle.pcb_board.specs.Answers.{IsHeard, IsClearOn, joined}
 use Rattle.pcb_board.specs.Keeping.{IsBoard}
-use Rattle.pcb_board.specs.Renewing.{IsRenewed, AreIndexed}
+use Rattle.pcb_board.specs.inner.Renewing.{IsRenewed}
+use Rattle.pcb_board.specs.Indexing.{AreIndexed}
 use Rattle.board_offers.proofs.Lists.{in_later, in_from, found_at, stayed, passes, not_true, named_in}
 use Rattle.board_offers.proofs.Lists.{in_named, on_item}
 use Rattle.board_offers.proofs.Troubles.{or_right, is_on_in}

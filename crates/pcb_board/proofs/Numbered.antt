@@ -13,7 +13,7 @@ use Rattle.board_offers.proofs.New.{added_length, replaced_length}
 use Rattle.pcb_board.specs.declared.answer.Entry.{Entry}
 use Rattle.pcb_board.specs.declared.answer.Entry.TheVariants.{Join, Back}
 use Rattle.pcb_board.specs.Boards.{BoardOf, past, given}
-use Rattle.pcb_board.specs.Turning.{AreNumbered, IsNumbered, given_after}
+use Rattle.pcb_board.specs.Indexing.{AreNumbered, IsNumbered, given_after}
 use Rattle.pcb_board.specs.Answers.{joined, taken_back}
 
 -- how many items an offer makes

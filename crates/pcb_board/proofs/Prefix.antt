@@ -19,7 +19,7 @@ use Rattle.pcb_board.specs.declared.answer.Entry.{Entry}
 use Rattle.pcb_board.specs.declared.answer.Entry.TheVariants.{Join, Back}
 use Rattle.pcb_board.specs.Boards.{BoardOf, Past, opening, next, past_from, past, given, replayed, board_at}
 use Rattle.pcb_board.specs.Keeping.{IsBoard, Grows}
-use Rattle.pcb_board.specs.Loading.{IsLoaded}
+use Rattle.pcb_board.specs.inner.Loading.{IsLoaded}
 use Rattle.pcb_board.proofs.Past.{BeginsWith, given_begins, take_less}
 use Rattle.pcb_board.proofs.Starting.{loads_kept, fixed_loaded}
 use Rattle.pcb_board.proofs.Turns.{new_numbered}

@@ -10,8 +10,9 @@ use Rattle.pcb_board.specs.declared.answer.Entry.{Entry}
 use Rattle.pcb_board.specs.declared.answer.Entry.TheVariants.{Back}
 use Rattle.pcb_board.specs.declared.board.Board.TheInside.{Inside}
 use Rattle.pcb_board.specs.Boards.{BoardOf, given, replayed, worker_entries, is_of_worker}
-use Rattle.pcb_board.specs.Renewing.{AreIndexed}
-use Rattle.pcb_board.specs.Turning.{AreNumbered, AreMarks, AreTurned, is_marked}
+use Rattle.pcb_board.specs.Indexing.{AreIndexed}
+use Rattle.pcb_board.specs.inner.Turning.{AreMarks, AreTurned, is_marked}
+use Rattle.pcb_board.specs.Indexing.{AreNumbered}
 use Rattle.pcb_board.specs.Answers.{taken_back}
 use Rattle.pcb_board.specs.Keeping.{IsBoard}
 use Rattle.pcb_board.specs.Snaps.{AreTilesOf}

@@ -16,7 +16,7 @@ use Rattle.pcb_model.specs.Board.{IsLegal, IsRouted, is_fixed}
 use Rattle.pcb_model.specs.Sound.{IsSound, IsLayerOf, IsFreeSound, IsMetalInRange}
 use Rattle.pcb_board.specs.Boards.{Loads, Starts, free_item, given, replayed}
 use Rattle.pcb_board.specs.Keeping.{IsBoard, started}
-use Rattle.pcb_board.specs.Loading.{IsLoaded}
+use Rattle.pcb_board.specs.inner.Loading.{IsLoaded}
 use Rattle.pcb_model.specs.Plain.{IsPlainCopper}
 use Rattle.pcb_model.specs.Copper.{Ascends}
 use Rattle.pcb_board.proofs.Order.{given_ascends}

@@ -21,10 +21,12 @@ use Rattle.board_offers.proofs.New.{IsNew, new_at}
 use Rattle.pcb_board.specs.declared.answer.Entry.{Entry}
 use Rattle.pcb_board.specs.declared.answer.Entry.TheVariants.{Join, Back}
 use Rattle.pcb_board.specs.Boards.{BoardOf, Past, past, next, given, replayed, IsLast, Changes}
-use Rattle.pcb_board.specs.Renewing.{AreIndexed, AreMarked}
-use Rattle.pcb_board.specs.Turning.{AreNumbered, IsJoinAt, LeadBack, AreMarks, ArePut, IsRangePut}
-use Rattle.pcb_board.specs.Turning.{MarksJoin}
-use Rattle.pcb_board.specs.Turning.{AreTurned, is_marked, EndsWithin, IsReached}
+use Rattle.pcb_board.specs.inner.Renewing.{AreMarked}
+use Rattle.pcb_board.specs.Indexing.{AreIndexed}
+use Rattle.pcb_board.specs.inner.Turning.{IsJoinAt, LeadBack, AreMarks, ArePut, IsRangePut}
+use Rattle.pcb_board.specs.Indexing.{AreNumbered}
+use Rattle.pcb_board.specs.inner.Turning.{MarksJoin}
+use Rattle.pcb_board.specs.inner.Turning.{AreTurned, is_marked, EndsWithin, IsReached}
 use Rattle.pcb_board.specs.Answers.{taken_back}
 use Rattle.pcb_board.specs.Keeping.{IsBoard}
 use Rattle.pcb_board.proofs.Past.{past_more, given_grows, taken_one, take_less}

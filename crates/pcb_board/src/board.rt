@@ -11,9 +11,9 @@ ghost use Rattle.board_offers.specs.Troubles.{FailsLeast};
 ghost use Rattle.pcb_board.specs.Boards.{given, replayed};
 ghost use Rattle.pcb_board.specs.Answers.{Step, Makes, snap_of, taken_back, HasMade, IsFull, IsHeard, IsClearOn};
 ghost use Rattle.pcb_board.specs.Answers.{known, joined, BlamesLast, MayLackMemory};
-ghost use Rattle.pcb_board.specs.Turning.{LeadBack, AreMarks};
+ghost use Rattle.pcb_board.specs.inner.Turning.{LeadBack, AreMarks};
 ghost use Rattle.pcb_board.specs.Keeping.{IsBoard, IsStarted, AnswersBack};
-ghost use Rattle.pcb_board.specs.Loading.{AreLoaded};
+ghost use Rattle.pcb_board.specs.inner.Loading.{AreLoaded};
 ghost use Rattle.pcb_board.specs.Snaps.{AreTilesOf};
 ghost use Rattle.pcb_tiles.specs.Spread.{ServesSpread};
 

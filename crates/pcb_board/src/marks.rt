@@ -10,7 +10,8 @@ ghost use Rattle.board_offers.specs.declared.offer.Shoved.{Shoved as OneShove};
 ghost use Rattle.board_offers.specs.Items.{is_on};
 ghost use Rattle.board_offers.specs.Given.{AreGiven};
 ghost use Rattle.pcb_board.specs.Snaps.{AreTilesOf};
-ghost use Rattle.pcb_board.specs.Turning.{ArePut, IsRangePut, MarksJoin, EndsWithin, AreTurned, is_marked as marked};
+ghost use Rattle.pcb_board.specs.inner.Turning.{ArePut, IsRangePut, MarksJoin, EndsWithin, AreTurned};
+ghost use Rattle.pcb_board.specs.inner.Turning.{is_marked as marked};
 
 use crate::answer::Entry;
 use crate::load::empty_tiles;

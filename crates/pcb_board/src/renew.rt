@@ -9,7 +9,7 @@ ghost use Rattle.pcb_tiles.specs.Spread.{holding};
 ghost use Rattle.board_offers.specs.declared.offer.Offer.{Offer as OneOffer};
 ghost use Rattle.board_offers.specs.Items.{without, gone};
 ghost use Rattle.pcb_board.specs.Boards.{is_worker};
-ghost use Rattle.pcb_board.specs.Renewing.{IsRenewed, IsJoin};
+ghost use Rattle.pcb_board.specs.inner.Renewing.{IsRenewed, IsJoin};
 
 use crate::answer::{Entry, OfferBack};
 use board_offers::{CLOSER, Offer, gone_ids};

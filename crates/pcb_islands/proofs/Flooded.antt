@@ -9,7 +9,7 @@ use Rattle.pcb_model.specs.declared.item.Item.{Item}
 use Rattle.pcb_model.specs.Board.{AreJoined, LeadsTo}
 use Rattle.pcb_model.specs.Copper.{Ascends}
 use Rattle.pcb_islands.specs.Islands.{HasIdJoined, AreIdsJoined}
-use Rattle.pcb_islands.specs.Flooding.{HasIdTouching, AreTouched, work, IsIdOf, IsTakenIn, IsSpread, IsFlooded}
+use Rattle.pcb_islands.specs.inner.Flooding.{HasIdTouching, AreTouched, work, IsIdOf, IsTakenIn, IsSpread, IsFlooded}
 use Rattle.pcb_islands.proofs.Joined.{one_item, joined_self, joined_on, joined_by_touch}
 
 -- nothing is in the empty list

@@ -18,8 +18,8 @@ use Rattle.pcb_model.specs.Copper.{Ascends}
 use Rattle.pcb_islands.specs.declared.net.Island.{Island}
 use Rattle.pcb_islands.specs.Islands.{IsPadOf, HasPadJoined, AreIdsJoined, IsIsland, IsCovered, BeginsAt, AreIslandsOf}
 use Rattle.pcb_islands.specs.Islands.{HasItemAt}
-use Rattle.pcb_islands.specs.Numbers.{place_at}
-use Rattle.pcb_islands.specs.Progress.{IsProgress, ArePlaced, HasPinMore, HasIslandMore}
+use Rattle.pcb_islands.specs.inner.Numbers.{place_at}
+use Rattle.pcb_islands.specs.inner.Progress.{IsProgress, ArePlaced, HasPinMore, HasIslandMore}
 use Rattle.pcb_islands.proofs.Elements.{in_none, in_here, in_later, in_cons, look_at, look_left, look_last, look_same}
 use Rattle.pcb_islands.proofs.Elements.{look_cases, look_set_same, look_set_other, in_from, zip_set, zip_weaker}
 use Rattle.pcb_islands.proofs.Elements.{zip_push}

@@ -11,7 +11,7 @@ use Rattle.pcb_model.specs.declared.design.Net.{Net}
 use Rattle.pcb_model.specs.declared.design.Design.{Design}
 use Rattle.pcb_model.specs.Sound.{IsSound, HasOnePad}
 use Rattle.pcb_islands.specs.Islands.{pins_of, IsPadOf}
-use Rattle.pcb_islands.specs.Progress.{IsPadAt}
+use Rattle.pcb_islands.specs.inner.Progress.{IsPadAt}
 use Rattle.pcb_islands.proofs.Elements.{in_none, in_from}
 use Rattle.pcb_islands.proofs.Touches.{below_or_same}
 

@@ -2,8 +2,8 @@
 use Rattle.std.proofs.Common.{◌≡◌, ℕ, List, [], ◌∷◌, ◌++◌, Some, sym, ◌∙◌, refl, subst, inl, inr}
 use Rattle.std.specs.Prelude.{Contains}
 use Rattle.std.proofs.lemmas.List.Elements.{Contains-push, Contains-push_cases, Contains-append_left}
-use Rattle.pcb_islands.specs.Numbers.{place_at, IsPlaced}
-use Rattle.pcb_islands.specs.Progress.{ArePlaced}
+use Rattle.pcb_islands.specs.inner.Numbers.{place_at, IsPlaced}
+use Rattle.pcb_islands.specs.inner.Progress.{ArePlaced}
 use Rattle.pcb_islands.proofs.Flooded.{in_none}
 use Rattle.pcb_islands.proofs.Pads.{same_or_not}
 

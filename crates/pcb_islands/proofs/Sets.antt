@@ -9,7 +9,7 @@ use Rattle.std.proofs.lemmas.Cmp.{nat_cmp_total}
 use Rattle.std.proofs.lemmas.Map.Lookups.{exact_unsigned}
 use Rattle.std.proofs.lemmas.Map.Views.{btree_set_contains_iff}
 use Rattle.std.proofs.lemmas.Bool.Decides.{nat_tests}
-use Rattle.pcb_islands.specs.Numbers.{IsWith}
+use Rattle.pcb_islands.specs.inner.Numbers.{IsWith}
 
 found : (s : BTreeSet ℕ) (q : ℕ) → contains nat_cmp s q ≡ true → Contains s.keys q
 found s q h = (btree_set_contains_iff nat_cmp_total exact_unsigned s q).0 h

@@ -10,8 +10,8 @@ use Rattle.std.proofs.lemmas.List.Sums.{sum_by-cons}
 use Rattle.std.proofs.lemmas.List.Elements.{All-nil, All-push, All-pop, All-head, All-weaker}
 use Rattle.std.proofs.lemmas.List.Elements.{Contains-append_left, Contains-push, Contains-push_cases}
 use Rattle.pcb_model.specs.declared.item.Item.{Item}
-use Rattle.pcb_islands.specs.Numbers.{IsWith}
-use Rattle.pcb_islands.specs.Flooding.{is_reached, IsIdOf, IsTakenIn}
+use Rattle.pcb_islands.specs.inner.Numbers.{IsWith}
+use Rattle.pcb_islands.specs.inner.Flooding.{is_reached, IsIdOf, IsTakenIn}
 
 -- ---- counts
 one_or_none : (a b : Bool) → (a ≡ true → b ≡ true) → cond a 1 0 ≤ cond b 1 0

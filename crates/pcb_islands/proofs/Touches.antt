@@ -7,7 +7,7 @@ use Rattle.std.proofs.lemmas.List.Elements.{All-nil, All-push, All-contains, Con
 use Rattle.pcb_model.specs.declared.item.Item.{Item}
 use Rattle.pcb_model.specs.Pairs.{AreTouching}
 use Rattle.pcb_model.specs.Copper.{Finds, IsLookedAt}
-use Rattle.pcb_islands.specs.Flooding.{HasIdWithin, HasIdTouching, AreTouchedBelow, AreTouched}
+use Rattle.pcb_islands.specs.inner.Flooding.{HasIdWithin, HasIdTouching, AreTouchedBelow, AreTouched}
 
 -- one of two numbers is less, or they are one
 pub below_or_same : (m n : ℕ) → (m < n) ⊎ ((n < m) ⊎ (m ≡ n))

@@ -1,4 +1,2 @@
 pub mod Islands
-pub mod Numbers
-pub mod Flooding
-pub mod Progress
+pub mod inner

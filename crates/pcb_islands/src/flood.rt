@@ -5,7 +5,7 @@ ghost use Rattle.std.specs.Prelude.{◌≡◌, ℕ, ◌<◌, List as Seq, [], �
 ghost use Rattle.pcb_model.specs.Bounds.{IsItemFit};
 ghost use Rattle.pcb_model.specs.Copper.{Ascends};
 ghost use Rattle.pcb_islands.specs.Islands.{AreIdsJoined};
-ghost use Rattle.pcb_islands.specs.Flooding.{HasIdWithin, AreTouched, IsTakenIn, IsFlooded};
+ghost use Rattle.pcb_islands.specs.inner.Flooding.{HasIdWithin, AreTouched, IsTakenIn, IsFlooded};
 
 use crate::ids::Ids;
 use geo_kernel::List;

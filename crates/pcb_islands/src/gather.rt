@@ -6,8 +6,8 @@ ghost use Rattle.pcb_model.specs.Sound.{IsSound};
 ghost use Rattle.pcb_model.specs.Bounds.{IsItemFit};
 ghost use Rattle.pcb_model.specs.Copper.{Ascends};
 ghost use Rattle.pcb_islands.specs.Islands.{pins_of, AreIslands};
-ghost use Rattle.pcb_islands.specs.Flooding.{HasIdWithin};
-ghost use Rattle.pcb_islands.specs.Progress.{ArePlaced, HasPinMore, HasIslandMore, IsProgress};
+ghost use Rattle.pcb_islands.specs.inner.Flooding.{HasIdWithin};
+ghost use Rattle.pcb_islands.specs.inner.Progress.{ArePlaced, HasPinMore, HasIslandMore, IsProgress};
 
 use crate::flood::flood;
 use crate::net::Island;

@@ -3,7 +3,7 @@
 
 ghost use Rattle.std.specs.Prelude.{◌≡◌, [], IfOk, Contains};
 ghost use Rattle.std.specs.List.Sorted.{IsStrictlyIncreasing};
-ghost use Rattle.pcb_islands.specs.Numbers.{IsWith};
+ghost use Rattle.pcb_islands.specs.inner.Numbers.{IsWith};
 
 use geo_kernel::List;
 use std::alloc::{AllocError, Global};

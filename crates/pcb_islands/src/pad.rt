@@ -7,7 +7,7 @@ ghost use Rattle.pcb_model.specs.declared.item.Item.{Item as OneItem};
 ghost use Rattle.pcb_model.specs.declared.item.Metal.TheVariants.{Pad};
 ghost use Rattle.pcb_model.specs.Sound.{IsSound};
 ghost use Rattle.pcb_islands.specs.Islands.{IsPadOf};
-ghost use Rattle.pcb_islands.specs.Progress.{IsPadAt, IsPadFrom};
+ghost use Rattle.pcb_islands.specs.inner.Progress.{IsPadAt, IsPadFrom};
 
 use pcb_model::{Design, Item, Metal};
 

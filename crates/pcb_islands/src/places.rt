@@ -2,7 +2,7 @@
 //! Contracts see them as a list of pairs of which only look-ups are told.
 
 ghost use Rattle.std.specs.Prelude.{◌≡◌, [], OnOk};
-ghost use Rattle.pcb_islands.specs.Numbers.{place_at, IsPlaced};
+ghost use Rattle.pcb_islands.specs.inner.Numbers.{place_at, IsPlaced};
 
 use std::alloc::{AllocError, Global};
 use std::collections::BTreeMap;

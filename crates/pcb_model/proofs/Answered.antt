@@ -1,31 +1,17 @@
 -- What `all`, `any` and loops that leave early answer, for a test that answers a fact.
 use Rattle.std.proofs.Common.{◌≡◌, ℕ, ◌<◌, Bool, true, false, List, [], ◌∷◌, length, All, Any, get_or, IsTrue, ◌↔◌}
-use Rattle.std.proofs.Common.{◌≤◌, ◌+◌, ◌&&◌, take, drop, drop-cons, add-one, arith, refl, sym, ap, ◌∙◌, subst}
+use Rattle.std.proofs.Common.{◌≤◌, ◌+◌, ◌&&◌, take, drop, drop-cons, add-one, arith, refl, sym, ap, ◌∙◌, subst, map}
 use Prim.Native.Nat.{zero, suc}
 use Rattle.std.proofs.lemmas.List.{take_all, drop_all}
-use Rattle.std.proofs.lemmas.List.Elements.{All-more}
+use Rattle.std.proofs.lemmas.List.Elements.{All-more, All-map}
 use Rattle.std.specs.Bool.{MatchBool}
 use Rattle.std.specs.List.{AllWithin, HoldsAt, list_all}
-
-pub all_answered : {X : Type 0} (P : X → Type 0) (r : Bool) (xs : List X)
-    → MatchBool r (AllWithin P xs 0 (length xs)) ((k : ℕ) × (k < length xs) × HoldsAt (λ x. ¬ (P x)) xs k)
-    → IsTrue r ↔ All P xs
-all_answered P true xs h = (λ t. λ k d l. h k d (omega arith) l, λ a. refl)
-all_answered P false [] h = (λ t. cc, λ a. absurd (let l = h.1 in omega arith))
-all_answered P false (x ∷ xs) h = (λ t. cc, λ a. absurd (h.2 x (a h.0 x h.1)))
+use Rattle.pcb_model.proofs.Probes.{All-unmap}
 
 pub get_or_any : {X : Type 0} (xs : List X) (k : ℕ) (d e : X) → k < length xs → get_or xs k d ≡ get_or xs k e
 get_or_any [] k d e h = absurd (omega arith)
 get_or_any (x ∷ xs) zero d e h = refl
 get_or_any (x ∷ xs) (suc k) d e h = get_or_any xs k d e (omega arith)
-
-pub any_answered : {X : Type 0} (P : X → Type 0) (r : Bool) (xs : List X)
-    → MatchBool r ((k : ℕ) × (k < length xs) × HoldsAt P xs k) (AllWithin (λ x. ¬ (P x)) xs 0 (length xs))
-    → IsTrue r ↔ Any P xs
-any_answered P true [] h = (λ t. absurd (let l = h.1 in omega arith), λ a. refl)
-any_answered P true (x ∷ xs) h =
-    (λ t. (h.0, get_or (x ∷ xs) h.0 x, h.1, get_or_any (x ∷ xs) h.0 (get_or (x ∷ xs) h.0 x) x h.1, h.2 x), λ a. refl)
-any_answered P false xs h = (λ t. cc, λ (k, x, l, e, p). absurd (h k x (omega arith) l (subst P (sym e) p)))
 
 -- what a loop answers that leaves at the first element at which a test fails: before it all pass
 module _ {X : Type 0} (P : X → Type 0) (xs : List X) (i : ℕ) where
@@ -78,3 +64,13 @@ module _ {X : Type 0} (test : X → Bool) (xs : List X) (i : ℕ) where
 
   pub tests_pass : length xs ≤ i → list_all test (drop i xs) ≡ list_all test xs → true ≡ list_all test xs
   tests_pass h kept = ap (list_all test) (sym (drop_all i xs h)) ∙ kept
+
+-- what the first kind of loop answers where the facts are of what the elements are mapped to
+module _ {X Y : Type 0} (Q : Y → Type 0) (f : X → Y) (xs : List X) (i : ℕ) where
+  pub failed_mapped : (x : X) (b : Bool) → i < length xs → x ≡ get_or xs i x → (IsTrue b ↔ Q (f x)) → b ≡ false
+      → IsTrue false ↔ All Q (map f xs)
+  failed_mapped x b h is says e =
+      let t = failed_here (λ y. Q (f y)) xs i x b h is says e in (λ k. cc, λ all. t.1 (All-unmap Q f xs all))
+
+  pub mapped_passed : length xs ≤ i → All (λ y. Q (f y)) (take i xs) → IsTrue true ↔ All Q (map f xs)
+  mapped_passed h all = (λ t. All-map Q f xs ((all_passed (λ y. Q (f y)) xs i h all).0 refl), λ k. refl)

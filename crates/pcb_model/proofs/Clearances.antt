@@ -13,7 +13,7 @@ use Rattle.pcb_model.specs.declared.design.ClassPair.{ClassPair}
 use Rattle.pcb_model.specs.declared.rules.Side.{Side}
 use Rattle.pcb_model.specs.Near.{IsSideOf, side_value}
 use Rattle.pcb_model.specs.declared.design.Design.{Design}
-use Rattle.pcb_model.specs.Rules.{value_of, value_to, levels, first_present, with_class, class_in, class_of, is_of}
+use Rattle.pcb_model.specs.Rules.{value_of, value_to, levels, first_present, with_class, class_in, class_of, is_of_classes}
 use Rattle.pcb_model.specs.Rules.{pairs_of, joint_rules, pair_rules, rule_sets, typed_value}
 use Rattle.pcb_model.specs.Bounds.{IsValue, AreValuesWithin, IsPairWithin, HasRulesWithin, IsGreatestClearance}
 use Rattle.pcb_model.proofs.Far.{clearances_within}
@@ -69,12 +69,6 @@ taken_first least (Some v) p vs h = refl
 taken_first least None (Some w) vs h = refl
 taken_first least None None vs h = absurd (omega (arith, h))
 
-pub not_above : (least : ℕ) (t p : Option ℕ)
-    → first_present 0 (t ∷ p ∷ []) ≤ max least (first_present least (t ∷ p ∷ []))
-not_above least (Some v) p = omega arith
-not_above least None (Some w) = omega arith
-not_above least None None = omega arith
-
 in_both : (m x : ℕ) (t p : Option ℕ) → x ≤ m → first_present 0 (t ∷ p ∷ []) ≤ m → first_present x (t ∷ p ∷ []) ≤ m
 in_both m x (Some v) p h k = k
 in_both m x None (Some w) h k = k
@@ -83,10 +77,10 @@ in_both m x None None h k = h
 -- what the pairs of two classes say, where two nets are of these
 pub pair_value : (d : Design) (p : ClassPair) (a b : ℕ) (ka kb : Kind) (least next : ℕ)
     → class_of d (Some a) ≡ Some p.a → class_of d (Some b) ≡ Some p.b
-    → next ≡ first_present least (levels ka kb (joint_rules (filter (is_of p.a p.b) d.pairs))) → least < next
+    → next ≡ first_present least (levels ka kb (joint_rules (filter (is_of_classes p.a p.b) d.pairs))) → least < next
     → IsValue d next
 pair_value d p a b ka kb least next e f is h =
-    let r = joint_rules (filter (is_of p.a p.b) d.pairs) in
+    let r = joint_rules (filter (is_of_classes p.a p.b) d.pairs) in
     let rules : pair_rules d (Some a) (Some b) ≡ r = λ i. joint_rules (pairs_of d (e i) (f i)) in
     record {
       net = Some a;
@@ -134,7 +128,7 @@ module _ (d : Design) (m : ℕ) (pairs : All (IsPairWithin d m) d.pairs) (one ot
   -- of the classes x and y
   classes_within : (a b x y : ℕ) → class_of d (Some a) ≡ Some x → class_of d (Some b) ≡ Some y
       → Within (pairs_of d (Some x) (Some y))
-  classes_within a b x y e f = elim (first_kept (is_of x y) (IsPairWithin d m) d.pairs pairs) [
+  classes_within a b x y e f = elim (first_kept (is_of_classes x y) (IsPairWithin d m) d.pairs pairs) [
     | inl none ↦ subst Within (sym none) nothing
     | inr s ↦ let p = s.0 in
         elim (parts (p.a == x) (p.b == y) (p.a == y) (p.b == x) s.2) [
@@ -189,17 +183,6 @@ greatest_is d m v none nets pairs =
 pub pair_more : (d : Design) (m r : ℕ) → m ≤ r → (p : ClassPair) → IsPairWithin d m p → IsPairWithin d r p
 pair_more d m r h p w =
     record { each = λ a b e f one other. let v = w.each a b e f one other in omega (arith, h, v) }
-
--- no net is of the class
-pub no_net : (d : Design) (nets : List Net) (m : ℕ) (p : ClassPair) → nets ≡ d.nets
-    → ((i : ℕ) → class_in (slice_get nets i) ≡ Some p.a → ⊥) ⊎ ((i : ℕ) → class_in (slice_get nets i) ≡ Some p.b → ⊥)
-    → IsPairWithin d m p
-no_net d nets m p is (inl none) = record {
-  each = λ a b e f one other. absurd (none a (subst (λ (ns : List Net). class_in (slice_get ns a) ≡ Some p.a) (sym is) e));
-}
-no_net d nets m p is (inr none) = record {
-  each = λ a b e f one other. absurd (none b (subst (λ (ns : List Net). class_in (slice_get ns b) ≡ Some p.b) (sym is) f));
-}
 
 -- a clearance that some nets have is within what the rules are
 pub greatest_within : (d : Design) (m : ℕ) → HasRulesWithin (2 ^ 28) d → IsGreatestClearance d m → m ≤ 2 ^ 28

@@ -125,10 +125,6 @@ first_is items from i b up h bi below from_on = record {
 }
 
 -- ---- an id that is nowhere, and one that is somewhere
-pub nowhere_below : (items : List Item) (i id : ℕ) → length items ≤ i
-    → ((k : ℕ) (e : Item) → k < i → (get_or items k e).id < id) → All (λ b. b.id ≡ id → ⊥) items
-nowhere_below items i id h below = λ k d l e. omega (arith, e, below k d (omega (arith, h, l)))
-
 pub nowhere : (items : List Item) (i id : ℕ) (b : Item) → Ascends items → i < length items → b ≡ get_or items i b
     → ((k : ℕ) (e : Item) → k < i → (get_or items k e).id < id)
     → ((k : ℕ) (e : Item) → i ≤ k → k < length items → id ≤ (get_or items k e).id) → (b.id ≡ id → ⊥)

@@ -11,7 +11,7 @@ use Rattle.pcb_model.specs.declared.item.Kind.{Kind}
 use Rattle.pcb_model.specs.declared.design.Typed.{Typed}
 use Rattle.pcb_model.specs.declared.design.Design.{Design}
 use Rattle.pcb_model.specs.declared.design.ClassPair.{ClassPair}
-use Rattle.pcb_model.specs.Rules.{last_value, last_plain, joint_rules, is_of, first_present, pairs_of, class_of}
+use Rattle.pcb_model.specs.Rules.{last_value, last_plain, joint_rules, is_of_classes, first_present, pairs_of, class_of}
 use Rattle.pcb_model.specs.Rules.{pair_rules, levels, typed_value, rule_sets, value_of, value_to, clearance_of}
 use Rattle.pcb_model.proofs.Lookups.{two_levels}
 
@@ -21,24 +21,24 @@ single : (test : ClassPair → Bool) (p : ClassPair) (b : Bool) → test p ≡ b
 single test p b is = ap (λ (x : Bool). cond x (p ∷ []) []) is
 
 pub taken : (a b : ℕ) (pairs : List ClassPair) (i : ℕ) (p : ClassPair) → i < length pairs → p ≡ get_or pairs i p
-    → is_of a b p ≡ true
-    → filter (is_of a b) (take (i + 1) pairs) ≡ filter (is_of a b) (take i pairs) ++ p ∷ []
+    → is_of_classes a b p ≡ true
+    → filter (is_of_classes a b) (take (i + 1) pairs) ≡ filter (is_of_classes a b) (take i pairs) ++ p ∷ []
 taken a b pairs i p h e is =
-    ap (filter (is_of a b)) (take_more pairs i p h)
-    ∙ (filter-append (is_of a b) (take i pairs) (get_or pairs i p ∷ [])
-    ∙ ap (λ (qs : List ClassPair). filter (is_of a b) (take i pairs) ++ qs)
-    (single (is_of a b) (get_or pairs i p) true (ap (is_of a b) (sym e) ∙ is)
+    ap (filter (is_of_classes a b)) (take_more pairs i p h)
+    ∙ (filter-append (is_of_classes a b) (take i pairs) (get_or pairs i p ∷ [])
+    ∙ ap (λ (qs : List ClassPair). filter (is_of_classes a b) (take i pairs) ++ qs)
+    (single (is_of_classes a b) (get_or pairs i p) true (ap (is_of_classes a b) (sym e) ∙ is)
     ∙ ap (λ (q : ClassPair). q ∷ []) (sym e)))
 
 pub passed : (a b : ℕ) (pairs : List ClassPair) (i : ℕ) (p : ClassPair) → i < length pairs → p ≡ get_or pairs i p
-    → is_of a b p ≡ false
-    → filter (is_of a b) (take (i + 1) pairs) ≡ filter (is_of a b) (take i pairs)
+    → is_of_classes a b p ≡ false
+    → filter (is_of_classes a b) (take (i + 1) pairs) ≡ filter (is_of_classes a b) (take i pairs)
 passed a b pairs i p h e is =
-    ap (filter (is_of a b)) (take_more pairs i p h)
-    ∙ (filter-append (is_of a b) (take i pairs) (get_or pairs i p ∷ [])
-    ∙ (ap (λ (qs : List ClassPair). filter (is_of a b) (take i pairs) ++ qs)
-    (single (is_of a b) (get_or pairs i p) false (ap (is_of a b) (sym e) ∙ is))
-    ∙ append-nil (filter (is_of a b) (take i pairs))))
+    ap (filter (is_of_classes a b)) (take_more pairs i p h)
+    ∙ (filter-append (is_of_classes a b) (take i pairs) (get_or pairs i p ∷ [])
+    ∙ (ap (λ (qs : List ClassPair). filter (is_of_classes a b) (take i pairs) ++ qs)
+    (single (is_of_classes a b) (get_or pairs i p) false (ap (is_of_classes a b) (sym e) ∙ is))
+    ∙ append-nil (filter (is_of_classes a b) (take i pairs))))
 
 -- ---- the last values
 mapped_or : (a b : Option Typed) → option_map (λ (t : Typed). t.value) (option_or a b)

@@ -64,17 +64,3 @@ disc_fit layer width p w within =
       within = All-cons (IsWithin (2 ^ 29)) (moved p origin) [] (x, y) (All-nil (IsWithin (2 ^ 29)));
       width_within = w;
     }
-
--- two such discs
-pub discs_fit : (p : Point) (a b : Piece) → IsWithin (2 ^ 28) p → a ≡ wire_piece 0 600000 (origin ∷ [])
-    → b ≡ wire_piece 2 600000 (origin ∷ []) → All IsFit (map (moved_piece p) (a ∷ b ∷ []))
-discs_fit p a b within first second =
-    subst (λ (x : Piece). All IsFit (map (moved_piece p) (x ∷ b ∷ []))) (sym first)
-    (subst (λ (y : Piece). All IsFit (map (moved_piece p) (wire_piece 0 600000 (origin ∷ []) ∷ y ∷ []))) (sym second)
-    (All-cons IsFit (moved_piece p (wire_piece 0 600000 (origin ∷ [])))
-    (moved_piece p (wire_piece 2 600000 (origin ∷ [])) ∷ []) (disc_fit 0 600000 p (omega arith) within)
-    (All-cons IsFit (moved_piece p (wire_piece 2 600000 (origin ∷ []))) [] (disc_fit 2 600000 p (omega arith) within)
-    (All-nil IsFit))))
-
-pub serves_none : (d : Design) → IsDesignFit d → d.fixed ≡ [] → Serves [] d
-serves_none d fit none = record { design_fits = fit; fixed_there = sym none; items_fit = All-nil (IsItemOf d) }

@@ -17,7 +17,7 @@ use Rattle.pcb_model.specs.declared.design.Padstack.{Padstack}
 use Rattle.pcb_model.specs.declared.design.Design.{Design}
 use Rattle.pcb_model.specs.Bounds.{IsFit, IsDesignFit, IsProbeFit}
 use Rattle.pcb_model.proofs.Within.{All-at}
-use Rattle.pcb_model.specs.Inner.{meets_wires, meets_vias}
+use Rattle.pcb_model.specs.Pairs.{meets_wires, meets_vias}
 use Rattle.pcb_model.specs.Rules.{is_kind, is_pair, clearance_of}
 use Rattle.pcb_model.specs.Pairs.{KeepsFrom, PiecesKeep, PiecesTouch, is_same_net, is_compared, must_keep}
 use Rattle.pcb_model.specs.Pairs.{must_stay_off, Agrees}

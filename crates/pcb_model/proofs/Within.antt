@@ -14,7 +14,7 @@ use Rattle.pcb_model.specs.declared.design.Net.{Net}
 use Rattle.pcb_model.specs.declared.design.ClassPair.{ClassPair}
 use Rattle.pcb_model.specs.declared.design.Design.{Design}
 use Rattle.pcb_model.specs.Rules.{names_pair, names_one, last_value, typed_value, first_present, levels, class_rules}
-use Rattle.pcb_model.specs.Rules.{with_class, net_rules, rule_sets, value_of, value_to, clearance_of, class_of, is_of}
+use Rattle.pcb_model.specs.Rules.{with_class, net_rules, rule_sets, value_of, value_to, clearance_of, class_of, is_of_classes}
 use Rattle.pcb_model.specs.Rules.{pairs_of, pair_rules, joint_rules, last_plain}
 use Rattle.pcb_model.specs.Bounds.{AreRulesWithin, HasRulesWithin}
 
@@ -91,12 +91,6 @@ rules_within m d None h = All-nil (AreRulesWithin m)
 rules_within m d (Some i) h =
     net_within m d (slice_get d.nets i) h (All-at (λ (x : Net). AreRulesWithin m x.rules) d.nets i h.nets_within)
 
-pub value_within : (m : ℕ) (d : Design) (net : Option ℕ) (ka kb : Kind) → HasRulesWithin m d → value_of d net ka kb ≤ m
-value_within m d net ka kb h =
-    first m (flat_map (levels ka kb) (rule_sets d net)) (all_levels m ka kb (rule_sets d net)
-    (All-append (AreRulesWithin m) (net_rules d net) (d.rules ∷ []) (rules_within m d net h)
-    (All-cons (AreRulesWithin m) d.rules [] h.structure (All-nil (AreRulesWithin m)))))
-
 -- ---- class pairs
 abbrev PairWithin : ℕ → ClassPair → Type 0
 PairWithin m p = AreRulesWithin m p.rules
@@ -124,7 +118,7 @@ joint_within m ps h = record { plain_within = plain_joint m ps h; typed_within =
 pairs_within_of : (m : ℕ) (d : Design) (x y : Option ℕ) → HasRulesWithin m d → All (PairWithin m) (pairs_of d x y)
 pairs_within_of m d None y h = All-nil (PairWithin m)
 pairs_within_of m d (Some a) None h = All-nil (PairWithin m)
-pairs_within_of m d (Some a) (Some b) h = All-filter (is_of a b) (PairWithin m) d.pairs h.pairs_within
+pairs_within_of m d (Some a) (Some b) h = All-filter (is_of_classes a b) (PairWithin m) d.pairs h.pairs_within
 
 pub value_to_within : (m : ℕ) (d : Design) (net other : Option ℕ) (ka kb : Kind) → HasRulesWithin m d
     → value_to d net other ka kb ≤ m

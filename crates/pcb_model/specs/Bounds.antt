@@ -16,7 +16,7 @@ use Rattle.pcb_model.specs.declared.design.Net.{Net}
 use Rattle.pcb_model.specs.declared.design.Design.{Design}
 use Rattle.pcb_model.specs.declared.item.Kind.{Kind}
 use Rattle.pcb_model.specs.Pieces.{pieces_of, metal_of}
-use Rattle.pcb_model.specs.Rules.{value_of, value_to, clearance_of, class_of, between_of}
+use Rattle.pcb_model.specs.Rules.{value_of, value_to, clearance_of, class_of, pair_value}
 
 -- no clearance of the rules is above m
 pub record AreRulesWithin (m : ℕ) (rs : RuleSet) : Type 0 where
@@ -46,10 +46,10 @@ pub record IsValue (d : Design) (m : ℕ) : Type 0 where
 pub record AreValuesWithin (d : Design) (net : Option ℕ) (m : ℕ) : Type 0 where
   pub each : (one other : Kind) → value_of d net one other ≤ m
 
--- no value that the class pairs give two nets of the pair's classes is above m
+-- where some nets are of the pair's two classes, no value that the class pairs give them is above m
 pub record IsPairWithin (d : Design) (m : ℕ) (p : ClassPair) : Type 0 where
   pub each : (a b : ℕ) → class_of d (Some a) ≡ Some p.a → class_of d (Some b) ≡ Some p.b → (one other : Kind)
-      → between_of d p one other ≤ m
+      → pair_value d p one other ≤ m
 
 -- no clearance between two nets is above m, and there is one of m
 pub record IsGreatestClearance (d : Design) (m : ℕ) : Type 0 where

@@ -5,7 +5,6 @@ pub mod Bounds
 pub mod Board
 pub mod Sound
 pub mod Counts
-pub mod Inner
 pub mod Near
 pub mod Copper
 pub mod Scale

@@ -51,6 +51,16 @@ is_compared (metal.Ban wires vias) m = is_banned wires vias m
 is_compared m (metal.Ban wires vias) = is_banned wires vias m
 is_compared _ _ = true
 
+-- whether wires are compared with the metal
+abbrev pub meets_wires : Metal → Bool
+meets_wires (metal.Ban wires vias) = wires
+meets_wires _ = true
+
+-- whether vias are compared with the metal
+abbrev pub meets_vias : Metal → Bool
+meets_vias (metal.Ban wires vias) = vias
+meets_vias _ = true
+
 -- copper of different nets, or one without a net
 abbrev pub must_keep : Item → Item → Bool
 must_keep a b = not (is_same_net a.net b.net) && is_compared a.metal b.metal

@@ -12,8 +12,10 @@ ghost use Rattle.pcb_model.specs.Pairs.{Agrees, ProbeAgrees, AreTouching};
 ghost use Rattle.pcb_model.specs.Sound.{Serves};
 ghost use Rattle.pcb_model.specs.Copper.{Ascends, Finds, IsFirstFrom, IsBlocked, IsUnblocked};
 
+use crate::uncounted::{block_by, clash_by, is_clear_by, touch_by};
 use crate::{Design, Item, Probe, Steps};
-use std::sync::ledger::Ledger;
+use std::marker::Brand;
+use std::sync::ledger::{Blank, Ledger};
 
 /// Items by id, and searches among them. None of the calls takes memory.
 pub trait Copper {
@@ -98,6 +100,45 @@ pub trait Copper {
         ensures finds { Finds (AreTouching a.now) (λ b. AreTouching a.now b → ⊥) from (Some a.now.id)
             (items self.now) result }
         ensures cost { steps.new ≤ steps.old + touch_ticks self.now a.now };
+
+    /// What `next_clash` answers, where no step is counted.
+    final fn clash_from(&self, d: &Design, a: &Item, from: u64) -> Option<u64>
+        requires serves { serves self.now d.now }
+        requires a_fits { IsItemFit a.now }
+        ensures { Finds (λ b. Agrees d.now a.now b → ⊥) (Agrees d.now a.now) from (Some a.now.id) (items self.now)
+            result }
+    {
+        clash_by::<Self, Brand>(self, d, a, from, Blank::new(1))
+    }
+
+    /// What `next_block` answers, where no step is counted.
+    final fn block_from(&self, d: &Design, net: u32, p: &Probe, from: u64) -> Option<u64>
+        requires serves { serves self.now d.now }
+        requires p_fits { IsProbeFit d.now p.now }
+        ensures { Finds (λ b. ProbeAgrees d.now net p.now b → ⊥) (ProbeAgrees d.now net p.now) from None
+            (items self.now) result }
+    {
+        block_by::<Self, Brand>(self, d, net, p, from, Blank::new(1))
+    }
+
+    /// Whether all items agree with what the probe of the net stands for, as `is_blocked` answers. No step is counted.
+    final fn is_clear(&self, d: &Design, net: u32, p: &Probe) -> bool
+        requires serves { serves self.now d.now }
+        requires p_fits { IsProbeFit d.now p.now }
+        ensures yes { OnTrue result (IsUnblocked d.now net p.now (items self.now)) }
+        ensures no { OnFalse result (IsBlocked d.now net p.now (items self.now)) }
+    {
+        is_clear_by::<Self, Brand>(self, d, net, p, Blank::new(1))
+    }
+
+    /// What `next_touch` answers, where no step is counted.
+    final fn touch_from(&self, a: &Item, from: u64) -> Option<u64>
+        requires a_fits { IsItemFit a.now }
+        ensures { Finds (AreTouching a.now) (λ b. AreTouching a.now b → ⊥) from (Some a.now.id) (items self.now)
+            result }
+    {
+        touch_by::<Self, Brand>(self, a, from, Blank::new(1))
+    }
 
     /// Copper that serves a design holds its fixed items, and all its items fit the design.
     ghost serving: { (c : Self) → (d : TheDesign) → serves c d → Serves (items c) d };

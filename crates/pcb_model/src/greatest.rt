@@ -3,7 +3,7 @@
 
 ghost use Rattle.std.specs.Prelude.{◌≡◌, ◌↔◌, ℕ, ◌≤◌, ◌^◌, IsTrue, Some, length, slice_get, MatchOption};
 ghost use Rattle.pcb_model.specs.declared.item.Kind.{Kind as OneKind};
-ghost use Rattle.pcb_model.specs.Rules.{value_of, between_of, class_in, class_of};
+ghost use Rattle.pcb_model.specs.Rules.{value_of, pair_value, class_in, class_of};
 ghost use Rattle.pcb_model.specs.Sound.{IsSound};
 ghost use Rattle.pcb_model.specs.Bounds.{IsValue, AreValuesWithin, IsPairWithin, IsGreatestClearance};
 
@@ -77,7 +77,7 @@ fn raised_between(d: &Design, p: &ClassPair, a: u32, b: u32, ka: Kind, kb: Kind,
     requires reached { IsValue d.now least }
     requires a_is { class_of d.now (Some a) ≡ Some p.now.a }
     requires b_is { class_of d.now (Some b) ≡ Some p.now.b }
-    ensures value { between_of d.now p.now ka kb ≤ result }
+    ensures value { pair_value d.now p.now ka kb ≤ result }
     ensures least { least ≤ result }
     ensures reached { IsValue d.now result }
 {
@@ -90,7 +90,7 @@ fn raised_between_kind(d: &Design, p: &ClassPair, a: u32, b: u32, kind: Kind, le
     requires reached { IsValue d.now least }
     requires a_is { class_of d.now (Some a) ≡ Some p.now.a }
     requires b_is { class_of d.now (Some b) ≡ Some p.now.b }
-    ensures values { (other : OneKind) → between_of d.now p.now kind other ≤ result }
+    ensures values { (other : OneKind) → pair_value d.now p.now kind other ≤ result }
     ensures least { least ≤ result }
     ensures reached { IsValue d.now result }
 {
@@ -106,7 +106,7 @@ fn raised_by_nets(d: &Design, p: &ClassPair, a: u32, b: u32, least: u64) -> u64
     requires reached { IsValue d.now least }
     requires a_is { class_of d.now (Some a) ≡ Some p.now.a }
     requires b_is { class_of d.now (Some b) ≡ Some p.now.b }
-    ensures values { (one other : OneKind) → between_of d.now p.now one other ≤ result }
+    ensures values { (one other : OneKind) → pair_value d.now p.now one other ≤ result }
     ensures least { least ≤ result }
     ensures reached { IsValue d.now result }
 {

@@ -46,7 +46,8 @@ pub fn inside_board(d: &Design, a: &Item) -> bool
     are_inside(a.pieces.as_slice(), d.bounds.as_slice())
 }
 
-fn is_signal(d: &Design, layer: u8) -> bool
+/// Whether the layer is there and carries signals: copper of nets may be laid on it.
+pub fn is_signal(d: &Design, layer: u8) -> bool
     ensures { IsTrue result ↔ IsSignal d.now layer }
 {
     match d.layers.as_slice().get(layer as usize) {
@@ -66,7 +67,8 @@ fn has_via(vias: &[u32], padstack: u32) -> bool
     false
 }
 
-fn is_listed(d: &Design, net: u32, padstack: u32) -> bool
+/// Whether the padstack is in the net's list of vias.
+pub fn is_listed(d: &Design, net: u32, padstack: u32) -> bool
     ensures { IsTrue result ↔ IsListed d.now net padstack }
 {
     match d.nets.as_slice().get(net as usize) {

@@ -13,7 +13,8 @@ use crate::{Design, Item, Kind, Metal, Piece};
 use geo_kernel::{List, Point, Spine};
 use std::alloc::{AllocError, Global};
 
-pub(crate) fn move_point(p: Point, by: Point) -> Point
+/// The point moved by a vector.
+pub fn move_point(p: Point, by: Point) -> Point
     requires p_within { IsWithin (2 ^ 29) p }
     requires by_within { IsWithin (2 ^ 29) by }
     ensures { result ≡ moved by p }

@@ -12,7 +12,8 @@ ghost use Rattle.pcb_model.specs.Bounds.{IsFit, IsItemFit, IsProbeFit, IsDesignF
 ghost use Rattle.pcb_model.specs.Near.{IsPieceIn, IsExtentOf, IsBoxWithin, moved_box_by, Encloses, AreFar};
 ghost use Rattle.pcb_model.specs.Near.{SeparatesAll, IsQueryOf, box_of_points, vertices_of, extent_of};
 
-use crate::probe::{padstack_pieces, probe_kind};
+use crate::pieces::padstack_pieces;
+use crate::probe::probe_kind;
 use crate::rules::{Side, reach_of};
 use crate::{Design, Item, Piece, Probe};
 use geo_kernel::limits::FURTHEST;

@@ -6,7 +6,8 @@ ghost use Rattle.pcb_model.specs.Bounds.{HasRulesWithin, IsFit, IsItemFit};
 ghost use Rattle.pcb_model.specs.Rules.{value_of, clearance_of};
 ghost use Rattle.pcb_model.specs.Pairs.{PieceKeeps, KeepsFrom, TouchesSome, PiecesKeep, PieceTouches, PiecesTouch};
 ghost use Rattle.pcb_model.specs.Pairs.{is_same_net, is_banned as is_banned_by, is_compared as are_compared};
-ghost use Rattle.pcb_model.specs.Pairs.{must_keep as must_keep_of, must_stay_off as must_stay_off_of, Agrees};
+ghost use Rattle.pcb_model.specs.Pairs.{must_keep as must_keep_of, must_stay_off as must_stay_off_of};
+ghost use Rattle.pcb_model.specs.Pairs.{Agrees, AreTouching};
 
 use crate::rules::{clearance_from, same_pair, value};
 use crate::{Design, Item, Kind, Metal, Piece, Steps};
@@ -96,13 +97,23 @@ pub fn touch(a: &Item, b: &Item) -> bool
     pieces_touch(a.pieces.as_slice(), b.pieces.as_slice())
 }
 
-pub(crate) fn same_net(a: Option<u32>, b: Option<u32>) -> bool
+/// Whether the two are one net: copper without a net has none in common.
+pub fn same_net(a: Option<u32>, b: Option<u32>) -> bool
     ensures { result ≡ is_same_net a b }
 {
     match (a, b) {
         (Some(x), Some(y)) => x == y,
         _ => false,
     }
+}
+
+/// Whether two items of one net touch.
+pub fn are_touching(a: &Item, b: &Item) -> bool
+    requires a_fits { IsItemFit a.now }
+    requires b_fits { IsItemFit b.now }
+    ensures { IsTrue result ↔ AreTouching a.now b.now }
+{
+    same_net(a.net, b.net) && touch(a, b)
 }
 
 fn is_banned(wires: bool, vias: bool, m: &Metal) -> bool
@@ -176,7 +187,17 @@ pub(crate) fn pair_agrees(d: &Design, own: u64, a: &Item, b: &Item) -> bool
 
 /// Whether two items agree: on each layer their pieces keep the clearance of their nets and kinds,
 /// but for pieces of one net and for what a ban doesn't ban; and a via doesn't touch an smd pad of
-/// its own net, unless the design allows it. One step.
+/// its own net, unless the design allows it. No step is counted.
+pub fn agree(d: &Design, a: &Item, b: &Item) -> bool
+    requires rules { HasRulesWithin (2 ^ 28) d.now }
+    requires a_fits { IsItemFit a.now }
+    requires b_fits { IsItemFit b.now }
+    ensures { IsTrue result ↔ Agrees d.now a.now b.now }
+{
+    pair_agrees(d, value(d, a.net, a.kind, b.kind), a, b)
+}
+
+/// Whether two items agree, as `agree` says. One step.
 pub fn pair_ok<L: Ledger>(d: &Design, a: &Item, b: &Item, steps: &mut Steps<L>) -> bool
     requires rules { HasRulesWithin (2 ^ 28) d.now }
     requires a_fits { IsItemFit a.now }
@@ -185,5 +206,5 @@ pub fn pair_ok<L: Ledger>(d: &Design, a: &Item, b: &Item, steps: &mut Steps<L>) 
     ensures cost { steps.new ≡ steps.old + 1 }
 {
     steps.tick();
-    pair_agrees(d, value(d, a.net, a.kind, b.kind), a, b)
+    agree(d, a, b)
 }

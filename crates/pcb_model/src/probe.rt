@@ -1,67 +1,37 @@
 //! Probes: wires of one or two points, and vias, that are judged before any item is made.
 //! Nothing here takes memory.
 
-ghost use Rattle.std.specs.Prelude.{◌≡◌, ◌+◌, ◌≤◌, ◌<◌, ◌^◌, ◌↔◌, List, IsTrue, true, false, not, ◌&&◌, Some, All, map};
+ghost use Rattle.std.specs.Prelude.{◌≡◌, ◌+◌, ◌^◌, ◌↔◌, IsTrue, true, false, not, ◌&&◌, Some, All, map};
 ghost use Rattle.geo_kernel.specs.Plane.{IsWithin};
 ghost use Rattle.geo_kernel.specs.Spine.{IsFirst};
 ghost use Rattle.pcb_model.specs.Bounds.{IsDesignFit, IsItemFit, IsFit, IsBoundFit, IsProbeFit};
-ghost use Rattle.pcb_model.specs.Inner.{meets_wires as meet_wires, meets_vias as meet_vias};
 ghost use Rattle.pcb_model.specs.Rules.{value_of, clearance_of, is_kind};
-ghost use Rattle.pcb_model.specs.Pairs.{PieceKeeps, KeepsFrom, PiecesKeep, PieceTouches, TouchesSome, PiecesTouch};
-ghost use Rattle.pcb_model.specs.Pairs.{is_same_net, Agrees, ProbeAgrees};
+ghost use Rattle.pcb_model.specs.Pairs.{meets_wires as meet_wires, meets_vias as meet_vias};
+ghost use Rattle.pcb_model.specs.Pairs.{is_same_net, PiecesKeep, PiecesTouch, Agrees, ProbeAgrees};
 ghost use Rattle.pcb_model.specs.Pieces.{padstack_pieces as padstack_pieces_of, wire_piece, moved_piece, pieces_of};
 ghost use Rattle.pcb_model.specs.Pieces.{metal_of, kind_of, item_of};
 ghost use Rattle.pcb_model.specs.Board.{AreInside};
 
 use crate::legal::inside_each;
 use crate::pair::same_net;
+use crate::pieces::{
+    chain_keeps_all, meets_vias, meets_wires, moved_keep, moved_touch, padstack_pieces,
+};
 use crate::rules::{clearance_from, same_kind, value};
 use crate::{Design, Item, Kind, Metal, Piece, Probe, Steps};
-use geo_kernel::{List, Point, first_point, points_keep, spine_keeps_moved, spine_touch_moved};
+use geo_kernel::{List, Point, first_point};
 use std::sync::ledger::Ledger;
-
-fn chain_keeps(c: u64, layer: u8, width: u64, points: &[Point], r: &Piece) -> bool
-    requires c_within { c ≤ 2 ^ 28 }
-    requires p_fit { IsFit (wire_piece layer width points.now) }
-    requires r_fit { IsFit r.now }
-    ensures { IsTrue result ↔ PieceKeeps c (wire_piece layer width points.now) r.now }
-{
-    if layer != r.layer {
-        return true;
-    }
-    points_keep(points, &r.spine, (2 * c + width + r.width).max(1))
-}
-
-fn chain_keeps_all(c: u64, layer: u8, width: u64, points: &[Point], rs: &[Piece]) -> bool
-    requires c_within { c ≤ 2 ^ 28 }
-    requires p_fit { IsFit (wire_piece layer width points.now) }
-    requires rs_fit { All IsFit rs.now }
-    ensures { IsTrue result ↔ KeepsFrom c rs.now (wire_piece layer width points.now) }
-{
-    for r in rs {
-        if !chain_keeps(c, layer, width, points, r) {
-            return false;
-        }
-    }
-    true
-}
 
 fn wire_must_keep(net: u32, b: &Item) -> bool
     ensures { result ≡ (not (is_same_net (Some net) b.now.net) && meet_wires b.now.metal) }
 {
-    match &b.metal {
-        Metal::Ban { wires, .. } => !same_net(Some(net), b.net) && *wires,
-        _ => !same_net(Some(net), b.net),
-    }
+    !same_net(Some(net), b.net) && meets_wires(&b.metal)
 }
 
 fn via_must_keep(net: u32, b: &Item) -> bool
     ensures { result ≡ (not (is_same_net (Some net) b.now.net) && meet_vias b.now.metal) }
 {
-    match &b.metal {
-        Metal::Ban { vias, .. } => !same_net(Some(net), b.net) && *vias,
-        _ => !same_net(Some(net), b.net),
-    }
+    !same_net(Some(net), b.net) && meets_vias(&b.metal)
 }
 
 fn wire_ok(
@@ -86,96 +56,6 @@ fn wire_ok(
     } else {
         true
     }
-}
-
-// The pieces of a padstack, about the origin.
-pub(crate) fn padstack_pieces(d: &Design, padstack: u32) -> &[Piece]
-    ensures { result.now ≡ padstack_pieces_of d.now padstack }
-{
-    match d.padstacks.as_slice().get(padstack as usize) {
-        Some(stack) => stack.pieces.as_slice(),
-        None => &[],
-    }
-}
-
-fn moved_piece_keeps(c: u64, p: &Piece, by: Point, r: &Piece) -> bool
-    requires c_within { c ≤ 2 ^ 28 }
-    requires p_fit { IsFit p.now }
-    requires moved_fit { IsFit (moved_piece by p.now) }
-    requires r_fit { IsFit r.now }
-    ensures { IsTrue result ↔ PieceKeeps c (moved_piece by p.now) r.now }
-{
-    if p.layer != r.layer {
-        return true;
-    }
-    spine_keeps_moved(&p.spine, by, &r.spine, (2 * c + p.width + r.width).max(1))
-}
-
-fn moved_keeps_all(c: u64, p: &Piece, by: Point, rs: &[Piece]) -> bool
-    requires c_within { c ≤ 2 ^ 28 }
-    requires p_fit { IsFit p.now }
-    requires moved_fit { IsFit (moved_piece by p.now) }
-    requires rs_fit { All IsFit rs.now }
-    ensures { IsTrue result ↔ KeepsFrom c rs.now (moved_piece by p.now) }
-{
-    for r in rs {
-        if !moved_piece_keeps(c, p, by, r) {
-            return false;
-        }
-    }
-    true
-}
-
-fn moved_keep(c: u64, ps: &[Piece], by: Point, rs: &[Piece]) -> bool
-    requires c_within { c ≤ 2 ^ 28 }
-    requires ps_fit { All IsFit ps.now }
-    requires moved_fit { All (λ p. IsFit (moved_piece by p)) ps.now }
-    requires rs_fit { All IsFit rs.now }
-    ensures { IsTrue result ↔ PiecesKeep c (map (moved_piece by) ps.now) rs.now }
-{
-    for p in ps {
-        if !moved_keeps_all(c, p, by, rs) {
-            return false;
-        }
-    }
-    true
-}
-
-fn moved_piece_touches(p: &Piece, by: Point, r: &Piece) -> bool
-    requires p_fit { IsFit p.now }
-    requires moved_fit { IsFit (moved_piece by p.now) }
-    requires r_fit { IsFit r.now }
-    ensures { IsTrue result ↔ PieceTouches (moved_piece by p.now) r.now }
-{
-    p.layer == r.layer && spine_touch_moved(&p.spine, by, &r.spine, p.width + r.width)
-}
-
-fn moved_touches_some(p: &Piece, by: Point, rs: &[Piece]) -> bool
-    requires p_fit { IsFit p.now }
-    requires moved_fit { IsFit (moved_piece by p.now) }
-    requires rs_fit { All IsFit rs.now }
-    ensures { IsTrue result ↔ TouchesSome rs.now (moved_piece by p.now) }
-{
-    for r in rs {
-        if moved_piece_touches(p, by, r) {
-            return true;
-        }
-    }
-    false
-}
-
-fn moved_touch(ps: &[Piece], by: Point, rs: &[Piece]) -> bool
-    requires ps_fit { All IsFit ps.now }
-    requires moved_fit { All (λ p. IsFit (moved_piece by p)) ps.now }
-    requires rs_fit { All IsFit rs.now }
-    ensures { IsTrue result ↔ PiecesTouch (map (moved_piece by) ps.now) rs.now }
-{
-    for p in ps {
-        if moved_touches_some(p, by, rs) {
-            return true;
-        }
-    }
-    false
 }
 
 fn via_keeps(d: &Design, own: u64, net: u32, ps: &[Piece], at: Point, b: &Item) -> bool

@@ -10,7 +10,7 @@ ghost use Rattle.pcb_model.specs.Bounds.{AreRulesWithin, HasRulesWithin};
 ghost use Rattle.pcb_model.specs.Near.{IsSideOf, side_value};
 ghost use Rattle.pcb_model.specs.Rules.{is_kind, is_pair, names_pair, names_one, last_value, value_of};
 ghost use Rattle.pcb_model.specs.Rules.{clearance_of, width_for, first_present, levels, class_rules, net_rules};
-ghost use Rattle.pcb_model.specs.Rules.{class_of, is_of, joint_rules, pair_rules};
+ghost use Rattle.pcb_model.specs.Rules.{class_of, is_of_classes as are_its_classes, joint_rules, pair_rules};
 
 use crate::{ClassPair, Design, Kind, Net, RuleSet, Typed};
 
@@ -133,14 +133,14 @@ fn class_of_net(d: &Design, net: Option<u32>) -> Option<u32>
 }
 
 fn is_of_classes(p: &ClassPair, a: u32, b: u32) -> bool
-    ensures { result ≡ is_of a b p.now }
+    ensures { result ≡ are_its_classes a b p.now }
 {
     p.a == a && p.b == b || p.a == b && p.b == a
 }
 
-// The value of the class pairs of two classes, or `rest` where they have none.
+// The value that the class pairs give two classes, or `rest` where they give none.
 pub(crate) fn in_pairs(pairs: &[ClassPair], a: u32, b: u32, ka: Kind, kb: Kind, rest: u64) -> u64
-    ensures { result ≡ first_present rest (levels ka kb (joint_rules (filter (is_of a b) pairs.now))) }
+    ensures { result ≡ first_present rest (levels ka kb (joint_rules (filter (are_its_classes a b) pairs.now))) }
 {
     let mut exact = None;
     let mut wide = None;
@@ -156,7 +156,7 @@ pub(crate) fn in_pairs(pairs: &[ClassPair], a: u32, b: u32, ka: Kind, kb: Kind, 
     exact.or(wide).or(plain).unwrap_or(rest)
 }
 
-// The value of the class pairs of two nets, or `rest` where they have none.
+// The value that the class pairs give two nets, or `rest` where they give none.
 fn between(d: &Design, a: Option<u32>, b: Option<u32>, ka: Kind, kb: Kind, rest: u64) -> u64
     ensures { result ≡ first_present rest (levels ka kb (pair_rules d.now a b)) }
 {

@@ -16,7 +16,7 @@ use Rattle.board_offers.specs.Given.{IsGiven}
 use Rattle.board_offers.proofs.Lists.{look_cases, found_at, all_from, none_pass}
 use Rattle.pcb_board.specs.Boards.{free_item}
 use Rattle.pcb_board.proofs.Starting.{free_given, fixed_loaded}
-use Rattle.picture_call.specs.Growing.{IsGrown}
+use Rattle.picture_call.specs.inner.Growing.{IsGrown}
 
 pub fixed_at : (d : Design) → IsSound d → (k : ℕ) (x : Item) → k < length d.fixed
     → IsFixedSound d k (get_or d.fixed k x)

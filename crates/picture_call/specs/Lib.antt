@@ -1,4 +1,4 @@
 pub mod Codes
 pub mod Drawing
 pub mod Answers
-pub mod Growing
+pub mod inner

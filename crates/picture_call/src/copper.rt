@@ -7,7 +7,7 @@ ghost use Rattle.pcb_model.specs.Bounds.{IsItemFit};
 ghost use Rattle.pcb_model.specs.Sound.{IsSound, IsFreeSound, Serves};
 ghost use Rattle.pcb_board.specs.Boards.{free_item};
 ghost use Rattle.picture_call.specs.Drawing.{wire_of, laid_on, IsPictureOf};
-ghost use Rattle.picture_call.specs.Growing.{IsGrown};
+ghost use Rattle.picture_call.specs.inner.Growing.{IsGrown};
 
 use board_picture::{open_lines, picture_text};
 use geo_kernel::List;

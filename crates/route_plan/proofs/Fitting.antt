@@ -15,7 +15,7 @@ use Rattle.pcb_model.specs.Pairs.{Agrees}
 use Rattle.route_lattice.specs.Mesh.{Mesh}
 use Rattle.shove.specs.Shoves.{IsWire, chain_of, with_chain, reshaped, IsShovedChain, IsShove}
 use Rattle.least_offer.specs.Least.{Fits}
-use Rattle.route_plan.specs.Ways.{IsFitting, IsFirstFitting}
+use Rattle.route_plan.specs.inner.Ways.{IsFitting, IsFirstFitting}
 
 -- ---- wires
 -- a metal with a chain is a wire

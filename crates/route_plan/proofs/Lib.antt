@@ -1,3 +1,7 @@
+mod Missing
+mod Tallied
+mod Telling
+pub mod Serving
 pub mod Seeing
 pub mod Fitting
 pub mod Standing

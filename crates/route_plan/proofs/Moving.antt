@@ -17,7 +17,7 @@ use Rattle.board_offers.specs.declared.offer.Shoved.{Shoved}
 use Rattle.board_offers.proofs.Lists.{all_front, pairs_rest}
 use Rattle.least_offer.specs.Least.{Fits, IsShoveOf, AreShovesOf}
 use Rattle.least_offer.specs.Together.{StandsWith, StandTogether}
-use Rattle.route_plan.specs.Ways.{MakesWayOn, shove_of, IsReshaped, IsFirstFitting, IsMoved, AreMoved, MovesAll}
+use Rattle.route_plan.specs.inner.Ways.{MakesWayOn, shove_of, IsReshaped, IsFirstFitting, IsMoved, AreMoved, MovesAll}
 use Rattle.route_plan.specs.declared.way.Way.{Way}
 
 -- ---- lists side by side

@@ -13,7 +13,8 @@ use Rattle.board_offers.specs.declared.offer.Offer.{Offer}
 use Rattle.pcb_board.specs.Boards.{BoardOf}
 use Rattle.route_plan.specs.declared.route.Route.{Route}
 use Rattle.least_offer.specs.Least.{walks_of, judged_on, IsAnchoredAt, JoinsLeast, TakesNothing, Chooses, IsLeastOffer}
-use Rattle.route_plan.specs.Plans.{moves_of, IsAnchored, IsRoute, StandsAt}
+use Rattle.route_plan.specs.Plans.{moves_of, StandsAt}
+use Rattle.route_plan.specs.inner.Routes.{IsAnchored, IsRoute}
 use Rattle.least_offer.proofs.Standing.{uncleared}
 
 -- an island of a net has that net

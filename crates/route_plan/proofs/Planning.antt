@@ -16,7 +16,8 @@ use Rattle.pcb_board.specs.Boards.{BoardOf, SnapOf}
 use Rattle.pcb_board.specs.Keeping.{IsBoard}
 use Rattle.least_offer.specs.Least.{IsLeastOffer, JoinsLeast, TakesNothing, MayBeMade, Chooses}
 use Rattle.route_plan.specs.declared.route.Route.{Route}
-use Rattle.route_plan.specs.Plans.{IsSnapOf, CanPlan, IsWhole, IsShutFrom, IsShutIn, IsRoute, IsBareOffer, IsOfferOf}
+use Rattle.route_plan.specs.Plans.{IsSnapOf, CanPlan, IsWhole, IsShutFrom, IsShutIn, IsOfferOf}
+use Rattle.route_plan.specs.inner.Routes.{IsRoute, IsBareOffer}
 use Rattle.route_plan.specs.Plans.{StandsAt, LeadsFrom}
 use Rattle.route_plan.specs.declared.plans.Led.{Led}
 use Rattle.route_plan.proofs.Offering.{joins, least, net_at}

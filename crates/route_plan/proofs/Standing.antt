@@ -9,7 +9,7 @@ use Rattle.pcb_model.specs.Copper.{Ascends}
 use Rattle.ripup.proofs.Passing.{same_key}
 use Rattle.shove.specs.Shoves.{chain_of, reshaped}
 use Rattle.least_offer.specs.Together.{StandsWith}
-use Rattle.route_plan.specs.Ways.{shove_of, IsReshaped}
+use Rattle.route_plan.specs.inner.Ways.{shove_of, IsReshaped}
 
 module _ (d : Design) (items : List Item) (up : Ascends items) where
   id_kept : (a : Item) (h : IsReshaped d items a) → h.item.id ≡ a.id

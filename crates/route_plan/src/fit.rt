@@ -6,7 +6,7 @@ ghost use Rattle.pcb_model.specs.Bounds.{IsItemFit, IsMetalFit};
 ghost use Rattle.pcb_model.specs.Sound.{IsSound, IsItemOf};
 ghost use Rattle.route_lattice.specs.Fits.{FitsDesign};
 ghost use Rattle.shove.specs.Shoves.{IsWire, chain_of, with_chain, reshaped};
-ghost use Rattle.route_plan.specs.Ways.{FindsFit, FindsFirst};
+ghost use Rattle.route_plan.specs.inner.Ways.{FindsFit, FindsFirst};
 
 use crate::pairs::all_agree_with;
 use geo_kernel::{List, Point};

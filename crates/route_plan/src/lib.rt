@@ -6,18 +6,22 @@
 
 mod added;
 mod fit;
+mod fixed_copper;
 mod laws;
 mod moved;
 mod pairs;
 mod passing;
 mod plans;
+mod rips;
 mod route;
 mod searches;
 mod sight;
 mod way;
 
+pub use fixed_copper::fixed_maps;
 pub use laws::rip_bound_sound;
 pub use plans::{Led, Planned};
+pub use rips::{MapRips, rips_of};
 pub use searches::{
     offer_by_maps, offer_from, plan, plan_by_maps, plan_in, plan_legal_in, plan_passing_in,
     plan_with,

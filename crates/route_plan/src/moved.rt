@@ -7,7 +7,7 @@ ghost use Rattle.pcb_model.specs.Bounds.{IsItemFit};
 ghost use Rattle.pcb_model.specs.Sound.{IsSound};
 ghost use Rattle.route_lattice.specs.Fits.{FitsDesign};
 ghost use Rattle.least_offer.specs.Together.{StandsWith};
-ghost use Rattle.route_plan.specs.Ways.{shove_of as the_shove, IsReshaped, MovesAll};
+ghost use Rattle.route_plan.specs.inner.Ways.{shove_of as the_shove, IsReshaped, MovesAll};
 
 use crate::fit::first_fit;
 use crate::pairs::{agrees, touching};

@@ -6,7 +6,8 @@ ghost use Rattle.route_lattice.specs.Mesh.{node_count};
 ghost use Rattle.cut_certificate.specs.Same.{SameMoves};
 ghost use Rattle.ripup.specs.Rips.{rip_graph};
 ghost use Rattle.pcb_board.specs.Boards.{BoardOf};
-ghost use Rattle.route_plan.specs.Plans.{IsSnapOf, CanPlan, IsPassingOffer, FindsPassing, Plans};
+ghost use Rattle.route_plan.specs.Plans.{IsSnapOf, CanPlan, Plans};
+ghost use Rattle.route_plan.specs.inner.Routes.{IsPassingOffer, FindsPassing};
 ghost use Rattle.board_offers.specs.declared.offer.TheConstants.{CLOSER};
 
 use crate::plans::{Led, Planned};

@@ -6,7 +6,8 @@ ghost use Rattle.route_lattice.specs.Mesh.{node_count};
 ghost use Rattle.route_lattice.specs.Legal.{legal_graph};
 ghost use Rattle.cut_certificate.specs.Same.{SameMoves};
 ghost use Rattle.pcb_board.specs.Boards.{BoardOf};
-ghost use Rattle.route_plan.specs.Plans.{IsSnapOf, CanPlan, IsBareOffer, Plans, StandsAt, LeadsFrom};
+ghost use Rattle.route_plan.specs.Plans.{IsSnapOf, CanPlan, Plans, StandsAt, LeadsFrom};
+ghost use Rattle.route_plan.specs.inner.Routes.{IsBareOffer};
 ghost use Rattle.board_offers.specs.declared.offer.TheConstants.{CLOSER};
 
 use crate::route::{Route, Routed, Task};

@@ -10,7 +10,8 @@ ghost use Rattle.std.specs.Bool.{OnTrue};
 ghost use Rattle.route_lattice.specs.Walks.{Answers, NoneLeads};
 ghost use Rattle.cut_certificate.specs.Cuts.{IsGoal};
 ghost use Rattle.cut_certificate.specs.Same.{SameMoves};
-ghost use Rattle.route_plan.specs.Plans.{CanPlan, moves_of, FindsAnchored, IsAnchoredIn, FindsRoute};
+ghost use Rattle.route_plan.specs.Plans.{CanPlan, moves_of};
+ghost use Rattle.route_plan.specs.inner.Routes.{FindsAnchored, IsAnchoredIn, FindsRoute};
 
 use crate::laws::rip_bound_sound;
 use cut_certificate::{are_shut_in, flood, goals_of, legal_moves_lead_back, starts_of};

@@ -12,12 +12,13 @@ ghost use Rattle.board_offers.specs.declared.offer.TheConstants.{CLOSER};
 
 use crate::passing::plan_passing_with;
 use crate::plans::{Led, Planned, offer_with, plan_legal_with};
+use crate::rips::rips_of;
 use geo_kernel::List;
 use move_maps::MoveMaps;
 use pcb_board::Snap;
 use pcb_islands::Island;
 use pcb_model::Design;
-use ripup::{RipMoves, rips_of};
+use ripup::RipMoves;
 use route_lattice::{Lattice, LegalMoves, Moves};
 use std::alloc::{AllocError, Global};
 use wave_search::Search;

@@ -6,7 +6,7 @@ ghost use Rattle.pcb_model.specs.Sound.{IsSound};
 ghost use Rattle.route_lattice.specs.Fits.{FitsDesign};
 ghost use Rattle.board_offers.specs.Items.{added_from};
 ghost use Rattle.path_wire.specs.Lays.{IsWellLaid};
-ghost use Rattle.route_plan.specs.Ways.{MakesWayOn};
+ghost use Rattle.route_plan.specs.inner.Ways.{MakesWayOn};
 
 use crate::added::added_items;
 use crate::moved::{moved_items, shoves_of};

@@ -5,9 +5,9 @@ use Rattle.std.specs.Prelude.{◌==◌, not}
 use Rattle.std.specs.List.{enumerate_from, count_by}
 use Rattle.std.proofs.lemmas.List.Sums.{length-filter}
 use Rattle.pcb_model.specs.declared.design.Net.{Net}
-use Rattle.route_report.specs.declared.facts.Facts.{Facts}
+use Rattle.route_run.specs.declared.facts.Facts.{Facts}
 use Rattle.route_report.specs.Report.{cuts_of, is_complete, is_open}
-use Rattle.route_report.specs.Tallies.{AreCounts}
+use Rattle.route_report.specs.inner.Tallies.{AreCounts}
 
 -- two lists grow by one alike
 one_more : {X Y : Type 0} (b c : Bool) → b ≡ c → (x : X) (y : Y) (xs : List X) (ys : List Y) → length xs ≡ length ys

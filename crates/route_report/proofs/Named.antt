@@ -15,7 +15,7 @@ use Rattle.board_offers.proofs.Lists.{all_front, pairs_rest}
 use Rattle.cut_certificate.specs.declared.cut.Block.{Block}
 use Rattle.cut_certificate.specs.declared.cut.Blocker.TheVariants.{Item as OfItem, Outside}
 use Rattle.route_report.specs.Report.{is_item, is_named}
-use Rattle.route_report.specs.Naming.{has_id, holds, is_among, AreAscending}
+use Rattle.route_report.specs.inner.Naming.{has_id, holds, is_among, AreAscending}
 
 abbrev Before : Item → Item → Type 0
 Before a b = a.id < b.id

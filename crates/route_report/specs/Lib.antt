@@ -1,4 +1,3 @@
 pub mod Report
 pub mod Stretches
-pub mod Naming
-pub mod Tallies
+pub mod inner

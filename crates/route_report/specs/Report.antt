@@ -16,8 +16,8 @@ use Rattle.cut_certificate.specs.declared.cut.Blocker.TheVariants as blocker
 use Rattle.cut_certificate.specs.declared.cut.Block.{Block}
 use Rattle.cut_certificate.specs.declared.cut.Cut.{Cut}
 use Rattle.ses_writer.specs.Words.{spelled}
-use Rattle.route_report.specs.declared.facts.Facts.{Facts}
-use Rattle.route_report.specs.declared.facts.PassLine.{PassLine}
+use Rattle.route_run.specs.declared.facts.Facts.{Facts}
+use Rattle.route_run.specs.declared.facts.PassLine.{PassLine}
 
 -- ---- the design, the lattice and the passes
 

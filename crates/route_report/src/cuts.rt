@@ -6,7 +6,7 @@ ghost use Rattle.route_report.specs.Report.{component_name as component_name_of,
 ghost use Rattle.route_report.specs.Report.{cut_line, kind_word};
 ghost use Rattle.route_report.specs.Report.{has_outside as has_outside_in, by_line, outside_line, by_lines};
 ghost use Rattle.route_report.specs.Report.{detail_lines, cut_lines};
-ghost use Rattle.route_report.specs.Naming.{has_id, is_among, AreNamed, AreNamedOnce, AreAscending};
+ghost use Rattle.route_report.specs.inner.Naming.{has_id, is_among, AreNamed, AreNamedOnce, AreAscending};
 
 use crate::stretches::put_stretches;
 use crate::words::{put_count, put_pair};

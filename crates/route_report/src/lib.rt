@@ -1,13 +1,11 @@
-//! The report of a run, as bytes, and the facts that it tells.
+//! The report of a run, as bytes.
 #![tactic(auto)]
 
 mod cuts;
-mod facts;
 mod nets;
 mod report;
 mod stretches;
 mod words;
 
-pub use facts::{Facts, PassLine};
 pub use report::report_text;
 pub use stretches::stretches_are_longest;

@@ -6,15 +6,15 @@ ghost use Rattle.std.specs.List.{enumerate_from};
 ghost use Rattle.std.specs.Global.{Global as Memory};
 ghost use Rattle.ses_writer.specs.Words.{Appends};
 ghost use Rattle.route_report.specs.Report.{cut_lines, verdict_words, net_line, net_lines, total_line};
-ghost use Rattle.route_report.specs.Tallies.{AddsOne, AreCounts, AddsPiece, TellsCuts, told_lines};
+ghost use Rattle.route_report.specs.inner.Tallies.{AddsOne, AreCounts, AddsPiece, TellsCuts, told_lines};
 
 use crate::cuts::put_cut;
-use crate::facts::Facts;
 use crate::words::{put_count, put_pair};
 use cut_certificate::Cut;
 use pcb_board::Board;
 use pcb_model::{Design, Net};
 use route_lattice::Lattice;
+use route_run::Facts;
 use ses_writer::{put, put_word};
 use std::alloc::{AllocError, Global};
 

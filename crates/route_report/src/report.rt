@@ -5,12 +5,12 @@ ghost use Rattle.ses_writer.specs.Words.{Appends};
 ghost use Rattle.route_report.specs.Report.{board_line, size_line, drop_line, pass_line};
 ghost use Rattle.route_report.specs.Report.{pass_lines, head_lines, run_lines, report_of};
 
-use crate::facts::{Facts, PassLine};
 use crate::nets::{put_nets, put_totals};
 use crate::words::{put_count, put_counted, put_pair};
 use pcb_board::Board;
 use pcb_model::Design;
 use route_lattice::Lattice;
+use route_run::{Facts, PassLine};
 use ses_writer::{put, put_word};
 use std::alloc::{AllocError, Global};
 

@@ -2,9 +2,9 @@
 use Rattle.std.proofs.Common.{◌≡◌, ◌+◌, ◌-◌, Some, ◌≤◌, ◌<◌, ℕ, subst, arith, List, length, get_or}
 use Rattle.std.specs.Prelude.{slice_get}
 use Rattle.std.proofs.lemmas.Option.{get_or_from_slice_get, slice_get-get_or, slice_get_within}
-use Rattle.route_report.specs.declared.facts.PassLine.{PassLine}
+use Rattle.route_run.specs.declared.facts.PassLine.{PassLine}
 use Rattle.route_run.specs.Runs.{IsBest}
-use Rattle.route_run.specs.Passing.{IsBestOf}
+use Rattle.route_run.specs.inner.Passing.{IsBestOf}
 
 -- a made-up line, for what has to have one
 abbrev pub no_line : PassLine

@@ -25,7 +25,7 @@ use Rattle.pcb_islands.proofs.Pads.{net_pins}
 use Rattle.pcb_islands.proofs.Elements.{look_cases}
 use Rattle.board_offers.proofs.Lists.{in_here, that}
 use Rattle.route_run.specs.Runs.{HasSeveral, IsOpenCount}
-use Rattle.route_run.specs.Passing.{IsOpenNet, AreOpenNets}
+use Rattle.route_run.specs.inner.Passing.{IsOpenNet, AreOpenNets}
 
 -- ---- few islands
 -- a net has no more pins than the design

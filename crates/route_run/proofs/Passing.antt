@@ -25,12 +25,12 @@ use Rattle.least_offer.specs.Least.{IsLeastOffer}
 use Rattle.route_plan.specs.Plans.{IsWhole}
 use Rattle.searcher_pool.specs.Passes.{Between, IsJoinOf, IsPassed, IsShutOn, IsSpent, PassOf}
 use Rattle.searcher_pool.specs.Passes.{Grows as GrowsBy}
-use Rattle.route_report.specs.declared.facts.PassLine.{PassLine}
+use Rattle.route_run.specs.declared.facts.PassLine.{PassLine}
 use Rattle.route_run.specs.declared.passes.Made.{Made}
 use Rattle.route_run.specs.Runs.{AreLeast, ArePasses, AreTooLate, HadRoom, HasSeveral, IsOpenCount, IsPass}
 use Rattle.route_run.specs.Runs.{IsWorkedOff, RunOf, entries_after, pass_at}
 use Rattle.route_run.specs.declared.passes.Stand.{Stand}
-use Rattle.route_run.specs.Passing.{AreOpenOn, HasPassed, IsMade, IsOneMore, IsReady, MayFollow}
+use Rattle.route_run.specs.inner.Passing.{AreOpenOn, HasPassed, IsMade, IsOneMore, IsReady, MayFollow}
 
 -- ---- what holds of a board holds when it has grown
 pub grown_by : (p : PassOf) (b c : BoardOf) → GrowsBy p b c → Grows b c

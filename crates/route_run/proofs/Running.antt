@@ -21,12 +21,13 @@ use Rattle.closing_pass.specs.declared.closed.Closed.{Closed}
 use Rattle.closing_pass.specs.Closing.{Closes, IsClosedOut}
 use Rattle.searcher_pool.specs.Passes.{PassOf, IsSpent}
 use Rattle.searcher_pool.specs.Passes.{Grows as GrowsBy}
-use Rattle.route_report.specs.declared.facts.PassLine.{PassLine}
-use Rattle.route_report.specs.declared.facts.Facts.{Facts}
+use Rattle.route_run.specs.declared.facts.PassLine.{PassLine}
+use Rattle.route_run.specs.declared.facts.Facts.{Facts}
 use Rattle.route_run.specs.Runs.{AreFacts, AreLeast, ClosesFrom, HaveEnded, IsBest, IsRun, RunOf, complete_from}
 use Rattle.route_run.specs.Runs.{entries_after}
-use Rattle.route_run.specs.Passing.{EndsBy, GoesBack, HasPassed, MayFollow, Stays}
-use Rattle.route_run.specs.Passing.{IsFinished, IsKept, IsTask, told_of}
+use Rattle.route_run.specs.inner.Passing.{EndsBy, GoesBack, HasPassed, MayFollow, Stays}
+use Rattle.route_run.specs.inner.Passing.{IsFinished, IsKept, told_of}
+use Rattle.route_run.specs.Runs.{IsTask}
 use Rattle.route_run.specs.declared.run.Kept.{Kept}
 use Rattle.route_run.specs.declared.run.Routed.{Routed}
 use Rattle.route_run.proofs.Best.{no_line}

@@ -23,7 +23,7 @@ use Rattle.searcher_pool.specs.Passes.{AreAmong, EndsPlace, EndsTask, IsFullAnsw
 use Rattle.searcher_pool.specs.Passes.{IsStaleOf, IsTold, MetFull, PassOf, claimed, named}
 use Rattle.route_run.specs.declared.passes.Made.{Made}
 use Rattle.route_run.specs.Runs.{AreTooLate, IsOpenCount, IsTooLate, IsWorkedOff}
-use Rattle.route_run.specs.Passing.{AreOpenNets, AreWorkedOff, IsMade, IsMadeAfter}
+use Rattle.route_run.specs.inner.Passing.{AreOpenNets, AreWorkedOff, IsMade, IsMadeAfter}
 use Rattle.route_run.proofs.Counting.{open_count}
 
 -- ---- places in logs

@@ -19,8 +19,9 @@ use Rattle.cut_certificate.specs.declared.cut.Cut.{Cut}
 use Rattle.closing_pass.specs.Closing.{Closes, AreEnds}
 use Rattle.searcher_pool.specs.declared.log.WorkerLog.{WorkerLog}
 use Rattle.searcher_pool.specs.Passes.{PassOf, Between, IsJoinOf, IsPassed, IsShutOn, IsSpent, MetFull}
-use Rattle.route_report.specs.declared.facts.PassLine.{PassLine}
-use Rattle.route_report.specs.declared.facts.Facts.{Facts}
+use Rattle.route_run.specs.declared.facts.PassLine.{PassLine}
+use Rattle.route_run.specs.declared.facts.Facts.{Facts}
+use Rattle.route_lattice.specs.Fits.{FitsDesign}
 
 -- what a run goes by: the price of a via in nm, how many workers there are, and how many passes there may be
 pub record RunOf : Type 0 where
@@ -200,3 +201,8 @@ pub record IsRun (d : Design) (m : Mesh) (r : RunOf) (b : BoardOf) (facts : Fact
   pub closing : Closes m r.via_cost (board_at b from) b
   pub least : AreLeast m r.via_cost b
   pub facts_are : AreFacts m r.via_cost b from facts
+
+-- the lattice fits the design, and the price of a via is small
+pub record IsTask (d : Design) (m : Mesh) (via_cost : ℕ) : Type 0 where
+  pub fits : FitsDesign d m
+  pub small_cost : via_cost ≤ 2 ^ 30

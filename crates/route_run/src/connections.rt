@@ -2,7 +2,7 @@
 
 ghost use Rattle.std.specs.Prelude.{◌≡◌, ◌<◌, ◌≤◌, ◌^◌, [], IfOk, OnOk, length, vec_len};
 ghost use Rattle.pcb_model.specs.Sound.{IsSound, Serves};
-ghost use Rattle.route_run.specs.Passing.{IsOpenNet, AreOpenNets, AreOpenOn};
+ghost use Rattle.route_run.specs.inner.Passing.{IsOpenNet, AreOpenNets, AreOpenOn};
 
 use pcb_board::{Board, Snap, boards_serve};
 use pcb_islands::{islands, islands_are_one};

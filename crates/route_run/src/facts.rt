@@ -1,4 +1,5 @@
-//! What is told of the nets' ends: the complete ones, and the cuts of the others.
+//! What a run tells beside its board, and what of it comes from the nets' ends.
+//! Lengths are in nm, and places are byte offsets in the design's text.
 
 ghost use Rattle.std.specs.Prelude.{◌≡◌, ◌≤◌, ◌^◌, IfOk, flat_map, length, List as Seq};
 ghost use Rattle.cut_certificate.specs.declared.cut.Cut.{Cut as OneCut};
@@ -7,6 +8,34 @@ ghost use Rattle.route_run.specs.Runs.{complete_from};
 use cut_certificate::Cut;
 use geo_kernel::List;
 use std::alloc::{AllocError, Global};
+
+/// What a pass made: how many entries, and how many connections are open after it.
+#[derive(Clone, Copy)]
+pub struct PassLine {
+    pub commits: u64,
+    pub parted: u64,
+}
+
+/// What is told of a run.
+#[derive(Drop)]
+pub struct Facts {
+    /// The distance of the lattice's lines.
+    pub grid: u64,
+    /// How many nodes the lattice has.
+    pub nodes: u64,
+    /// The places of the free wiring that wasn't legal, in order.
+    pub dropped: List<u64>,
+    /// The passes, in order.
+    pub passes: List<PassLine>,
+    /// The number of the pass that is kept, counted from 1.
+    pub kept: u32,
+    /// How many joins the closing pass made.
+    pub joins: u64,
+    /// The complete nets, ascending.
+    pub complete: List<u32>,
+    /// A cut for each island of every other net, net by net.
+    pub cuts: List<Cut>,
+}
 
 /// The nets that have no cut, ascending.
 pub(crate) fn complete_nets(alloc: Global, ends: &List<List<Cut>>) -> Result<List<u32>, AllocError>

@@ -3,10 +3,10 @@
 
 ghost use Rattle.std.specs.Prelude.{◌≡◌, ◌+◌, ◌<◌, ◌≤◌, ◌^◌, IfOk, length};
 ghost use Rattle.route_run.specs.Runs.{IsBest, entries_after as entries_behind};
-ghost use Rattle.route_run.specs.Passing.{IsBestOf, GoesBack};
+ghost use Rattle.route_run.specs.inner.Passing.{IsBestOf, GoesBack};
 
+use crate::facts::PassLine;
 use pcb_board::{BackFault, Board};
-use route_report::PassLine;
 use std::alloc::AllocError;
 
 // Of the best so far and the next one, the better.

@@ -8,4 +8,5 @@ mod keep;
 mod passes;
 mod run;
 
+pub use facts::{Facts, PassLine};
 pub use run::{MOST_ENTRIES, Routed, run_nets};

@@ -9,7 +9,7 @@ use Rattle.std.proofs.lemmas.Bool.{ltb-true}
 use Rattle.std.proofs.lemmas.List.Folds.{find-append}
 use Rattle.std.proofs.lemmas.Slice.Eq.{bytes_eq-Decides}
 use Rattle.clap.specs.Walk.{Row, Rule, first_of, has_row, with_default}
-use Rattle.route_words.specs.Forms.{is_on}
+use Rattle.route_words.specs.inner.Forms.{is_on}
 use Rattle.route_words.specs.Parts.{Form, Part, Word, fit_from, has, is_given_right, name, names_in, option, stray}
 use Rattle.route_words.specs.Parts.{value_in}
 use Rattle.route_words.proofs.Bools.{and_left, and_right}

@@ -18,7 +18,7 @@ use Rattle.clap.specs.declared.error.Error.{Error}
 use Rattle.clap.specs.Simple.{new_rule}
 use Rattle.clap.specs.declared.builder.action.ArgAction.TheVariants.{SetTrue}
 use denote.Bor.{Bor}
-use Rattle.route_words.specs.Forms.{Adds, IsPlainForm, Makes, Reads, bare_app, flag, gen_app, route_app}
+use Rattle.route_words.specs.inner.Forms.{Adds, IsPlainForm, Makes, Reads, bare_app, flag, gen_app, route_app}
 
 abbrev step : App → Arg → App
 step a x = with_rule a (rule_of x)

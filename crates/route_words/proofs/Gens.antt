@@ -6,7 +6,7 @@ use Rattle.std.proofs.lemmas.Bool.{ltb-true, ne_eqb}
 use Rattle.clap.specs.Walk.{Row, Rule, arg_by_id, arg_by_index, with_default}
 use Rattle.clap.specs.Simple.{built, new_rule}
 use Rattle.clap.specs.Faults.{check_fault, defaults_fault}
-use Rattle.route_words.specs.Forms.{gen_app}
+use Rattle.route_words.specs.inner.Forms.{gen_app}
 use Rattle.route_words.specs.Parts.{Word}
 use Rattle.route_words.specs.Words.{gen_form}
 use Rattle.route_words.proofs.Finding.{no_default}

@@ -15,7 +15,8 @@ use Rattle.clap.specs.declared.error.kind.ErrorKind.{ErrorKind}
 use Rattle.clap.specs.declared.error.kind.ErrorKind.TheVariants.{OutOfMemory}
 use Rattle.clap.specs.declared.parser.matches.ArgMatches.{ArgMatches}
 use Rattle.clap.specs.declared.parser.matches.Found.{Found}
-use Rattle.route_words.specs.Forms.{FindsGen, FindsRoute, Holds, HoldsRoute, Reads, fault_by, gen_app, is_on, route_app}
+use Rattle.route_words.specs.inner.Forms.{FindsGen, FindsRoute, Holds, HoldsRoute, Reads, fault_by, gen_app, is_on}
+use Rattle.route_words.specs.inner.Forms.{route_app}
 use Rattle.route_words.specs.Parts.{Word, fit, has, parts_of, names_in, value_in}
 use Rattle.route_words.specs.Words.{gen_form, route_form, texts}
 use Rattle.route_words.proofs.Finding.{flag_default, flag_text, name_found, option_found, other_default}

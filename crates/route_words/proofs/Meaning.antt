@@ -4,7 +4,7 @@ use Rattle.std.proofs.Common.{List, [], ◌∷◌, length, Option, Some, None, s
 use Rattle.std.proofs.lemmas.Bool.{ltb-true}
 use Rattle.clap.specs.Matches.{first_value}
 use Rattle.clap.specs.declared.parser.matches.Found.{Found}
-use Rattle.route_words.specs.Forms.{FindsGen, FindsRoute, Holds, HoldsRoute, knobs_found}
+use Rattle.route_words.specs.inner.Forms.{FindsGen, FindsRoute, Holds, HoldsRoute, knobs_found}
 use Rattle.route_words.specs.Parts.{Form, Part, Word, fit_from, name, names_in, option, parts_of, stray}
 use Rattle.route_words.specs.Words.{Says, gen_form, gen_of, gen_with, knobs_of, route_form, route_of, route_with}
 use Rattle.route_words.specs.declared.command.WordFault.{WordFault}

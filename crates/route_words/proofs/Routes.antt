@@ -7,7 +7,7 @@ use Rattle.std.proofs.lemmas.Slice.Eq.{bytes_eq-Decides}
 use Rattle.clap.specs.Walk.{Row, Rule, arg_by_id, arg_by_index, arg_by_long, has_row, with_default}
 use Rattle.clap.specs.Simple.{built, new_rule}
 use Rattle.clap.specs.Faults.{check_fault, default_fault, defaults_fault}
-use Rattle.route_words.specs.Forms.{route_app}
+use Rattle.route_words.specs.inner.Forms.{route_app}
 use Rattle.route_words.specs.Parts.{Word, has}
 use Rattle.route_words.specs.Words.{route_form}
 use Rattle.route_words.proofs.Finding.{no_default}

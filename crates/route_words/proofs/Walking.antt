@@ -11,7 +11,7 @@ use Rattle.clap.specs.Kinds.{Kinds, or_else}
 use Rattle.clap.specs.Faults.{bundle_fault, flags_fault, long_fault, settle_fault, step_fault, use_fault, turn_fault}
 use Rattle.clap.specs.Faults.{walk_fault}
 use Rattle.std.proofs.lemmas.Slice.Eq.{bytes_eq-Decides}
-use Rattle.route_words.specs.Forms.{flag, named, valued}
+use Rattle.route_words.specs.inner.Forms.{flag, named, valued}
 use Rattle.route_words.specs.Parts.{Form, Word, has}
 use Rattle.route_words.specs.Parts.{dashes, long, other, plain}
 use Rattle.route_words.proofs.Looking.{Looks}

@@ -1,3 +1,3 @@
 pub mod Parts
 pub mod Words
-pub mod Forms
+pub mod inner

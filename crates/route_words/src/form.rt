@@ -6,9 +6,9 @@ ghost use Rattle.clap.specs.Simple.{App, app_of};
 ghost use Rattle.clap.specs.Walk.{rule_of};
 ghost use Rattle.clap.specs.Values.{kind_of};
 ghost use Rattle.route_words.specs.Words.{texts};
-ghost use Rattle.route_words.specs.Forms.{bare_app, named, valued, fault_by, Reads};
-ghost use Rattle.route_words.specs.Forms.{route_args, Adds, Makes, IsPlainForm};
-ghost use Rattle.route_words.specs.Forms.{FindsRoute, FindsGen};
+ghost use Rattle.route_words.specs.inner.Forms.{bare_app, named, valued, fault_by, Reads};
+ghost use Rattle.route_words.specs.inner.Forms.{route_args, Adds, Makes, IsPlainForm};
+ghost use Rattle.route_words.specs.inner.Forms.{FindsRoute, FindsGen};
 
 use crate::WordFault;
 use clap::error::ErrorKind;

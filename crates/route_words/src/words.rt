@@ -7,7 +7,7 @@ ghost use Rattle.clap.specs.Matches.{found_of};
 ghost use Rattle.route_words.specs.Words.{texts, route_with, route_of, gen_with, gen_of, command_of, Says, IsWithin};
 ghost use Rattle.route_words.specs.Words.{gen_form, route_form};
 ghost use Rattle.route_words.specs.Parts.{Word, parts_of};
-ghost use Rattle.route_words.specs.Forms.{is_on, knobs_found, HoldsGen, HoldsRoute};
+ghost use Rattle.route_words.specs.inner.Forms.{is_on, knobs_found, HoldsGen, HoldsRoute};
 
 use crate::form::{find_gen, find_route};
 use crate::knobs::{read_knobs, read_number};

@@ -13,8 +13,8 @@ use Rattle.searcher_pool.specs.declared.log.WorkerLog.{WorkerLog}
 use Rattle.searcher_pool.specs.declared.worker.Worker.{Worker}
 use Rattle.pcb_board.specs.Boards.{BoardOf}
 use Rattle.searcher_pool.specs.Passes.{Grows, PassOf, claimed}
-use Rattle.searcher_pool.specs.Working.{EndsDrawn, Knows, MayWork}
-use Rattle.searcher_pool.specs.Crews.{AreEnded, AreLogsOf, IsLogOf}
+use Rattle.searcher_pool.specs.inner.Working.{EndsDrawn, Knows, MayWork}
+use Rattle.searcher_pool.specs.inner.Crews.{AreEnded, AreLogsOf, IsLogOf}
 use Rattle.searcher_pool.proofs.Rows.{at_push, zip_push}
 
 -- a pass that has seen nothing knows nothing

@@ -15,7 +15,7 @@ use Rattle.board_turn.specs.Turns.{TurnOf, opening}
 use Rattle.board_turn.specs.Turns as turn
 use Rattle.searcher_pool.specs.declared.log.OfferNote.{OfferNote}
 use Rattle.searcher_pool.specs.Passes.{PassOf, AreAmong, Between, EndsTask, IsShutOn, IsStaleOf, IsTold}
-use Rattle.searcher_pool.specs.Working.{EndsDrawn, EndsSeen, Knows}
+use Rattle.searcher_pool.specs.inner.Working.{EndsDrawn, EndsSeen, Knows}
 use Rattle.board_turn.proofs.EventLists.{reaches_grows, reaches_parts}
 use Rattle.searcher_pool.proofs.Seen.{longer}
 

@@ -18,7 +18,7 @@ use Rattle.board_turn.specs.Turns.{TurnOf, opening}
 use Rattle.board_turn.proofs.EventLists.{reaches_grows, reaches_one, reaches_parts}
 use Rattle.searcher_pool.specs.Passes.{PassOf}
 use Rattle.searcher_pool.specs.declared.worker.Job.{Job}
-use Rattle.searcher_pool.specs.Working.{HasSeen, HasFixed}
+use Rattle.searcher_pool.specs.inner.Working.{HasSeen, HasFixed}
 
 -- ---- what was seen last
 -- what was seen stays seen where the pass sees more

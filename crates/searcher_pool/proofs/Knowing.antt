@@ -28,7 +28,7 @@ use Rattle.board_turn.specs.Turns.{TurnOf, Calls, opening, count_of}
 use Rattle.board_turn.specs.Turns as turn
 use Rattle.searcher_pool.specs.declared.log.OfferNote.{OfferNote}
 use Rattle.searcher_pool.specs.Passes.{PassOf, IsTold, IsFullAnswer, IsSpent, IsStale, named, note_of, noted}
-use Rattle.searcher_pool.specs.Working.{IsDrawn, IsTurnOf, Knows, commit_of, entries_left}
+use Rattle.searcher_pool.specs.inner.Working.{IsDrawn, IsTurnOf, Knows, commit_of, entries_left}
 use Rattle.searcher_pool.proofs.Boards.{may_be_taken, IsTaken}
 use Rattle.board_turn.proofs.EventLists.{own-append, reaches_grows, reaches_one, reaches_parts, reaches-snoc}
 use Rattle.board_turn.proofs.EventLists.{saw_all_alone}

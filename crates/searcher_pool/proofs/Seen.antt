@@ -19,7 +19,7 @@ use Rattle.board_turn.specs.declared.event.Deed.TheVariants.{Looked, Offered, Id
 use Rattle.board_turn.specs.declared.event.Event.{Event}
 use Rattle.board_turn.specs.Events.{Does, Reaches}
 use Rattle.searcher_pool.specs.Passes.{IsSpent}
-use Rattle.searcher_pool.specs.Working.{commit_of}
+use Rattle.searcher_pool.specs.inner.Working.{commit_of}
 
 -- ---- later boards
 pub longer : (b c : BoardOf) → Grows b c → length b.history ≤ length c.history

@@ -9,8 +9,8 @@ use Rattle.board_turn.specs.Claims.{CounterOf}
 use Rattle.board_turn.specs.Turns.{TurnOf}
 use Rattle.searcher_pool.specs.declared.worker.Worker.{Worker}
 use Rattle.searcher_pool.specs.Passes.{PassOf}
-use Rattle.searcher_pool.specs.Working.{Worked}
-use Rattle.searcher_pool.specs.Crews.{AreFresh, AreBack}
+use Rattle.searcher_pool.specs.inner.Working.{Worked}
+use Rattle.searcher_pool.specs.inner.Crews.{AreFresh, AreBack}
 
 -- what holds where there is no error holds
 pub without_error : {A E : Type 0} (r : Result A E) (P : Type 0) (b : Bool) → b ≡ is_err r → b ≡ false → OnOk r P → P

@@ -1,5 +1,5 @@
 -- A pass: workers claim tasks, and plan and offer for each until it ends.
-use Rattle.std.specs.Prelude.{◌≡◌, ℕ, ◌+◌, ◌≤◌, ◌<◌, ◌==◌, if◌then◌else◌, drop, flat_map, List, [], ◌∷◌, ◌++◌}
+use Rattle.std.specs.Prelude.{◌≡◌, ℕ, ◌+◌, ◌≤◌, ◌<◌, ◌==◌, if◌then◌else◌, drop, flat_map, List, [], ◌∷◌, ◌++◌, ◌^◌}
 use Rattle.std.specs.Prelude.{length, slice_get, slice_index_or, All, AllPairs, Any, Contains, Option, Some}
 use Rattle.std.specs.Prelude.{IfSome, ◌⊎◌}
 use Rattle.route_lattice.specs.Mesh.{Mesh}
@@ -20,6 +20,9 @@ use Rattle.board_turn.specs.declared.Event.{Event}
 use Rattle.board_turn.specs.Events.{Reaches, own}
 use Rattle.searcher_pool.specs.declared.log.OfferNote.{OfferNote}
 use Rattle.searcher_pool.specs.declared.log.WorkerLog.{WorkerLog}
+use Rattle.pcb_model.specs.declared.design.Design.{Design}
+use Rattle.pcb_model.specs.Plain.{IsPlainCopper}
+use Rattle.route_lattice.specs.Fits.{FitsDesign}
 
 -- as many entries of workers stand as may
 abbrev pub IsSpent : BoardOf → Type 0
@@ -192,3 +195,20 @@ pub record IsPassed (p : PassOf) (old new : BoardOf) (logs : List WorkerLog) : T
 -- some offer of these logs met a full board
 abbrev pub MetFull : List WorkerLog → Type 0
 MetFull logs = Any (λ (log : WorkerLog). Any (λ (note : OfferNote). IsFullAnswer note.answer) log.notes) logs
+
+abbrev pub pass_from : Mesh → ℕ → ℕ → List ℕ → Option ℕ → PassOf
+pass_from m via_cost workers tasks penalty = record {
+  lattice = m;
+  via_cost = via_cost;
+  workers = workers;
+  tasks = tasks;
+  penalty = penalty;
+}
+
+-- what is given fits the design
+pub record IsTask (p : PassOf) (d : Design) : Type 0 where
+  pub plain : IsPlainCopper d
+  pub fits : FitsDesign d p.lattice
+  pub cost : p.via_cost ≤ 2 ^ 30
+  pub small_penalty : IfSome p.penalty (λ q. q ≤ 2 ^ 30)
+  pub nets : All (λ net. net < length d.nets) p.tasks

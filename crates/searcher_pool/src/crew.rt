@@ -9,15 +9,14 @@ ghost use Rattle.board_turn.specs.Claims.{hand, times};
 ghost use Rattle.route_plan.specs.Sights.{IsSeenOn};
 ghost use Rattle.board_turn.specs.Turns.{passes_of, opening};
 ghost use Rattle.searcher_pool.specs.Passes.{claimed};
-ghost use Rattle.searcher_pool.specs.Working.{pass_of, IsTurnOf, HasFixed, MayWork, Worked};
-ghost use Rattle.searcher_pool.specs.Crews.{AreFresh, AreBack, AreLogsOf, AreEnded};
+ghost use Rattle.searcher_pool.specs.inner.Working.{pass_of, IsTurnOf, HasFixed, MayWork, Worked};
+ghost use Rattle.searcher_pool.specs.inner.Crews.{AreFresh, AreBack, AreLogsOf, AreEnded};
 ghost use Rattle.board_offers.specs.declared.offer.TheConstants.{CLOSER};
 
 use crate::log::WorkerLog;
 use crate::worker::{Job, Worker, work};
-use board_turn::{Claimer, Counter, Pass, Turn};
+use board_turn::{Claimer, Counter, Gate, Pass, Turn};
 use crossbeam_utils::CachePadded;
-use desk_io::Gate;
 use geo_kernel::List;
 use std::alloc::{AllocError, Global};
 use std::sync::Wait;

@@ -11,7 +11,7 @@ use Rattle.pcb_model.specs.declared.item.Item.{Item}
 use Rattle.pcb_model.specs.declared.design.Design.{Design}
 use Rattle.ses_writer.specs.Words.{Appends, decimals}
 use Rattle.ses_writer.specs.Session.{is_printed, is_of_net, is_via_of, has_via_of, copper_lines, metal_line}
-use Rattle.ses_writer.specs.Passes.{AddsLine, TellsLines, Marks, TellsVias}
+use Rattle.ses_writer.specs.inner.Passes.{AddsLine, TellsLines, Marks, TellsVias}
 use Rattle.ses_writer.proofs.Puts.{Leads, leads_on, with_next, at_end}
 
 -- the first of what is left passes the test

@@ -1,3 +1,3 @@
 pub mod Words
 pub mod Session
-pub mod Passes
+pub mod inner

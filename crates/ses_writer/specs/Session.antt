@@ -22,7 +22,6 @@ use Rattle.pcb_model.specs.Scale.{scale_of}
 use Rattle.ses_writer.specs.Words.{spelled, length_word, degrees, point_words, chain_words, area_words}
 
 -- ---- the head and the placement
-
 abbrev pub unit_word : LengthUnit → List ℕ
 unit_word Inch = codes "inch"
 unit_word Mil = codes "mil"
@@ -56,7 +55,6 @@ component_lines nm [] = []
 component_lines nm (c ∷ cs) = component_line c ++ place_line nm c ++ places_after nm c cs
 
 -- ---- the library
-
 abbrev pub layer_word : Design → ℕ → List ℕ
 layer_word d layer = spelled (option_map_or (λ (l : BoardLayer). l.name) (slice_get d.layers layer) [])
 
@@ -99,7 +97,6 @@ unfoldable pub library_lines : Design → ℕ → List Item → List ℕ
 library_lines d nm items = flat_map (library_entry d nm items) (enumerate_from 0 d.padstacks)
 
 -- ---- the network
-
 unfoldable pub metal_line : Design → ℕ → Metal → List ℕ
 metal_line d nm (Wire layer width chain) = codes "        (wire (path " ++ layer_word d layer
     ++ length_word nm (pos width) ++ chain_words nm chain ++ codes "))\n"
@@ -128,7 +125,6 @@ unfoldable pub network_lines : Design → ℕ → List Item → List ℕ
 network_lines d nm items = flat_map (network_entry d nm items) (enumerate_from 0 d.nets)
 
 -- ---- the whole
-
 unfoldable pub host_line : List ℕ → Option (List ℕ) → List ℕ
 host_line word None = []
 host_line word (Some host) = codes "      (" ++ word ++ codes " " ++ spelled host ++ codes ")\n"
@@ -154,10 +150,3 @@ routes_part d s items = codes "  (routes\n" ++ resolution_line s ++ parser_lines
 unfoldable pub session_of : Design → List Item → Bool → List ℕ
 session_of d items omit_fixed =
     placement_part d (scale_of d) ++ routes_part d (scale_of d) (filter (is_printed omit_fixed) items) ++ codes ")\n"
-
--- ---- what private functions put at once
-
--- the line of a host, whose word stands in its front
-abbrev pub fronted_line : List ℕ → Option (List ℕ) → List ℕ
-fronted_line front None = []
-fronted_line front (Some host) = front ++ spelled host ++ codes ")\n"

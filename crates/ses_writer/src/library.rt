@@ -3,7 +3,7 @@
 
 ghost use Rattle.std.specs.Prelude.{◌≡◌, ◌<◌, ◌++◌, OnOk, IfOk, flat_map, filter, length, codes};
 ghost use Rattle.ses_writer.specs.Words.{Appends, spelled};
-ghost use Rattle.ses_writer.specs.Passes.{TellsVias, Marks};
+ghost use Rattle.ses_writer.specs.inner.Passes.{TellsVias, Marks};
 ghost use Rattle.ses_writer.specs.Session.{layer_word, shape_word, spine_words, shape_line, padstack_lines};
 ghost use Rattle.ses_writer.specs.Session.{library_lines, is_printed};
 

@@ -4,7 +4,7 @@
 ghost use Rattle.std.specs.Prelude.{◌≡◌, ◌<◌, ◌++◌, [], ℕ, OnOk, IfOk, All, filter, length, Vec};
 ghost use Rattle.std.specs.Global.{Global as Memory};
 ghost use Rattle.ses_writer.specs.Words.{Appends, spelled};
-ghost use Rattle.ses_writer.specs.Passes.{AddsLine, TellsLines};
+ghost use Rattle.ses_writer.specs.inner.Passes.{AddsLine, TellsLines};
 ghost use Rattle.ses_writer.specs.Session.{padstack_word, metal_line, net_lines, is_printed, network_lines};
 
 use crate::library::{layer_name, prints};

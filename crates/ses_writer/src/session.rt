@@ -4,7 +4,8 @@
 ghost use Rattle.std.specs.Prelude.{◌≡◌, ◌<◌, OnOk, IfOk, filter};
 ghost use Rattle.ses_writer.specs.Words.{Appends};
 ghost use Rattle.ses_writer.specs.Session.{is_printed, placement_part, parser_lines, routes_part};
-ghost use Rattle.ses_writer.specs.Session.{session_of, fronted_line};
+ghost use Rattle.ses_writer.specs.Session.{session_of};
+ghost use Rattle.ses_writer.specs.inner.Passes.{fronted_line};
 
 use crate::items::items_of;
 use crate::library::put_library;

@@ -12,7 +12,7 @@ use Rattle.pcb_board.specs.declared.answer.Entry.{Entry}
 use Rattle.pcb_board.specs.declared.answer.Entry.TheVariants.{Join, Back}
 use Rattle.pcb_board.specs.Boards.{BoardOf, board_at, given, opening}
 use Rattle.pcb_board.proofs.Order.{kept_there}
-use Rattle.route_report.specs.declared.facts.Facts.{Facts}
+use Rattle.route_run.specs.declared.facts.Facts.{Facts}
 use Rattle.route_run.specs.Runs.{IsRun, RunOf}
 use Rattle.ses_writer.specs.Session.{is_printed}
 use Rattle.session_law.proofs.ScaleGiven.{loaded}

@@ -18,8 +18,8 @@ use Rattle.pcb_board.specs.declared.answer.Entry.TheVariants.{Join, Back}
 use Rattle.pcb_board.specs.Boards.{BoardOf, board_at, replayed}
 use Rattle.least_offer.specs.Least.{Chooses, TakesNothing}
 use Rattle.closing_pass.specs.Closing.{IsBareJoin}
-use Rattle.route_report.specs.declared.facts.PassLine.{PassLine}
-use Rattle.route_report.specs.declared.facts.Facts.{Facts}
+use Rattle.route_run.specs.declared.facts.PassLine.{PassLine}
+use Rattle.route_run.specs.declared.facts.Facts.{Facts}
 use Rattle.route_run.specs.Runs.{RunOf, IsRun, AreLeast, ClosesFrom, entries_after}
 use Rattle.session_law.specs.Told.{IsOnScale}
 use Rattle.session_law.proofs.ScaleBoards.{board_on_scale}

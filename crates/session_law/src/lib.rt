@@ -17,7 +17,7 @@ ghost use Rattle.route_lattice.specs.Whole.{lattice_of};
 ghost use Rattle.board_offers.specs.declared.offer.Offer.{Offer as OneOffer};
 ghost use Rattle.pcb_board.specs.declared.answer.Entry.TheVariants.{Join};
 ghost use Rattle.least_offer.specs.Least.{TakesNothing};
-ghost use Rattle.route_report.specs.declared.facts.Facts.{Facts as RunFacts};
+ghost use Rattle.route_run.specs.declared.facts.Facts.{Facts as RunFacts};
 ghost use Rattle.route_run.specs.Runs.{AreLeast, IsRun, RunOf};
 ghost use Rattle.ses_writer.specs.Words.{nearest};
 ghost use Rattle.board_offers.specs.declared.offer.TheConstants.{CLOSER};

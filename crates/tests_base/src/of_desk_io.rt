@@ -1,9 +1,7 @@
 //! Each desk and each sink once, with ample memory, and their faults.
 //! The host's files are tried in files of its own, in the folder that the tests run in.
 
-use desk_io::{
-    CalmDesk, Desk, DeskFail, Gate, HostDesk, HostSink, MemDesk, MemSink, NoGate, Sink, SinkFail,
-};
+use desk_io::{CalmDesk, Desk, DeskFail, HostDesk, HostSink, MemDesk, MemSink, Sink, SinkFail};
 use std::alloc::Global;
 use std::fmt::Display;
 use std::process::Abort;
@@ -142,11 +140,9 @@ fn the_host_reads_what_was_written_last_and_fails_where_it_cannot(rt: HostRuntim
 }
 
 #[test]
-fn the_hosts_sink_and_no_gate_do_their_work(rt: HostRuntime) {
+fn the_hosts_sink_puts(rt: HostRuntime) {
     let mut sink = HostSink::new(&rt);
     assert!(rt; puts(&mut sink, "put to standard output\n", false) && sink.faults() == 0);
-    NoGate.before_offer(0, 0);
-    NoGate.after_answer(0, 0);
 }
 
 /// A standard output that takes two bytes at a call, and none where `stop` bytes or fewer are given.

@@ -9,7 +9,7 @@ use Rattle.route_lattice.specs.Mesh.{Mesh}
 use Rattle.move_maps.specs.declared.map.GroupMap.{GroupMap}
 use Rattle.copper_change.specs.Changes.{IsMerge}
 use Rattle.move_maps.specs.Maps.{AreMapsOf, FollowFrom}
-use Rattle.ripup.proofs.Serving.{fixed_at, fixed_serve}
+use Rattle.route_plan.proofs.Serving.{fixed_at, fixed_serve}
 use Rattle.tests_board.specs.Laying.{IsLaidOn}
 
 -- the fixed items have lesser ids than their number

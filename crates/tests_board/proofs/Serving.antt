@@ -22,7 +22,7 @@ use Rattle.pcb_model.specs.Pieces.{pieces_of, pieces_in, padstack_pieces, moved_
 use Rattle.pcb_model.specs.Sound.{IsSound, IsFreeSound, IsItemOf, IsLayerOf, IsMetalInRange, IsCopper}
 use Rattle.pcb_model.specs.Sound.{Serves}
 use Rattle.pcb_model.proofs.Laying.{serves_more}
-use Rattle.ripup.proofs.Serving.{fixed_at}
+use Rattle.route_plan.proofs.Serving.{fixed_at}
 use Rattle.pcb_tiles.specs.Spread.{Spread, Gains, Loses, ServesSpread, holding}
 
 each : (P : Item → Type 0) (found : Option Item) → ((a : Item) → found ≡ Some a → P a) → IfSome found P

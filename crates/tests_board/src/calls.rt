@@ -2,7 +2,8 @@
 //! Sessions are written into the file u.ses.
 
 use crate::designs::swapped;
-use desk_io::{Gate, MemDesk, MemSink, NoGate};
+use board_turn::{Gate, NoGate};
+use desk_io::{MemDesk, MemSink};
 use dsn_route::{Status, dsn_route};
 use std::alloc::{AllocError, Global};
 use std::process::Abort;

@@ -1,6 +1,6 @@
 //! Gates that hold workers back. Each reads its flag a bounded number of times, so a test that would hang fails.
 
-use desk_io::Gate;
+use board_turn::Gate;
 use std::sync::atomic::{AtomicU64, Ordering};
 use std::thread;
 

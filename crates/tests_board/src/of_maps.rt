@@ -16,8 +16,9 @@ use crate::laying::{CROSS, Routed, WALL, laid};
 use geo_kernel::List;
 use move_maps::{Counts, MoveMaps};
 use pcb_model::{Design, Item, PlainCopper, copy_item};
-use ripup::{RipMoves, fixed_maps, rips_of};
+use ripup::RipMoves;
 use route_lattice::{Lattice, LegalMoves, Moves};
+use route_plan::{fixed_maps, rips_of};
 use std::alloc::{AllocError, Global};
 use std::process::Abort;
 

@@ -3,7 +3,7 @@
 
 use crate::calls::{Wanted, called, leaves};
 use crate::designs::{CROSSING, KICAD, ON_FRONT, TWO_LAYERS};
-use desk_io::NoGate;
+use board_turn::NoGate;
 use dsn_route::Status;
 
 /// What is shown, edits of a design, the words of a call, and what the call leaves.

@@ -9,7 +9,7 @@ use crate::board::board;
 use crate::designs::CROSSING;
 use crate::gates::{AllCome, FirstWaits};
 use board_gen::design_text;
-use desk_io::{Gate, NoGate};
+use board_turn::{Gate, NoGate};
 use geo_kernel::Point;
 use pcb_board::{Answer, Board, Entry};
 use pcb_model::{Design, Metal};

@@ -6,7 +6,8 @@ use cut_certificate::{Block, Blocker, Cut};
 use geo_kernel::List;
 use pcb_board::Board;
 use route_lattice::{Lattice, Reach};
-use route_report::{Facts, PassLine, report_text};
+use route_report::report_text;
+use route_run::{Facts, PassLine};
 use std::alloc::{AllocError, Global};
 use std::process::Abort;
 

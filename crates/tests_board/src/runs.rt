@@ -4,7 +4,7 @@ use crate::calls::called;
 use crate::designs::CROSSING;
 use crate::gates::{AllCome, FirstWaits};
 use board_gen::design_text;
-use desk_io::Gate;
+use board_turn::Gate;
 use dsn_route::Status;
 use std::alloc::Global;
 use std::process::Abort;

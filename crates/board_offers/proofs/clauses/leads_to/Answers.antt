@@ -4,7 +4,7 @@ use Rattle.pcb_model.specs.declared.item.Item.{Item}
 use Rattle.pcb_model.specs.Bounds.{IsItemFit}
 use Rattle.pcb_model.specs.Pairs.{AreTouching}
 use Rattle.pcb_model.specs.Board.{LeadsTo}
-use Rattle.board_offers.specs.Inner.{last_item}
+use Rattle.board_offers.specs.inner.Adding.{last_item}
 use Rattle.board_offers.proofs.Lists.{at_place_of}
 use Rattle.board_offers.proofs.Leading.{last_more, leads_more, leads_at, leads_last}
 use Rattle.board_offers.proofs.clauses.leads_to.Goals as goal

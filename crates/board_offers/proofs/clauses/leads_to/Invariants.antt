@@ -1,7 +1,7 @@
 use Rattle.std.proofs.Common.{◌≡◌, take}
 use Rattle.pcb_model.specs.Bounds.{IsItemFit}
 use Rattle.pcb_model.specs.Board.{LeadsTo}
-use Rattle.board_offers.specs.Inner.{last_item}
+use Rattle.board_offers.specs.inner.Adding.{last_item}
 use Rattle.board_offers.proofs.clauses.leads_to.Given as goal
 
 abbrev pub invariant-loop-a : goal.invariant-loop-a

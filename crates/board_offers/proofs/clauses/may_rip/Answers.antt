@@ -1,5 +1,5 @@
 use Rattle.pcb_model.specs.Bounds.{IsItemFit}
-use Rattle.board_offers.specs.Inner.{IsInTheWayOf}
+use Rattle.board_offers.specs.inner.Adding.{IsInTheWayOf}
 use Rattle.board_offers.proofs.Lists.{got}
 use Rattle.board_offers.proofs.Tests.{at_none, at_some}
 use Rattle.board_offers.proofs.clauses.may_rip.Goals as goal

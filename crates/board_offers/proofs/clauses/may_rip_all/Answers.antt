@@ -1,7 +1,7 @@
 use Rattle.std.proofs.Common.{get_or}
 use Rattle.std.specs.Option.{IsSomeAnd}
 use Rattle.std.specs.Prelude.{slice_get}
-use Rattle.board_offers.specs.Inner.{IsInTheWayOf}
+use Rattle.board_offers.specs.inner.Adding.{IsInTheWayOf}
 use Rattle.board_offers.proofs.Tested.{copied_at, passed, failed, all_passed}
 use Rattle.board_offers.proofs.clauses.may_rip_all.Goals as goal
 

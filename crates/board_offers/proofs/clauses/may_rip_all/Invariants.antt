@@ -1,7 +1,7 @@
 use Rattle.std.proofs.Common.{take, All}
 use Rattle.std.specs.Option.{IsSomeAnd}
 use Rattle.std.specs.Prelude.{slice_get}
-use Rattle.board_offers.specs.Inner.{IsInTheWayOf}
+use Rattle.board_offers.specs.inner.Adding.{IsInTheWayOf}
 use Rattle.board_offers.proofs.clauses.may_rip_all.Given as goal
 
 abbrev pub invariant-loop-id : goal.invariant-loop-id

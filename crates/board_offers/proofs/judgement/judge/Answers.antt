@@ -6,7 +6,7 @@ use Rattle.pcb_model.specs.declared.item.Item.{Item}
 use Rattle.pcb_model.specs.Bounds.{IsItemFit, IsMetalFit}
 use Rattle.pcb_model.specs.Pairs.{Agrees}
 use Rattle.board_offers.specs.Items.{added_from, replaced_from, added, replaced, new_items}
-use Rattle.board_offers.specs.Inner.{MayShove}
+use Rattle.board_offers.specs.inner.Adding.{MayShove}
 use Rattle.board_offers.proofs.Faults.{given_fit, metals_fit, added_fit, replaced_fit, refuted, timely_is, ends_are}
 use Rattle.board_offers.proofs.Faults.{metals_are, across_is, inside_is, rips_are, shoves_are, Begins, Goes}
 use Rattle.board_offers.proofs.Faults.{fails_first, fails_second, fails_third, fails_fourth, fails_fifth, fails_sixth}

@@ -2,7 +2,7 @@ use Rattle.std.proofs.Common.{◌≡◌, ◌+◌, List, [], ◌∷◌, ◌++◌,
 use Rattle.std.proofs.lemmas.List.{take_all, take_more}
 use Rattle.board_offers.specs.declared.offer.Shoved.{Shoved}
 use Rattle.board_offers.specs.Troubles.{FailsLeast}
-use Rattle.board_offers.specs.Searching.{StaysWithAll}
+use Rattle.board_offers.specs.inner.Searching.{StaysWithAll}
 use Rattle.board_offers.proofs.Parting.{with_more}
 use Rattle.board_offers.proofs.parted.least_parted.Goals as goal
 

@@ -1,6 +1,6 @@
 use Rattle.std.proofs.Common.{take}
 use Rattle.board_offers.specs.Troubles.{FailsLeast}
-use Rattle.board_offers.specs.Searching.{StaysWithAll}
+use Rattle.board_offers.specs.inner.Searching.{StaysWithAll}
 use Rattle.board_offers.proofs.parted.least_parted.Given as goal
 
 abbrev pub invariant-loop-s : goal.invariant-loop-s

@@ -1,5 +1,5 @@
 use Rattle.std.proofs.Common.{◌≡◌, ◌+◌, true≢false, sym, ◌∙◌, subst, arith}
-use Rattle.board_offers.specs.Searching.{StayBy}
+use Rattle.board_offers.specs.inner.Searching.{StayBy}
 use Rattle.board_offers.proofs.Parting.{none_looked_at, parted_found, parted_passed, parted_none, parted_end}
 use Rattle.board_offers.proofs.parted.least_parted_by.Goals as goal
 

@@ -1,5 +1,5 @@
 use Rattle.std.proofs.Common.{◌-◌, ◌^◌}
-use Rattle.board_offers.specs.Searching.{StayBy}
+use Rattle.board_offers.specs.inner.Searching.{StayBy}
 use Rattle.board_offers.proofs.parted.least_parted_by.Given as goal
 
 abbrev pub invariant-loop-id : goal.invariant-loop-id

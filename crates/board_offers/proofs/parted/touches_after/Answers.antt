@@ -3,7 +3,7 @@ use Rattle.std.proofs.lemmas.List.Elements.{All-contains}
 use Rattle.pcb_model.specs.declared.item.Item.{Item}
 use Rattle.pcb_model.specs.Bounds.{IsItemFit}
 use Rattle.pcb_model.specs.Pairs.{AreTouching}
-use Rattle.board_offers.specs.Searching.{lies_after}
+use Rattle.board_offers.specs.inner.Searching.{lies_after}
 use Rattle.board_offers.proofs.Parting.{lies_fit, same_item}
 use Rattle.board_offers.proofs.parted.touches_after.Goals as goal
 

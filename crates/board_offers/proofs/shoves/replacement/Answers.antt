@@ -6,7 +6,7 @@ use Rattle.pcb_model.specs.declared.item.Item.{Item}
 use Rattle.pcb_model.specs.Bounds.{IsItemFit, IsMetalFit}
 use Rattle.pcb_model.specs.Board.{AreInside}
 use Rattle.board_offers.specs.Items.{no_item, reshaped, with_chain}
-use Rattle.board_offers.specs.Inner.{IsShovableOf}
+use Rattle.board_offers.specs.inner.Adding.{IsShovableOf}
 use Rattle.board_offers.proofs.New.{reshaped_made}
 use Rattle.board_offers.proofs.shoves.replacement.Goals as goal
 

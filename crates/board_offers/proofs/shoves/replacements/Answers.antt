@@ -6,7 +6,7 @@ use Rattle.std.proofs.lemmas.List.Elements.{All-nil}
 use Rattle.pcb_model.specs.declared.item.Item.{Item}
 use Rattle.board_offers.specs.declared.offer.Shoved.{Shoved}
 use Rattle.board_offers.specs.Items.{item_at, replaced_from, reshaped}
-use Rattle.board_offers.specs.Inner.{MayShove}
+use Rattle.board_offers.specs.inner.Adding.{MayShove}
 use Rattle.board_offers.proofs.Lists.{front_more}
 use Rattle.board_offers.proofs.Making.{replaced_more}
 use Rattle.board_offers.proofs.shoves.replacements.Goals as goal

@@ -1,6 +1,6 @@
 use Rattle.std.proofs.Common.{◌≡◌, ◌+◌, All, take}
 use Rattle.board_offers.specs.Items.{replaced_from}
-use Rattle.board_offers.specs.Inner.{MayShove}
+use Rattle.board_offers.specs.inner.Adding.{MayShove}
 use Rattle.board_offers.proofs.shoves.replacements.Given as goal
 
 abbrev pub invariant-loop-s : goal.invariant-loop-s

@@ -3,7 +3,7 @@ use Rattle.std.proofs.lemmas.List.{take_all, take_more}
 use Rattle.pcb_model.specs.declared.item.Item.{Item}
 use Rattle.pcb_model.specs.Bounds.{IsItemFit}
 use Rattle.board_offers.specs.Troubles.{FailsLeast}
-use Rattle.board_offers.specs.Searching.{AgreesWithAll}
+use Rattle.board_offers.specs.inner.Searching.{AgreesWithAll}
 use Rattle.board_offers.proofs.Troubles.{with_all_more}
 use Rattle.board_offers.proofs.trouble.least_clash.Goals as goal
 

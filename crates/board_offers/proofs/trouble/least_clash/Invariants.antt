@@ -1,6 +1,6 @@
 use Rattle.std.proofs.Common.{take}
 use Rattle.board_offers.specs.Troubles.{FailsLeast}
-use Rattle.board_offers.specs.Searching.{AgreesWithAll}
+use Rattle.board_offers.specs.inner.Searching.{AgreesWithAll}
 use Rattle.board_offers.proofs.trouble.least_clash.Given as goal
 
 abbrev pub invariant-loop-n : goal.invariant-loop-n

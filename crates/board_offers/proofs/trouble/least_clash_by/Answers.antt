@@ -1,6 +1,6 @@
 use Rattle.std.proofs.Common.{◌≡◌, ◌+◌, true, false, sym, ◌∙◌, subst, arith}
 use Rattle.board_offers.specs.Items.{names}
-use Rattle.board_offers.specs.Searching.{ArePassed}
+use Rattle.board_offers.specs.inner.Searching.{ArePassed}
 use Rattle.board_offers.proofs.Troubles.{none_passed, clash_found, clash_passed, clash_none, clash_end}
 use Rattle.board_offers.proofs.trouble.least_clash_by.Goals as goal
 

@@ -1,5 +1,5 @@
 use Rattle.std.proofs.Common.{◌-◌, ◌^◌}
-use Rattle.board_offers.specs.Searching.{ArePassed}
+use Rattle.board_offers.specs.inner.Searching.{ArePassed}
 use Rattle.board_offers.proofs.trouble.least_clash_by.Given as goal
 
 abbrev pub invariant-loop-id : goal.invariant-loop-id

@@ -1,7 +1,7 @@
 use Rattle.std.proofs.Common.{ℕ, List, [], ◌∷◌, ◌++◌, get_or, take, sym, subst}
 use Rattle.std.proofs.lemmas.List.{take_all, take_more}
 use Rattle.board_offers.specs.Troubles.{FailsLeast}
-use Rattle.board_offers.specs.Searching.{IsNamedThere}
+use Rattle.board_offers.specs.inner.Searching.{IsNamedThere}
 use Rattle.board_offers.proofs.Troubles.{named_there_more}
 use Rattle.board_offers.proofs.trouble.least_missing.Goals as goal
 

@@ -1,6 +1,6 @@
 use Rattle.std.proofs.Common.{take}
 use Rattle.board_offers.specs.Troubles.{FailsLeast}
-use Rattle.board_offers.specs.Searching.{IsNamedThere}
+use Rattle.board_offers.specs.inner.Searching.{IsNamedThere}
 use Rattle.board_offers.proofs.trouble.least_missing.Given as goal
 
 abbrev pub invariant-loop-id : goal.invariant-loop-id

@@ -6,7 +6,7 @@ use Rattle.pcb_model.specs.Sound.{IsItemOf}
 use Rattle.board_offers.specs.declared.offer.Shoved.{Shoved}
 use Rattle.board_offers.specs.Items.{gone, added, replaced}
 use Rattle.board_offers.specs.Troubles.{FailsLeast, IsThere, AgreesWithNew, IsClear}
-use Rattle.board_offers.specs.Searching.{IsNamedThere, AgreesWithAll, StaysWithAll, least_of}
+use Rattle.board_offers.specs.inner.Searching.{IsNamedThere, AgreesWithAll, StaysWithAll, least_of}
 use Rattle.board_offers.proofs.New.{added_length, replaced_length}
 use Rattle.board_offers.proofs.Troubles.{three_clear}
 use Rattle.board_offers.proofs.Parting.{behind_added, joined_least}

@@ -4,7 +4,8 @@ use Rattle.board_turn.specs.declared.event.Deed.{Deed}
 use Rattle.board_turn.specs.declared.lock.Role.TheVariants.{Free}
 use Rattle.board_turn.specs.declared.lock.View.{View}
 use Rattle.board_turn.specs.Events.{Does}
-use Rattle.board_turn.specs.Lock.{Slot, with_event}
+use Rattle.board_turn.specs.Lock.{Slot}
+use Rattle.board_turn.specs.inner.Lock.{with_event}
 use Rattle.board_turn.specs.Seats.{pass_at}
 use Rattle.board_turn.proofs.Moves.{advances}
 use Rattle.board_turn.proofs.Seats.{free_role, slot_put, slot_given}

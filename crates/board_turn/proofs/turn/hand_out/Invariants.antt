@@ -1,7 +1,8 @@
 use Rattle.std.proofs.Common.{◌≡◌, [], ◌-◌, ◌≤◌, vec_capacity, vec_len}
 use Rattle.board_turn.specs.declared.lock.Role.TheVariants.{Free}
 use Rattle.board_turn.specs.Turns.{passes_of, turn_of}
-use Rattle.board_turn.specs.Lock.{view_of, new_passes}
+use Rattle.board_turn.specs.Lock.{view_of}
+use Rattle.board_turn.specs.inner.Lock.{new_passes}
 use Rattle.board_turn.proofs.turn.hand_out.Given as goal
 
 abbrev pub invariant-names : goal.invariant-names

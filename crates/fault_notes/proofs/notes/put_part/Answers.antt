@@ -1,7 +1,7 @@
 use Rattle.std.proofs.Common.{◌≡◌, List, ℕ, ◌++◌, sym, subst}
 use Rattle.std.specs.Prelude.{OnOk, string_bytes}
 use Rattle.fault_notes.specs.declared.notes.Part.{Part}
-use Rattle.fault_notes.specs.Parts.{part_word}
+use Rattle.fault_notes.specs.inner.Parts.{part_word}
 use Rattle.fault_notes.proofs.Parts.{pushed}
 use Rattle.fault_notes.proofs.notes.put_part.Goals as goal
 

@@ -1,6 +1,6 @@
 use Rattle.std.proofs.Common.{◌≡◌, ◌++◌, drop, flat_map}
 use Rattle.std.specs.Prelude.{string_bytes}
-use Rattle.fault_notes.specs.Parts.{part_word}
+use Rattle.fault_notes.specs.inner.Parts.{part_word}
 use Rattle.fault_notes.proofs.notes.put_parts.Given as goal
 
 -- what is put, and the parts that are left

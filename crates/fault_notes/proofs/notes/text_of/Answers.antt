@@ -1,5 +1,5 @@
 use Rattle.std.proofs.Common.{◌++◌, ◌∙◌, ap, List, ℕ, flat_map}
-use Rattle.fault_notes.specs.Parts.{part_word}
+use Rattle.fault_notes.specs.inner.Parts.{part_word}
 use Rattle.fault_notes.proofs.Parts.{parts_are}
 use Rattle.fault_notes.proofs.notes.text_of.Goals as goal
 

@@ -1,7 +1,7 @@
 use Rattle.std.proofs.Common.{◌+◌, List, arith, ap, drop, length, subst}
 use Rattle.std.proofs.lemmas.List.{drop_all}
 use Rattle.pcb_model.specs.declared.design.FreeWire.{FreeWire}
-use Rattle.pcb_board.specs.Loading.{AreLoaded}
+use Rattle.pcb_board.specs.inner.Loading.{AreLoaded}
 use Rattle.pcb_board.proofs.Loading.{one_loaded, rest_one}
 use Rattle.pcb_board.proofs.load.load_free.Goals as goal
 

@@ -1,5 +1,5 @@
 use Rattle.std.proofs.Common.{drop}
-use Rattle.pcb_board.specs.Loading.{AreLoaded}
+use Rattle.pcb_board.specs.inner.Loading.{AreLoaded}
 use Rattle.pcb_board.proofs.load.load_free.Given as goal
 
 abbrev pub invariant-loop-w : goal.invariant-loop-w

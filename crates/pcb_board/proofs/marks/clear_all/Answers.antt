@@ -1,6 +1,6 @@
 use Rattle.std.proofs.Common.{ℕ, List, false, subst}
 use Rattle.std.proofs.lemmas.List.{take_all}
-use Rattle.pcb_board.specs.Turning.{ArePut}
+use Rattle.pcb_board.specs.inner.Turning.{ArePut}
 use Rattle.pcb_board.proofs.Turns.{put_none, put_more}
 use Rattle.pcb_board.proofs.marks.clear_all.Goals as goal
 

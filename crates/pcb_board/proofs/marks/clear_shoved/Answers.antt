@@ -1,7 +1,7 @@
 use Rattle.std.proofs.Common.{List, false, map, subst}
 use Rattle.std.proofs.lemmas.List.{take_all}
 use Rattle.board_offers.specs.declared.offer.Shoved.{Shoved}
-use Rattle.pcb_board.specs.Turning.{ArePut}
+use Rattle.pcb_board.specs.inner.Turning.{ArePut}
 use Rattle.pcb_board.proofs.Turns.{put_none, put_shoved}
 use Rattle.pcb_board.proofs.marks.clear_shoved.Goals as goal
 

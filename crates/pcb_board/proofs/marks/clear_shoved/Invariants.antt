@@ -1,6 +1,6 @@
 use Rattle.std.proofs.Common.{take, map, false}
 use Rattle.board_offers.specs.declared.offer.Shoved.{Shoved}
-use Rattle.pcb_board.specs.Turning.{ArePut}
+use Rattle.pcb_board.specs.inner.Turning.{ArePut}
 use Rattle.pcb_board.proofs.marks.clear_shoved.Given as goal
 
 abbrev pub invariant-loop-s : goal.invariant-loop-s

@@ -2,7 +2,7 @@ use Rattle.std.proofs.Common.{◌≡◌, Some, length, refl}
 use Rattle.std.specs.Prelude.{slice_get}
 use Rattle.std.proofs.lemmas.Option.{slice_get_read}
 use Rattle.pcb_board.specs.declared.answer.Entry.{Entry}
-use Rattle.pcb_board.specs.Turning.{MarksJoin, EndsWithin}
+use Rattle.pcb_board.specs.inner.Turning.{MarksJoin, EndsWithin}
 use Rattle.pcb_board.proofs.Turns.{if_there, there_if}
 use Rattle.pcb_board.proofs.marks.mark_entry.Goals as goal
 

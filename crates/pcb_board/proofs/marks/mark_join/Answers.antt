@@ -3,7 +3,7 @@ use Rattle.board_offers.specs.declared.offer.Shoved.{Shoved}
 use Rattle.board_offers.specs.Items.{gone, shoved_ids}
 use Rattle.pcb_board.specs.declared.answer.Entry.{Entry}
 use Rattle.pcb_board.specs.declared.answer.Entry.TheVariants.{Join}
-use Rattle.pcb_board.specs.Turning.{ArePut, MarksJoin}
+use Rattle.pcb_board.specs.inner.Turning.{ArePut, MarksJoin}
 use Rattle.pcb_board.proofs.Turns.{put_both}
 use Rattle.pcb_board.proofs.marks.mark_join.Goals as goal
 

@@ -1,5 +1,5 @@
 use Rattle.std.proofs.Common.{◌≡◌, ℕ, subst, arith}
-use Rattle.pcb_board.specs.Turning.{IsRangePut}
+use Rattle.pcb_board.specs.inner.Turning.{IsRangePut}
 use Rattle.pcb_board.proofs.marks.mark_range.Goals as goal
 
 pub returns : goal.returns

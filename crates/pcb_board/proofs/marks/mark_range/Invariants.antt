@@ -1,4 +1,4 @@
-use Rattle.pcb_board.specs.Turning.{IsRangePut}
+use Rattle.pcb_board.specs.inner.Turning.{IsRangePut}
 use Rattle.pcb_board.proofs.marks.mark_range.Given as goal
 
 abbrev pub invariant-loop-place : goal.invariant-loop-place

@@ -7,7 +7,7 @@ use Rattle.std.proofs.lemmas.List.Elements.{All-filter}
 use Rattle.pcb_model.specs.declared.item.Item.{Item}
 use Rattle.pcb_board.specs.Snaps.{AreTilesOf}
 use Rattle.pcb_tiles.specs.Spread.{Spread}
-use Rattle.pcb_board.specs.Turning.{is_marked}
+use Rattle.pcb_board.specs.inner.Turning.{is_marked}
 use Rattle.pcb_board.proofs.Opening.{fronts}
 use Rattle.pcb_board.proofs.Turns.{passes_more, fails_more}
 use Rattle.pcb_board.proofs.marks.marked_tiles.Goals as goal

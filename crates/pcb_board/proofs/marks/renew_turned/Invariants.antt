@@ -1,4 +1,4 @@
-use Rattle.pcb_board.specs.Turning.{AreTurned}
+use Rattle.pcb_board.specs.inner.Turning.{AreTurned}
 use Rattle.pcb_board.proofs.marks.renew_turned.Given as goal
 
 abbrev pub invariant-loop-place : goal.invariant-loop-place

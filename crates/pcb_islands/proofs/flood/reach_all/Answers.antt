@@ -2,7 +2,7 @@ use Rattle.std.proofs.Common.{◌≡◌, ℕ, ◌-◌, ◌<◌, take, vec_len, a
 use Rattle.std.proofs.lemmas.List.Elements.{All-contains}
 use Rattle.std.proofs.lemmas.List.{append-nil}
 use Rattle.pcb_model.specs.Bounds.{IsItemFit}
-use Rattle.pcb_islands.specs.Flooding.{work, IsTakenIn, IsFlooded}
+use Rattle.pcb_islands.specs.inner.Flooding.{work, IsTakenIn, IsFlooded}
 use Rattle.pcb_islands.proofs.Flooded.{flood_begins, flood_goes_on, less_work}
 use Rattle.pcb_islands.proofs.flood.reach_all.Goals as goal
 

@@ -1,4 +1,4 @@
-use Rattle.pcb_islands.specs.Flooding.{IsFlooded, work}
+use Rattle.pcb_islands.specs.inner.Flooding.{IsFlooded, work}
 use Rattle.pcb_islands.proofs.flood.reach_all.Given as goal
 
 abbrev pub invariant-loop-id : goal.invariant-loop-id

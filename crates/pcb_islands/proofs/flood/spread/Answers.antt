@@ -1,6 +1,6 @@
 use Rattle.std.proofs.Common.{ℕ, List, subst}
 use Rattle.std.proofs.lemmas.Result.{on_ok_weaker}
-use Rattle.pcb_islands.specs.Flooding.{IsTakenIn}
+use Rattle.pcb_islands.specs.inner.Flooding.{IsTakenIn}
 use Rattle.pcb_islands.proofs.flood.spread.Goals as goal
 
 pub returns : goal.returns

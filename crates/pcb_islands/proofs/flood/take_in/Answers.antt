@@ -1,6 +1,6 @@
 use Rattle.std.proofs.Common.{◌≡◌, ℕ, ◌+◌, ◌≤◌, List, [], ◌∷◌, ◌++◌, length, take, get_or, sym, subst, arith}
 use Rattle.std.proofs.lemmas.List.{take_more, take_all}
-use Rattle.pcb_islands.specs.Flooding.{IsTakenIn}
+use Rattle.pcb_islands.specs.inner.Flooding.{IsTakenIn}
 use Rattle.pcb_islands.proofs.Taking.{taken_none, taken_then}
 use Rattle.pcb_islands.proofs.flood.take_in.Goals as goal
 

@@ -1,5 +1,5 @@
 use Rattle.std.proofs.Common.{take}
-use Rattle.pcb_islands.specs.Flooding.{IsTakenIn}
+use Rattle.pcb_islands.specs.inner.Flooding.{IsTakenIn}
 use Rattle.pcb_islands.proofs.flood.take_in.Given as goal
 
 abbrev pub invariant-loop-id : goal.invariant-loop-id

@@ -1,5 +1,5 @@
 use Rattle.std.proofs.Common.{Bool, refl, subst}
-use Rattle.pcb_islands.specs.Numbers.{IsWith}
+use Rattle.pcb_islands.specs.inner.Numbers.{IsWith}
 use Rattle.pcb_islands.proofs.Taking.{taken_one, taken_again}
 use Rattle.pcb_islands.proofs.flood.take_one.Goals as goal
 

@@ -1,5 +1,5 @@
 use Rattle.std.proofs.Common.{◌≡◌, ℕ, ◌+◌, ◌≤◌, ◌^◌, List, sym, subst, arith}
-use Rattle.pcb_islands.specs.Flooding.{AreTouchedBelow, AreTouched}
+use Rattle.pcb_islands.specs.inner.Flooding.{AreTouchedBelow, AreTouched}
 use Rattle.pcb_islands.proofs.Touches.{none_touched, one_touched, all_touched, last_touched}
 use Rattle.pcb_islands.proofs.flood.touched_by.Goals as goal
 

@@ -1,5 +1,5 @@
 use Rattle.std.proofs.Common.{◌-◌, ◌^◌}
-use Rattle.pcb_islands.specs.Flooding.{AreTouchedBelow}
+use Rattle.pcb_islands.specs.inner.Flooding.{AreTouchedBelow}
 use Rattle.pcb_islands.proofs.flood.touched_by.Given as goal
 
 abbrev pub invariant-loop-id : goal.invariant-loop-id

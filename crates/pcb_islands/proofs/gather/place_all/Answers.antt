@@ -1,6 +1,6 @@
 use Rattle.std.proofs.Common.{◌≡◌, ◌≤◌, ℕ, ◌+◌, List, [], ◌∷◌, ◌++◌, length, take, get_or, sym, subst, arith}
 use Rattle.std.proofs.lemmas.List.{take_more, take_all}
-use Rattle.pcb_islands.specs.Progress.{ArePlaced}
+use Rattle.pcb_islands.specs.inner.Progress.{ArePlaced}
 use Rattle.pcb_islands.proofs.Placed.{placed_none, placed_more}
 use Rattle.pcb_islands.proofs.gather.place_all.Goals as goal
 

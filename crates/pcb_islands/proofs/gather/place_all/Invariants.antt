@@ -1,5 +1,5 @@
 use Rattle.std.proofs.Common.{take}
-use Rattle.pcb_islands.specs.Progress.{ArePlaced}
+use Rattle.pcb_islands.specs.inner.Progress.{ArePlaced}
 use Rattle.pcb_islands.proofs.gather.place_all.Given as goal
 
 abbrev pub invariant-loop-id : goal.invariant-loop-id

@@ -3,7 +3,7 @@ use Rattle.std.specs.Prelude.{slice_get}
 use Rattle.std.proofs.lemmas.Option.{slice_get_within, slice_get_read}
 use Rattle.pcb_model.specs.declared.item.Item.{Item}
 use Rattle.pcb_model.specs.declared.item.Metal.TheVariants.{Pad}
-use Rattle.pcb_islands.specs.Progress.{IsPadAt}
+use Rattle.pcb_islands.specs.inner.Progress.{IsPadAt}
 use Rattle.pcb_islands.proofs.Pads.{has_pad, is_pad_of}
 use Rattle.pcb_islands.proofs.pad.pad_of.Goals as goal
 

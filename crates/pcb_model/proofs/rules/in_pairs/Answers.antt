@@ -3,7 +3,7 @@ use Rattle.std.specs.Option.{option_or, unwrap_or}
 use Rattle.std.proofs.lemmas.List.{take_all}
 use Rattle.pcb_model.specs.declared.design.Typed.{Typed}
 use Rattle.pcb_model.specs.declared.design.ClassPair.{ClassPair}
-use Rattle.pcb_model.specs.Rules.{names_pair, names_one, last_value, last_plain, joint_rules, is_of, first_present}
+use Rattle.pcb_model.specs.Rules.{names_pair, names_one, last_value, last_plain, joint_rules, is_of_classes, first_present}
 use Rattle.pcb_model.specs.Rules.{levels}
 use Rattle.pcb_model.proofs.Joint.{taken, passed, typed_more, plain_more, first_of}
 use Rattle.pcb_model.proofs.rules.in_pairs.Goals.{then-is_of_classes, else-is_of_classes}
@@ -24,7 +24,7 @@ loop-p-preserved c =
       | then-is_of_classes w ↦
           let e = taken a b pairs i p c.loop-p-test.true c.p-item.is
           (sym c.is_of_classes.ensures ∙ w.if-is_of_classes.true) in
-          let ps = filter (is_of a b) (take i pairs) in
+          let ps = filter (is_of_classes a b) (take i pairs) in
           record {
             exact = w.exact-is
                 ∙ (w.or-exact.ensures
@@ -59,7 +59,7 @@ returns c =
     let b = c.args.b in
     let i = c.loop-p.p-index in
     let pairs = c.args.pairs.now in
-    let ps = filter (is_of a b) (take i pairs) in
+    let ps = filter (is_of_classes a b) (take i pairs) in
     let before = c.loop-p.invariant in
     let one : Typed → Bool = λ t. names_pair c.args.ka c.args.kb t.a t.b in
     let any : Typed → Bool = λ t. names_one c.args.ka c.args.kb t.a t.b in
@@ -74,5 +74,5 @@ returns c =
     ∙ ap (λ o. option_or x o) before.wide))
     ∙ ap (λ o. option_or (option_or x y) o) before.plain))
     ∙ (first_of x y (last_plain ps) c.args.rest
-    ∙ ap (λ (qs : List ClassPair). first_present c.args.rest (levels c.args.ka c.args.kb (joint_rules (filter (is_of a b) qs))))
+    ∙ ap (λ (qs : List ClassPair). first_present c.args.rest (levels c.args.ka c.args.kb (joint_rules (filter (is_of_classes a b) qs))))
     (take_all i pairs c.loop-p-test.false)))

@@ -1,7 +1,7 @@
 use Rattle.std.proofs.Common.{List, sym, ap, subst}
 use Rattle.pcb_model.specs.declared.item.Item.{Item}
 use Rattle.picture_call.specs.Drawing.{laid_on}
-use Rattle.picture_call.specs.Growing.{IsGrown}
+use Rattle.picture_call.specs.inner.Growing.{IsGrown}
 use Rattle.picture_call.proofs.Growing.{grown_fixed, grown_serves}
 use Rattle.picture_call.proofs.copper.lay_wires.Goals as goal
 

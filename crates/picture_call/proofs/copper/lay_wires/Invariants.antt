@@ -1,6 +1,6 @@
 use Rattle.std.proofs.Common.{◌≡◌, drop}
 use Rattle.picture_call.specs.Drawing.{laid_on}
-use Rattle.picture_call.specs.Growing.{IsGrown}
+use Rattle.picture_call.specs.inner.Growing.{IsGrown}
 use Rattle.picture_call.proofs.copper.lay_wires.Given as goal
 
 abbrev pub invariant-loop-w : goal.invariant-loop-w

@@ -1,6 +1,6 @@
 use Rattle.std.proofs.Common.{◌-◌, ◌≤◌, length, None, Some, true, false, subst, arith}
 use Rattle.shove.specs.Shoves.{chain_of}
-use Rattle.route_plan.specs.Ways.{FindsFit}
+use Rattle.route_plan.specs.inner.Ways.{FindsFit}
 use Rattle.route_plan.proofs.Fitting.{one_more, first_up, first_down, none_at_all}
 use Rattle.route_plan.proofs.fit.first_fit.Goals as goal
 

@@ -3,7 +3,7 @@ use Rattle.std.proofs.lemmas.Bool.{false≢true}
 use Rattle.pcb_model.specs.declared.item.Item.{Item}
 use Rattle.shove.proofs.Touching.{unless}
 use Rattle.least_offer.specs.Together.{StandsWith}
-use Rattle.route_plan.specs.Ways.{shove_of, IsReshaped}
+use Rattle.route_plan.specs.inner.Ways.{shove_of, IsReshaped}
 use Rattle.board_offers.proofs.Lists.{at_place_of, front_more, front_all}
 use Rattle.route_plan.proofs.moved.all_stand_with.Goals as goal
 

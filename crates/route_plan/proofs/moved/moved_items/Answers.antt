@@ -4,7 +4,7 @@ use Rattle.pcb_model.specs.declared.item.Item.{Item}
 use Rattle.pcb_model.specs.Sound.{IsItemOf, Serves}
 use Rattle.shove.proofs.Touching.{unless}
 use Rattle.least_offer.specs.Together.{StandsWith}
-use Rattle.route_plan.specs.Ways.{shove_of, IsReshaped, FindsFirst}
+use Rattle.route_plan.specs.inner.Ways.{shove_of, IsReshaped, FindsFirst}
 use Rattle.route_plan.proofs.Moving.{is_moved, all_reshaped, is_reshaped, one_moved, no_item, no_fit, no_stand}
 use Rattle.route_plan.proofs.moved.moved_items.Goals as goal
 

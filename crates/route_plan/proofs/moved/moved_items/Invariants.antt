@@ -1,5 +1,5 @@
 use Rattle.std.proofs.Common.{take}
-use Rattle.route_plan.specs.Ways.{AreMoved}
+use Rattle.route_plan.specs.inner.Ways.{AreMoved}
 use Rattle.route_plan.proofs.moved.moved_items.Given as goal
 
 abbrev pub invariant-loop-id : goal.invariant-loop-id

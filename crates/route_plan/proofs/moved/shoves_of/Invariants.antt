@@ -1,5 +1,5 @@
 use Rattle.std.proofs.Common.{◌≡◌, map, take}
-use Rattle.route_plan.specs.Ways.{shove_of}
+use Rattle.route_plan.specs.inner.Ways.{shove_of}
 use Rattle.route_plan.proofs.moved.shoves_of.Given as goal
 
 abbrev pub invariant-loop-item : goal.invariant-loop-item

@@ -1,5 +1,5 @@
 use Rattle.std.proofs.Common.{Some, subst}
-use Rattle.route_plan.specs.Plans.{IsRoute, FindsRoute}
+use Rattle.route_plan.specs.inner.Routes.{IsRoute, FindsRoute}
 use Rattle.route_plan.proofs.Clearing.{well_laid}
 use Rattle.route_plan.proofs.passing.passing_route.Goals as goal
 

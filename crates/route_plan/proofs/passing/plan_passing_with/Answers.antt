@@ -1,7 +1,8 @@
 use Rattle.std.proofs.Common.{◌<◌, length, Some, sym, subst, arith}
 use Rattle.cut_certificate.specs.Same.{SameMoves}
 use Rattle.ripup.specs.Rips.{rip_graph}
-use Rattle.route_plan.specs.Plans.{CanPlan, FindsPassing}
+use Rattle.route_plan.specs.Plans.{CanPlan}
+use Rattle.route_plan.specs.inner.Routes.{FindsPassing}
 use Rattle.route_plan.proofs.Clearing.{passing_first, shut_first}
 use Rattle.route_plan.proofs.Planning.{first_net, whole}
 use Rattle.route_plan.proofs.passing.plan_passing_with.Goals as goal

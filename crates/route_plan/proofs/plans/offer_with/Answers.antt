@@ -1,5 +1,5 @@
 use Rattle.std.proofs.Common.{None, subst}
-use Rattle.route_plan.specs.Plans.{IsRoute, FindsRoute}
+use Rattle.route_plan.specs.inner.Routes.{IsRoute, FindsRoute}
 use Rattle.route_plan.proofs.Planning.{legal_offer}
 use Rattle.route_plan.proofs.plans.offer_with.Goals as goal
 

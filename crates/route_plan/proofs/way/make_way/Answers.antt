@@ -3,7 +3,7 @@ use Rattle.pcb_model.specs.declared.item.Metal.{Metal}
 use Rattle.pcb_model.specs.Bounds.{IsItemFit}
 use Rattle.path_wire.specs.Lays.{IsWellLaid}
 use Rattle.board_offers.specs.Items.{added_from}
-use Rattle.route_plan.specs.Ways.{shove_of, MovesAll}
+use Rattle.route_plan.specs.inner.Ways.{shove_of, MovesAll}
 use Rattle.route_plan.proofs.Moving.{shoved_way, ripped_way}
 use Rattle.route_plan.proofs.way.make_way.Goals as goal
 

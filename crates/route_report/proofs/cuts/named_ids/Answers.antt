@@ -2,7 +2,7 @@ use Rattle.std.proofs.Common.{ℕ, Vec, Global, ap, ◌∙◌, ◌||◌, arith}
 use Rattle.cut_certificate.specs.declared.cut.Block.{Block}
 use Rattle.cut_certificate.specs.declared.cut.Blocker.TheVariants.{Item}
 use Rattle.route_report.specs.Report.{is_named}
-use Rattle.route_report.specs.Naming.{holds}
+use Rattle.route_report.specs.inner.Naming.{holds}
 use Rattle.route_report.proofs.Named.{held_all, held_more, held_on}
 use Rattle.route_report.proofs.cuts.named_ids.Goals as goal
 use Rattle.route_report.proofs.cuts.named_ids.Goals.{in-Item+in_ok-push, in_default}

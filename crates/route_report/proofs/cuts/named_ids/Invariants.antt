@@ -1,6 +1,6 @@
 use Rattle.std.proofs.Common.{◌≡◌, ◌||◌, ℕ, drop}
 use Rattle.route_report.specs.Report.{is_named}
-use Rattle.route_report.specs.Naming.{holds}
+use Rattle.route_report.specs.inner.Naming.{holds}
 use Rattle.route_report.proofs.cuts.named_ids.Given as goal
 
 -- an id is held, or a block that is left names it

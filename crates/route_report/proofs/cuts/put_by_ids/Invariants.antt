@@ -1,7 +1,7 @@
 use Rattle.std.proofs.Common.{◌++◌, drop, filter, flat_map}
 use Rattle.ses_writer.proofs.Puts.{Leads}
 use Rattle.route_report.specs.Report.{by_line}
-use Rattle.route_report.specs.Naming.{is_among}
+use Rattle.route_report.specs.inner.Naming.{is_among}
 use Rattle.route_report.proofs.cuts.put_by_ids.Given as goal
 
 -- what is told, and the items of the ids that are left

@@ -9,7 +9,7 @@ use Rattle.pcb_model.specs.declared.design.Net.{Net}
 use Rattle.cut_certificate.specs.declared.cut.Cut.{Cut}
 use Rattle.ses_writer.specs.Words.{Appends}
 use Rattle.route_report.specs.Report.{net_line, net_lines, is_of_net, cut_lines}
-use Rattle.route_report.specs.Tallies.{told_lines}
+use Rattle.route_report.specs.inner.Tallies.{told_lines}
 use Rattle.route_report.proofs.Tallied.{same_lines}
 use Rattle.route_report.proofs.nets.put_nets.Goals as goal
 

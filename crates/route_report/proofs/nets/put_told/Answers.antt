@@ -8,7 +8,7 @@ use Rattle.pcb_model.specs.declared.design.Net.{Net}
 use Rattle.ses_writer.specs.Words.{Appends}
 use Rattle.ses_writer.proofs.Puts.{Leads, leads_on}
 use Rattle.route_report.specs.Report.{net_line}
-use Rattle.route_report.specs.Tallies.{told_lines}
+use Rattle.route_report.specs.inner.Tallies.{told_lines}
 use Rattle.route_report.proofs.Tallied.{all_told, next_front}
 use Rattle.route_report.proofs.nets.put_told.Goals as goal
 

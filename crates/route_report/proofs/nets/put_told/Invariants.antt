@@ -1,7 +1,7 @@
 use Rattle.std.proofs.Common.{◌++◌, drop, flat_map}
 use Rattle.std.specs.List.{enumerate_from}
 use Rattle.ses_writer.proofs.Puts.{Leads}
-use Rattle.route_report.specs.Tallies.{told_lines}
+use Rattle.route_report.specs.inner.Tallies.{told_lines}
 use Rattle.route_report.proofs.nets.put_told.Given as goal
 
 abbrev pub invariant-loop-i : goal.invariant-loop-i

@@ -2,7 +2,7 @@ use Rattle.std.proofs.Common.{List, ◌+◌, get_or, flat_map}
 use Rattle.std.specs.List.{enumerate_from}
 use Rattle.std.proofs.lemmas.List.{get_or_default}
 use Rattle.ses_writer.proofs.Puts.{with_next, leads_on}
-use Rattle.route_report.specs.declared.facts.PassLine.{PassLine}
+use Rattle.route_run.specs.declared.facts.PassLine.{PassLine}
 use Rattle.route_report.specs.Report.{pass_line}
 use Rattle.route_report.proofs.report.put_passes.Goals as goal
 

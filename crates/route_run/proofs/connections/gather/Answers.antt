@@ -1,7 +1,7 @@
 use Rattle.std.proofs.Common.{◌≡◌, ◌∙◌, ◌+◌, ◌≤◌, ℕ, List, [], ◌∷◌, ◌++◌, length, sym, ap, subst, arith}
 use Rattle.std.specs.Prelude.{vec_len}
 use Rattle.pcb_model.specs.declared.design.Design.{Design}
-use Rattle.route_run.specs.Passing.{AreOpenNets, IsOpenNet}
+use Rattle.route_run.specs.inner.Passing.{AreOpenNets, IsOpenNet}
 use Rattle.route_run.proofs.Counting.{IsOne, open_none, open_more, open_same}
 use Rattle.route_run.proofs.connections.gather.Goals.{then-open-gt0+in_ok-push, else-open-gt0}
 use Rattle.route_run.proofs.connections.gather.Goals as goal

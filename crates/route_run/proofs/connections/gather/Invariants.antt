@@ -1,6 +1,6 @@
 use Rattle.std.proofs.Common.{◌≤◌, ◌*◌, ◌^◌}
 use Rattle.std.specs.Prelude.{vec_len}
-use Rattle.route_run.specs.Passing.{AreOpenNets}
+use Rattle.route_run.specs.inner.Passing.{AreOpenNets}
 use Rattle.route_run.proofs.connections.gather.Given as goal
 
 abbrev pub invariant-loop-net : goal.invariant-loop-net

@@ -2,7 +2,7 @@ use Rattle.std.proofs.Common.{◌≤◌, length, sym, subst}
 use Rattle.std.specs.Prelude.{vec_len}
 use Rattle.pcb_model.specs.Sound.{IsSound, Serves}
 use Rattle.pcb_board.specs.Boards.{SnapOf}
-use Rattle.route_run.specs.Passing.{AreOpenNets}
+use Rattle.route_run.specs.inner.Passing.{AreOpenNets}
 use Rattle.route_run.proofs.connections.look_over.Goals as goal
 
 pub gather-gathered-requires-clause-sound : goal.gather-gathered-requires-clause-sound

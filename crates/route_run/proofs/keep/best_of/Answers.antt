@@ -1,5 +1,5 @@
 use Rattle.std.proofs.Common.{◌≡◌, arith, length, subst}
-use Rattle.route_run.specs.Passing.{IsBestOf}
+use Rattle.route_run.specs.inner.Passing.{IsBestOf}
 use Rattle.route_run.proofs.Best.{best}
 use Rattle.route_run.proofs.keep.best_of.Goals as goal
 

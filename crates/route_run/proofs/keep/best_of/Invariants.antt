@@ -1,4 +1,4 @@
-use Rattle.route_run.specs.Passing.{IsBestOf}
+use Rattle.route_run.specs.inner.Passing.{IsBestOf}
 use Rattle.route_run.proofs.keep.best_of.Given as goal
 
 abbrev pub invariant-loop-k : goal.invariant-loop-k

@@ -1,7 +1,8 @@
 use Rattle.std.proofs.Common.{rules, sym, subst}
 use Rattle.pcb_board.specs.Boards.{BoardOf}
 use Rattle.route_run.specs.Runs.{run_from}
-use Rattle.route_run.specs.Passing.{HasPassed, IsTask, Stays}
+use Rattle.route_run.specs.inner.Passing.{HasPassed, Stays}
+use Rattle.route_run.specs.Runs.{IsTask}
 use Rattle.route_run.proofs.Passing.{passed_none}
 use Rattle.route_run.proofs.passes.make_passes.Goals as goal
 

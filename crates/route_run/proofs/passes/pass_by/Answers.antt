@@ -3,7 +3,7 @@ use Rattle.std.proofs.lemmas.Result.{IfOk-weaker}
 use Rattle.route_plan.proofs.Seeing.{still_seen}
 use Rattle.route_run.specs.declared.passes.Stand.{Stand}
 use Rattle.route_run.specs.Runs.{pass_at}
-use Rattle.route_run.specs.Passing.{IsOneMore, StandsAfter}
+use Rattle.route_run.specs.inner.Passing.{IsOneMore, StandsAfter}
 use Rattle.route_run.proofs.Passing.{grown_by}
 use Rattle.route_run.proofs.Sights.{lent_seen}
 use Rattle.route_run.proofs.passes.pass_by.Goals as goal

@@ -1,6 +1,6 @@
 use Rattle.std.proofs.Common.{◌≡◌, length}
 use Rattle.route_run.specs.Runs.{run_from}
-use Rattle.route_run.specs.Passing.{HasPassed, IsReady, MayFollow, Stays}
+use Rattle.route_run.specs.inner.Passing.{HasPassed, IsReady, MayFollow, Stays}
 use Rattle.route_run.proofs.passes.pass_on.Given as goal
 
 abbrev pub invariant-loop-k : goal.invariant-loop-k

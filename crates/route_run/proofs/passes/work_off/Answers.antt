@@ -2,7 +2,7 @@ use Rattle.std.proofs.Common.{ℕ, List, [], Option, sym, subst, arith}
 use Rattle.std.specs.Prelude.{IsTrue}
 use Rattle.searcher_pool.specs.declared.log.WorkerLog.{WorkerLog}
 use Rattle.searcher_pool.specs.Passes.{IsSpent, MetFull}
-use Rattle.route_run.specs.Passing.{AreWorkedOff}
+use Rattle.route_run.specs.inner.Passing.{AreWorkedOff}
 use Rattle.route_run.proofs.Worked.{worked_from}
 use Rattle.route_run.proofs.passes.work_off.Goals as goal
 

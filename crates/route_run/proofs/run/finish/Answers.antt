@@ -1,6 +1,6 @@
 use Rattle.std.proofs.Common.{◌≡◌}
 use Rattle.std.proofs.lemmas.Result.{IfOk-weaker}
-use Rattle.route_run.specs.Passing.{IsFinished, told_of}
+use Rattle.route_run.specs.inner.Passing.{IsFinished, told_of}
 use Rattle.route_run.proofs.Running.{few_ends}
 use Rattle.route_run.proofs.run.finish.Goals as goal
 

@@ -1,7 +1,7 @@
 use Rattle.std.proofs.Common.{◌≡◌, ◌∙◌, ◌<◌, ◌≤◌, List, length, ap, arith, subst, sym}
-use Rattle.route_report.specs.declared.facts.PassLine.{PassLine}
+use Rattle.route_run.specs.declared.facts.PassLine.{PassLine}
 use Rattle.route_run.specs.Runs.{IsBest, entries_after}
-use Rattle.route_run.specs.Passing.{GoesBack}
+use Rattle.route_run.specs.inner.Passing.{GoesBack}
 use Rattle.route_run.proofs.Running.{kept_within, some_lines}
 use Rattle.route_run.proofs.run.keep_best.Goals as goal
 

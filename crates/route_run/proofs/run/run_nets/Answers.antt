@@ -1,7 +1,7 @@
 use Rattle.std.proofs.Common.{rules}
 use Rattle.std.proofs.lemmas.Result.{IfOk-weaker}
 use Rattle.route_run.specs.Runs.{IsRun, run_from}
-use Rattle.route_run.specs.Passing.{IsFinished}
+use Rattle.route_run.specs.inner.Passing.{IsFinished}
 use Rattle.route_run.proofs.Running.{task_begun, task_kept, run_told, new_begun}
 use Rattle.route_run.proofs.run.run_nets.Goals as goal
 

@@ -1,5 +1,5 @@
 use Rattle.std.proofs.Common.{subst, sym}
-use Rattle.route_words.specs.Forms.{Makes, bare_app, gen_app}
+use Rattle.route_words.specs.inner.Forms.{Makes, bare_app, gen_app}
 use Rattle.route_words.proofs.Forming.{none_make, gen_is_plain}
 use Rattle.route_words.proofs.Holding.{gen_found_in, gen_refused}
 use Rattle.route_words.proofs.form.find_gen.Goals as goal

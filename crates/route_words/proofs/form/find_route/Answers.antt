@@ -1,5 +1,5 @@
 use Rattle.std.proofs.Common.{subst, sym}
-use Rattle.route_words.specs.Forms.{Makes, bare_app, route_app}
+use Rattle.route_words.specs.inner.Forms.{Makes, bare_app, route_app}
 use Rattle.route_words.proofs.Forming.{none_make, route_is_plain}
 use Rattle.route_words.proofs.Holding.{route_found_in, route_refused}
 use Rattle.route_words.proofs.form.find_route.Goals as goal

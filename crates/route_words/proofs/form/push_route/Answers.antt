@@ -1,6 +1,6 @@
 use Rattle.std.proofs.Common.{[], ◌∷◌, codes}
 use Rattle.std.proofs.lemmas.Result.{IfOk-weaker}
-use Rattle.route_words.specs.Forms.{Adds, flag, valued}
+use Rattle.route_words.specs.inner.Forms.{Adds, flag, valued}
 use Rattle.route_words.proofs.Forming.{adds_one, flag_is}
 use Rattle.route_words.proofs.form.push_route.Goals as goal
 

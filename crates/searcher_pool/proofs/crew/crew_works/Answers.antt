@@ -2,7 +2,7 @@ use Rattle.std.proofs.Common.{List, subst, sym}
 use Rattle.std.specs.Prelude.{All}
 use Rattle.crossbeam_utils.specs.declared.cache_padded.CachePadded.{CachePadded}
 use Rattle.crossbeam_utils.specs.Padded.{padded_value}
-use Rattle.searcher_pool.specs.Working.{MayWork, pass_of}
+use Rattle.searcher_pool.specs.inner.Working.{MayWork, pass_of}
 use Rattle.searcher_pool.specs.declared.worker.Worker.{Worker}
 use Rattle.searcher_pool.proofs.Spared.{crew_back}
 use Rattle.searcher_pool.proofs.crew.crew_works.Goals as goal

@@ -13,8 +13,8 @@ use Rattle.searcher_pool.specs.declared.log.OfferNote.{OfferNote}
 use Rattle.searcher_pool.specs.declared.log.WorkerLog.{WorkerLog}
 use Rattle.searcher_pool.specs.declared.worker.Worker.{Worker}
 use Rattle.searcher_pool.specs.Passes.{claimed}
-use Rattle.searcher_pool.specs.Working.{EndsDrawn, Knows, Worked, pass_of}
-use Rattle.searcher_pool.specs.Crews.{AreEnded, AreLogsOf, IsLogOf}
+use Rattle.searcher_pool.specs.inner.Working.{EndsDrawn, Knows, Worked, pass_of}
+use Rattle.searcher_pool.specs.inner.Crews.{AreEnded, AreLogsOf, IsLogOf}
 use Rattle.searcher_pool.proofs.Rows.{at_front, at_last, at_push}
 use Rattle.searcher_pool.proofs.Crews.{claimed_push, ended_push, logs_push, no_logs}
 use Rattle.searcher_pool.proofs.crew.dismiss.Goals as goal

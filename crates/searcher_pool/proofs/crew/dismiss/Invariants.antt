@@ -5,8 +5,8 @@ use Rattle.crossbeam_utils.specs.declared.cache_padded.CachePadded.{CachePadded}
 use Rattle.board_turn.specs.Claims.{times}
 use Rattle.searcher_pool.specs.declared.worker.Worker.{Worker}
 use Rattle.searcher_pool.specs.Passes.{claimed}
-use Rattle.searcher_pool.specs.Working.{Worked, pass_of}
-use Rattle.searcher_pool.specs.Crews.{AreEnded, AreLogsOf}
+use Rattle.searcher_pool.specs.inner.Working.{Worked, pass_of}
+use Rattle.searcher_pool.specs.inner.Crews.{AreEnded, AreLogsOf}
 use Rattle.searcher_pool.proofs.crew.dismiss.Given as goal
 
 abbrev pub invariant-loop-padded : goal.invariant-loop-padded

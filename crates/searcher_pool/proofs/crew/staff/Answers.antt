@@ -9,7 +9,7 @@ use Rattle.board_turn.specs.Claims.{hand, less_one, newcomer}
 use Rattle.board_turn.specs.Turns.{PassOf, passes_of}
 use Rattle.board_turn.proofs.Seats.{passes_of-snoc}
 use Rattle.searcher_pool.specs.declared.worker.Worker.{Worker}
-use Rattle.searcher_pool.specs.Working.{MayWork, pass_of}
+use Rattle.searcher_pool.specs.inner.Working.{MayWork, pass_of}
 use Rattle.searcher_pool.proofs.Rows.{at_front, at_last, at_push, ends_same}
 use Rattle.searcher_pool.proofs.Crews.{new_worker}
 use Rattle.searcher_pool.proofs.crew.staff.Goals as goal

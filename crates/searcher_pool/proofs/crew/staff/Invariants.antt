@@ -6,7 +6,7 @@ use Rattle.route_lattice.specs.Mesh.{node_count}
 use Rattle.board_turn.specs.Claims.{hand}
 use Rattle.board_turn.specs.Turns.{passes_of}
 use Rattle.searcher_pool.specs.declared.worker.Worker.{Worker}
-use Rattle.searcher_pool.specs.Working.{MayWork, pass_of}
+use Rattle.searcher_pool.specs.inner.Working.{MayWork, pass_of}
 use Rattle.searcher_pool.proofs.crew.staff.Given as goal
 
 abbrev pub invariant-loop-pass : goal.invariant-loop-pass

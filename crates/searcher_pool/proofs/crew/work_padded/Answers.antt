@@ -1,5 +1,5 @@
 use Rattle.std.proofs.Common.{subst, sym}
-use Rattle.searcher_pool.specs.Working.{MayWork, Worked, pass_of}
+use Rattle.searcher_pool.specs.inner.Working.{MayWork, Worked, pass_of}
 use Rattle.searcher_pool.specs.declared.worker.Worker.{Worker}
 use Rattle.searcher_pool.proofs.crew.work_padded.Goals as goal
 

@@ -15,7 +15,8 @@ use Rattle.route_plan.specs.Sights.{IsSeenOn}
 use Rattle.board_turn.specs.Turns.{TurnOf, count_of, opening, passes_of}
 use Rattle.searcher_pool.specs.declared.log.WorkerLog.{WorkerLog}
 use Rattle.searcher_pool.specs.Passes.{Grows, IsPassed}
-use Rattle.searcher_pool.specs.Working.{IsTask, IsTurnOf, pass_from}
+use Rattle.searcher_pool.specs.inner.Working.{IsTurnOf}
+use Rattle.searcher_pool.specs.Passes.{IsTask, pass_from}
 use Rattle.searcher_pool.proofs.Crews.{grows_by_none}
 use Rattle.searcher_pool.proofs.pass.run_pass_from.Goals as goal
 

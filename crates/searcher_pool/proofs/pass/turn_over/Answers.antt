@@ -1,6 +1,6 @@
 use Rattle.std.proofs.Common.{arith, ◌∙◌, ap, sym, refl}
 use Rattle.board_turn.specs.Claims.{once_below}
-use Rattle.searcher_pool.specs.Working.{pass_of}
+use Rattle.searcher_pool.specs.inner.Working.{pass_of}
 use Rattle.searcher_pool.proofs.Together.{all_passed, grown}
 use Rattle.searcher_pool.proofs.pass.turn_over.Goals as goal
 

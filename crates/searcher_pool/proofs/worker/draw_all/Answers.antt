@@ -8,7 +8,7 @@ use Rattle.board_turn.specs.declared.claims.Hand.{Hand}
 use Rattle.board_turn.specs.Claims.{Claim, CounterOf, drew, saw}
 use Rattle.searcher_pool.specs.declared.worker.Worker.{Worker}
 use Rattle.searcher_pool.specs.Passes.{PassOf}
-use Rattle.searcher_pool.specs.Working.{EndsDrawn, IsDrawn, IsReady, IsSeated, Knows, pass_of}
+use Rattle.searcher_pool.specs.inner.Working.{EndsDrawn, IsDrawn, IsReady, IsSeated, Knows, pass_of}
 use Rattle.board_turn.specs.Turns.{TurnOf}
 use Rattle.searcher_pool.proofs.Ending.{drawn_later, drawn_more, knows_drawn}
 use Rattle.searcher_pool.proofs.worker.draw_all.Goals as goal

@@ -1,5 +1,5 @@
 use Rattle.std.proofs.Common.{◌≡◌}
-use Rattle.searcher_pool.specs.Working.{HasSeen, MayWork, pass_of}
+use Rattle.searcher_pool.specs.inner.Working.{HasSeen, MayWork, pass_of}
 use Rattle.searcher_pool.proofs.worker.draw_all.Given as goal
 
 abbrev pub invariant-loop : goal.invariant-loop

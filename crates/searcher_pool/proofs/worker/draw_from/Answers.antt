@@ -1,4 +1,4 @@
-use Rattle.searcher_pool.specs.Working.{pass_of}
+use Rattle.searcher_pool.specs.inner.Working.{pass_of}
 use Rattle.searcher_pool.proofs.Following.{seen_first}
 use Rattle.searcher_pool.proofs.worker.draw_from.Goals as goal
 

@@ -1,7 +1,7 @@
 use Rattle.std.proofs.Common.{◌∙◌, ◌++◌, ◌∷◌, [], List, ap, refl, subst, sym}
 use Rattle.board_turn.specs.declared.event.Deed.TheVariants.{Idle}
 use Rattle.searcher_pool.specs.declared.log.OfferNote.{OfferNote}
-use Rattle.searcher_pool.specs.Working.{Attempts, pass_of}
+use Rattle.searcher_pool.specs.inner.Working.{Attempts, pass_of}
 use Rattle.searcher_pool.proofs.Steps.{after_noted, offered, quiet}
 use Rattle.searcher_pool.proofs.worker.make.Goals as goal
 

@@ -13,7 +13,7 @@ use Rattle.board_turn.proofs.EventLists.{reaches_grows}
 use Rattle.board_turn.specs.declared.event.Deed.TheVariants.{Looked, Idle}
 use Rattle.searcher_pool.specs.declared.worker.Worker.{Worker}
 use Rattle.searcher_pool.specs.Passes.{PassOf}
-use Rattle.searcher_pool.specs.Working.{Attempts, IsTurnOf, pass_of}
+use Rattle.searcher_pool.specs.inner.Working.{Attempts, IsTurnOf, pass_of}
 use Rattle.searcher_pool.proofs.Following.{fixed_still, seen_still, seen_last, seen_before}
 use Rattle.searcher_pool.proofs.Knowing.{legal}
 use Rattle.searcher_pool.proofs.Steps.{after_on, attempt_on, board_kept, board_seen}

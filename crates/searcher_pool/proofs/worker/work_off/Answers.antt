@@ -2,7 +2,7 @@ use Rattle.std.proofs.Common.{arith, inl, inr, refl, subst, sym, ℕ}
 use Rattle.std.specs.Prelude.{Vec}
 use Rattle.std.specs.declared.alloc.Global.{Global}
 use Rattle.searcher_pool.specs.declared.worker.Attempt.TheVariants.{Joined, Late}
-use Rattle.searcher_pool.specs.Working.{Attempts, IsDrawn, pass_of}
+use Rattle.searcher_pool.specs.inner.Working.{Attempts, IsDrawn, pass_of}
 use Rattle.searcher_pool.proofs.Ending.{late_more, late_still, none_late}
 use Rattle.searcher_pool.proofs.Knowing.{fewer_seen}
 use Rattle.searcher_pool.proofs.Steps.{after_noted, after_on}

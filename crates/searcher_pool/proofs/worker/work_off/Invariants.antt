@@ -1,5 +1,5 @@
 use Rattle.std.proofs.Common.{◌+◌, ◌-◌, ◌≤◌}
-use Rattle.searcher_pool.specs.Working.{HasSeen, IsAfter, IsReady, entries_left, pass_of}
+use Rattle.searcher_pool.specs.inner.Working.{HasSeen, IsAfter, IsReady, entries_left, pass_of}
 use Rattle.searcher_pool.proofs.Ending.{AreLate}
 use Rattle.searcher_pool.proofs.worker.work_off.Given as goal
 

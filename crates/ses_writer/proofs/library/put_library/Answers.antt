@@ -6,7 +6,7 @@ use Rattle.pcb_model.specs.declared.design.Design.{Design}
 use Rattle.pcb_model.specs.declared.design.Padstack.{Padstack}
 use Rattle.pcb_model.specs.declared.item.Item.{Item}
 use Rattle.ses_writer.specs.Session.{library_lines, library_entry, padstack_lines, is_printed, has_via_of}
-use Rattle.ses_writer.specs.Passes.{TellsVias}
+use Rattle.ses_writer.specs.inner.Passes.{TellsVias}
 use Rattle.ses_writer.proofs.Puts.{Leads, with_next, at_end, leads_on, all_put}
 use Rattle.ses_writer.proofs.library.put_library.Goals as goal
 use Rattle.ses_writer.proofs.library.put_library.Goals.{then-index+in_ok-put_padstack, else-index}

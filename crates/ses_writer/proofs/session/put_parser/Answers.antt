@@ -1,6 +1,7 @@
 use Rattle.std.proofs.Common.{◌≡◌, ◌++◌, ℕ, List, Option, None, Some, refl}
 use Rattle.std.specs.Prelude.{codes}
-use Rattle.ses_writer.specs.Session.{parser_lines, host_line, fronted_line}
+use Rattle.ses_writer.specs.Session.{parser_lines, host_line}
+use Rattle.ses_writer.specs.inner.Passes.{fronted_line}
 use Rattle.ses_writer.proofs.Puts.{then_put, put_last}
 use Rattle.ses_writer.proofs.session.put_parser.Goals as goal
 

@@ -1,7 +1,7 @@
 use Rattle.std.proofs.Common.{◌≡◌, ◌<◌, sym, ◌∙◌, ap, subst, length, get_or, arith}
 use Rattle.std.proofs.lemmas.List.{take_all}
 use Rattle.pcb_model.specs.Bounds.{IsItemFit}
-use Rattle.ripup.proofs.Serving.{fixed_at}
+use Rattle.route_plan.proofs.Serving.{fixed_at}
 use Rattle.tests_board.proofs.copper.fixed_list.Goals as goal
 
 pub add_plain-requires-clause-fits : goal.add_plain-requires-clause-fits

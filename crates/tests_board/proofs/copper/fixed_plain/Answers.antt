@@ -1,6 +1,6 @@
 use Rattle.std.proofs.Common.{sym, subst}
 use Rattle.pcb_model.specs.Sound.{Serves}
-use Rattle.ripup.proofs.Serving.{fixed_serve}
+use Rattle.route_plan.proofs.Serving.{fixed_serve}
 use Rattle.tests_board.proofs.copper.fixed_plain.Goals as goal
 
 pub returns : goal.returns

@@ -3,7 +3,7 @@ use Rattle.std.proofs.lemmas.List.{take_all}
 use Rattle.pcb_model.specs.declared.item.Item.{Item}
 use Rattle.pcb_model.specs.Bounds.{IsItemFit}
 use Rattle.pcb_model.specs.Sound.{Serves}
-use Rattle.ripup.proofs.Serving.{fixed_at, fixed_serve}
+use Rattle.route_plan.proofs.Serving.{fixed_at, fixed_serve}
 use Rattle.tests_board.proofs.Serving.{fixed_above}
 use Rattle.tests_board.proofs.copper.fixed_tiles.Goals as goal
 

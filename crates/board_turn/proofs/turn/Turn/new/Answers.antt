@@ -2,7 +2,8 @@ use Rattle.std.proofs.Common.{ap, sym, subst, ◌∙◌, ◌++◌, [], ◌∷◌
 use Rattle.atomic_table.specs.Table.{opening}
 use Rattle.board_turn.specs.declared.lock.Opening.{Opening}
 use Rattle.board_turn.specs.declared.lock.Role.TheVariants.{Free}
-use Rattle.board_turn.specs.Lock.{Slot, Kept, view_of, new_passes}
+use Rattle.board_turn.specs.Lock.{Slot, view_of}
+use Rattle.board_turn.specs.inner.Lock.{Kept, new_passes}
 use Rattle.board_turn.proofs.Moves.{opens}
 use Rattle.board_turn.proofs.turn.Turn.new.Goals as goal
 

@@ -1,7 +1,7 @@
 use Rattle.std.proofs.Common.{◌∙◌, ap}
 use Rattle.board_turn.specs.declared.event.Deed.TheVariants.{Offered, Idle}
 use Rattle.board_turn.specs.Seats.{pass_at, key_of}
-use Rattle.board_turn.specs.Lock.{with_event}
+use Rattle.board_turn.specs.inner.Lock.{with_event}
 use Rattle.board_turn.proofs.Seats.{calls_of}
 use Rattle.board_turn.proofs.turn.Turn.offer.Goals as goal
 

@@ -11,7 +11,7 @@ use Rattle.pcb_board.specs.declared.answer.Entry.TheVariants.{Join}
 use Rattle.pcb_board.specs.declared.board.Board.TheInside.{Inside}
 use Rattle.board_offers.specs.Items.{gone, without, new_items}
 use Rattle.pcb_board.specs.Boards.{BoardOf, given}
-use Rattle.pcb_board.specs.Renewing.{IsRenewed}
+use Rattle.pcb_board.specs.inner.Renewing.{IsRenewed}
 use Rattle.pcb_board.specs.Keeping.{IsBoard}
 use Rattle.pcb_board.specs.Indexing.{board_of}
 use Rattle.board_offers.proofs.Lists.{all_from}

@@ -1,7 +1,7 @@
 use Rattle.std.proofs.Common.{◌≡◌, ◌≤◌, ◌-◌, ℕ, List, Some, sym, subst, arith}
 use Rattle.std.specs.Prelude.{slice_get}
 use Rattle.pcb_board.specs.declared.answer.Entry.TheVariants.{Join, Back}
-use Rattle.pcb_board.specs.Turning.{LeadBack}
+use Rattle.pcb_board.specs.inner.Turning.{LeadBack}
 use Rattle.pcb_board.specs.Indexing.{board_of}
 use Rattle.pcb_board.proofs.Turns.{read_at, lead_join, lead_back}
 use Rattle.pcb_board.proofs.board.Board.joins_to.Goals as goal

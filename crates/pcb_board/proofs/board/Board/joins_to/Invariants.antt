@@ -1,5 +1,5 @@
 use Rattle.std.proofs.Common.{◌≤◌, length}
-use Rattle.pcb_board.specs.Turning.{LeadBack}
+use Rattle.pcb_board.specs.inner.Turning.{LeadBack}
 use Rattle.pcb_board.specs.Indexing.{board_of}
 use Rattle.pcb_board.proofs.board.Board.joins_to.Given as goal
 

@@ -3,7 +3,7 @@ use Rattle.std.proofs.Common.{arith, rules}
 use Rattle.std.specs.Prelude.{IfSome, slice_get, slice_index_or}
 use Rattle.pcb_board.specs.declared.answer.Entry.{Entry}
 use Rattle.pcb_board.specs.Boards.{BoardOf, given, replayed}
-use Rattle.pcb_board.specs.Turning.{LeadBack, MarksJoin, EndsWithin}
+use Rattle.pcb_board.specs.inner.Turning.{LeadBack, MarksJoin, EndsWithin}
 use Rattle.pcb_board.specs.Indexing.{board_of}
 use Rattle.pcb_board.proofs.Prefix.{start_given}
 use Rattle.pcb_board.proofs.Turns.{start_marks, step_within, step_ends, step_reached, step_long}

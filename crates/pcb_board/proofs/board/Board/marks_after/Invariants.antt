@@ -1,5 +1,5 @@
 use Rattle.std.proofs.Common.{◌≡◌, length, vec_len}
-use Rattle.pcb_board.specs.Turning.{IsReached}
+use Rattle.pcb_board.specs.inner.Turning.{IsReached}
 use Rattle.pcb_board.specs.Indexing.{board_of}
 use Rattle.pcb_board.proofs.board.Board.marks_after.Given as goal
 

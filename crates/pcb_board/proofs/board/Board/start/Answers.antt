@@ -3,7 +3,7 @@ use Rattle.pcb_model.specs.declared.design.Design.{Design}
 use Rattle.pcb_model.specs.Plain.{IsPlainCopper}
 use Rattle.pcb_model.specs.Sound.{IsSound}
 use Rattle.pcb_board.specs.Keeping.{IsStarted}
-use Rattle.pcb_board.specs.Loading.{AreLoaded}
+use Rattle.pcb_board.specs.inner.Loading.{AreLoaded}
 use Rattle.pcb_board.proofs.board.Board.start.Goals as goal
 
 pub beginning-requires : goal.beginning-requires

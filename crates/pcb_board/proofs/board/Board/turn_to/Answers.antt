@@ -8,7 +8,7 @@ use Rattle.pcb_board.specs.Snaps.{AreTilesOf}
 use Rattle.board_offers.specs.Given.{AreGiven}
 use Rattle.pcb_board.specs.declared.answer.Entry.TheVariants.{Back}
 use Rattle.pcb_board.specs.declared.board.Board.TheInside.{Inside}
-use Rattle.pcb_board.specs.Turning.{AreTurned, is_marked}
+use Rattle.pcb_board.specs.inner.Turning.{AreTurned, is_marked}
 use Rattle.pcb_model.specs.Sound.{IsSound}
 use Rattle.pcb_board.proofs.Opening.{copied_view, copied_indexed}
 use Rattle.pcb_board.proofs.Returning.{IsReturned, err_any, returned_view, returned_indexed}

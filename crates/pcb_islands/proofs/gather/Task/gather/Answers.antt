@@ -3,7 +3,7 @@ use Rattle.std.specs.Prelude.{OnOk}
 use Rattle.std.proofs.lemmas.List.{take_more}
 use Rattle.std.proofs.lemmas.Option.{slice_get_within}
 use Rattle.std.proofs.lemmas.Result.{on_ok_weaker}
-use Rattle.pcb_islands.specs.Progress.{IsProgress}
+use Rattle.pcb_islands.specs.inner.Progress.{IsProgress}
 use Rattle.pcb_islands.proofs.Classes.{pad_in}
 use Rattle.pcb_islands.proofs.Gathering.{joins, opens}
 use Rattle.pcb_islands.proofs.gather.Task.gather.Goals as goal

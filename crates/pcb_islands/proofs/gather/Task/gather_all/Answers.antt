@@ -2,7 +2,7 @@ use Rattle.std.proofs.Common.{◌≡◌, ◌≤◌, ℕ, List, [], length, take,
 use Rattle.std.proofs.lemmas.List.{take_all}
 use Rattle.pcb_islands.specs.declared.net.Island.{Island}
 use Rattle.pcb_islands.specs.Islands.{pins_of, AreIslandsOf}
-use Rattle.pcb_islands.specs.Progress.{IsProgress}
+use Rattle.pcb_islands.specs.inner.Progress.{IsProgress}
 use Rattle.pcb_islands.proofs.Gathering.{none_gathered}
 use Rattle.pcb_islands.proofs.gather.Task.gather_all.Goals as goal
 

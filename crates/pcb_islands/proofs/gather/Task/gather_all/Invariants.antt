@@ -1,5 +1,5 @@
 use Rattle.std.proofs.Common.{take}
-use Rattle.pcb_islands.specs.Progress.{IsProgress}
+use Rattle.pcb_islands.specs.inner.Progress.{IsProgress}
 use Rattle.pcb_islands.proofs.gather.Task.gather_all.Given as goal
 
 abbrev pub invariant-loop-k : goal.invariant-loop-k

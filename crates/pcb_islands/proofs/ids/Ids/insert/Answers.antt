@@ -1,5 +1,5 @@
 use Rattle.std.proofs.Common.{List, ℕ, subst}
-use Rattle.pcb_islands.specs.Numbers.{IsWith}
+use Rattle.pcb_islands.specs.inner.Numbers.{IsWith}
 use Rattle.pcb_islands.proofs.Sets.{inserted}
 use Rattle.pcb_islands.proofs.ids.Ids.insert.Goals as goal
 

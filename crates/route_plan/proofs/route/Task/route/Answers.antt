@@ -4,7 +4,8 @@ use Rattle.route_lattice.specs.Mesh.{node_count}
 use Rattle.route_lattice.specs.Walks.{Answers, IsLeastWalk, to_of}
 use Rattle.cut_certificate.specs.Cuts.{IsGoal}
 use Rattle.cut_certificate.proofs.Making.{starts_in_lattice}
-use Rattle.route_plan.specs.Plans.{moves_of, IsAnchored, IsAnchoredIn}
+use Rattle.route_plan.specs.Plans.{moves_of}
+use Rattle.route_plan.specs.inner.Routes.{IsAnchored, IsAnchoredIn}
 use Rattle.route_plan.proofs.Routing.{net_walk_of, ends_at, last_place, first_place, some_node}
 use Rattle.route_plan.proofs.route.Task.route.Goals as goal
 

@@ -1,6 +1,0 @@
-use Rattle.std.proofs.Common.{pos, sym}
-use Rattle.geo_kernel.proofs.Paths.{loop_of}
-use Rattle.geo_kernel.proofs.path.loop_path.Goals as goal
-
-pub returns-clause-links : goal.returns-clause-links
-returns-clause-links c = sym (loop_of (record { x = pos 0; y = pos 0 }) c.args.points.now c.requires.some)

@@ -1,0 +1,174 @@
+-- What the private functions of a run keep and answer.
+use Rattle.std.specs.Prelude.{◌≡◌, ◌⊎◌, ℕ, ◌+◌, ◌-◌, ◌<◌, ◌≤◌, Bool, IfSome, IsTrue, not, vec_len}
+use Rattle.std.specs.Prelude.{List, [], ◌∷◌, ◌++◌, flat_map, length, sum_by, slice_get, slice_index_or}
+use Rattle.std.specs.Prelude.{All, Contains, Option, Some}
+use Rattle.pcb_model.specs.declared.item.Item.{Item}
+use Rattle.pcb_model.specs.declared.design.Design.{Design}
+use Rattle.pcb_islands.specs.declared.net.Island.{Island}
+use Rattle.pcb_islands.specs.Islands.{AreIslands}
+use Rattle.route_lattice.specs.Mesh.{Mesh, node_count}
+use Rattle.route_plan.specs.declared.sight.Sight.{Sight}
+use Rattle.route_plan.specs.Sights.{IsSeenOn}
+use Rattle.board_offers.specs.declared.offer.Offer.{Offer}
+use Rattle.pcb_board.specs.declared.answer.Entry.TheVariants.{Join}
+use Rattle.pcb_board.specs.Boards.{BoardOf, board_at}
+use Rattle.pcb_board.specs.Answers.{taken_back}
+use Rattle.pcb_board.specs.Keeping.{IsBoard}
+use Rattle.least_offer.specs.Least.{IsLeastOffer}
+use Rattle.cut_certificate.specs.declared.cut.Cut.{Cut}
+use Rattle.closing_pass.specs.declared.closed.Closed.{Closed}
+use Rattle.closing_pass.specs.Closing.{IsClosedOut}
+use Rattle.searcher_pool.specs.Passes.{PassOf, Grows, IsSpent}
+use Rattle.route_run.specs.declared.facts.PassLine.{PassLine}
+use Rattle.route_run.specs.declared.connections.OpenNets.{OpenNets}
+use Rattle.route_run.specs.declared.passes.Made.{Made}
+use Rattle.route_run.specs.declared.run.Kept.{Kept}
+use Rattle.route_run.specs.declared.run.Routed.{Routed}
+use Rattle.route_run.specs.declared.passes.Stand.{Stand}
+use Rattle.route_run.specs.Runs.{RunOf, IsOpenCount, HasSeveral, IsWorkedOff, ArePasses, AreLeast, HaveEnded, IsBest}
+use Rattle.route_run.specs.Runs.{complete_from, entries_after, HadRoom, pass_at}
+
+-- ---- what is open
+-- so many connections of the net are open
+pub record IsOpenNet (d : Design) (items : List Item) (net count : ℕ) : Type 0 where
+  pub found : List Island
+  pub islands : AreIslands d items net found
+  pub count_is : count ≡ length found - 1
+
+-- of the first n nets those that have several islands, and how many connections are open
+pub record AreOpenNets (d : Design) (items : List Item) (n : ℕ) (nets : List ℕ) (count : ℕ) : Type 0 where
+  pub within : All (λ net. net < n) nets
+  pub all : (net : ℕ) → net < n → HasSeveral d items net → Contains nets net
+  pub found : List (List Island)
+  pub found_all : length found ≡ n
+  pub islands : (net : ℕ) (own : List Island) → slice_get found net ≡ Some own → AreIslands d items net own
+  pub sum_is : count ≡ sum_by (λ (own : List Island). length own - 1) found
+
+-- so it is with all nets of a board
+pub record AreOpenOn (b : BoardOf) (open_nets : OpenNets) : Type 0 where
+  pub few : vec_len open_nets.nets ≤ length b.design.nets
+  pub are : AreOpenNets b.design b.items (length b.design.nets) open_nets.nets.items open_nets.count
+
+-- ---- passes
+-- The nets with several islands were worked off, by joins of the pass's workers, each of them a least offer. Where the
+-- board was full for an offer, it takes no more, and else no offer met a full board.
+pub record AreWorkedOff (p : PassOf) (old new : BoardOf) (full : Bool) : Type 0 where
+  pub grows : Grows p old new
+  pub board : IsBoard new
+  pub worked : (net : ℕ) → net < length old.design.nets → HasSeveral old.design old.items net
+      → IsWorkedOff p new (length old.history) (length new.history) net
+  pub least : (n : ℕ) (o : Offer) (first after : ℕ) → length old.history ≤ n
+      → slice_get new.history n ≡ Some (Join o first after)
+      → (o.base ≤ n) × IsLeastOffer p.lattice p.via_cost (board_at new o.base) o
+  pub spent : IsTrue full → IsSpent new
+  pub room : IsTrue (not full) → HadRoom p new (length old.history) (length new.history)
+
+-- a pass was made: its nets were worked off, and its line counts its joins and what is open now
+pub record IsMade (p : PassOf) (old : BoardOf) (made : Made) : Type 0 where
+  pub nets : AreWorkedOff p old made.board made.full
+  pub commits : length old.history + made.line.commits ≡ length made.board.history
+  pub leaves : IsOpenCount made.board.design made.board.items made.line.parted
+
+-- the pass's line counts the entries behind those that stood before, and what is open
+pub record IsMadeAfter (board : BoardOf) (full : Bool) (before : ℕ) (made : Made) : Type 0 where
+  pub board_is : made.board ≡ board
+  pub full_is : made.full ≡ full
+  pub commits_are : before + made.line.commits ≡ length board.history
+  pub open_nets : AreOpenOn made.board made.open_nets
+  pub parted_is : made.line.parted ≡ made.open_nets.count
+
+-- why no pass follows the one of this number
+abbrev pub EndsBy : ℕ → PassLine → Bool → Type 0
+EndsBy number line full = (line.parted ≡ 0) ⊎ (((1 < number) × (line.commits ≡ 0)) ⊎ IsTrue full)
+
+-- what is open on the board is known, and what was seen before was of it
+pub record IsReady (m : Mesh) (stand : Stand) : Type 0 where
+  pub open_nets : AreOpenOn stand.board stand.open_nets
+  pub last : IfSome stand.last (IsSeenOn m stand.board)
+
+-- the line of the pass of this number is the last one, and it is told whether a further one may follow
+pub record StandsAfter (number : ℕ) (made : Made) (last : Option Sight) (lines : List PassLine) (new : Stand)
+    (more_lines : List PassLine) (more : Bool) : Type 0 where
+  pub board_is : new.board ≡ made.board
+  pub open_nets_are : new.open_nets ≡ made.open_nets
+  pub last_is : new.last ≡ last
+  pub lines_are : more_lines ≡ lines ++ made.line ∷ []
+  pub goes_on : IsTrue more → (0 < made.line.parted) × (1 < number → 0 < made.line.commits) × IsTrue (not made.full)
+  pub ended : IsTrue (not more) → EndsBy number made.line made.full
+
+-- so it stands after the pass of this number was made
+pub record IsOneMore (p : PassOf) (number : ℕ) (old : BoardOf) (lines : List PassLine) (new : Stand)
+    (more_lines : List PassLine) (more : Bool) : Type 0 where
+  pub made : Made
+  pub is : IsMade p old made
+  pub open_nets : AreOpenOn made.board made.open_nets
+  pub last : Option Sight
+  pub seen : IfSome last (IsSeenOn p.lattice made.board)
+  pub stands : StandsAfter number made last lines new more_lines more
+
+-- passes were made, by least offers, and nothing else stands in the history
+pub record HasPassed (m : Mesh) (r : RunOf) (b : BoardOf) (lines : List PassLine) : Type 0 where
+  pub board : IsBoard b
+  pub passes : ArePasses m r b lines
+  pub least : AreLeast m r.via_cost b
+  pub no_more : length b.history ≡ entries_after lines (length lines)
+
+-- a further pass may follow these
+abbrev pub MayFollow : Mesh → RunOf → BoardOf → List PassLine → Type 0
+MayFollow m r b lines = (k : ℕ) (line : PassLine) → slice_get lines k ≡ Some line → k + 1 ≡ length lines
+    → (0 < line.parted) × (0 < k → 0 < line.commits)
+    × HadRoom (pass_at m r.via_cost r.workers (k + 1)) b (entries_after lines k) (entries_after lines k + line.commits)
+
+-- a board keeps its design, its start list and its cap
+pub record Stays (old new : BoardOf) : Type 0 where
+  pub design_stays : new.design ≡ old.design
+  pub start_stays : new.start ≡ old.start
+  pub cap_stays : new.cap ≡ old.cap
+
+-- ---- the pass that is kept
+-- of the first n passes the one at this place is the first after which the least is open
+pub record IsBestOf (lines : List PassLine) (n place : ℕ) : Type 0 where
+  pub within : place < n
+  pub least : (k : ℕ) (d : PassLine) → k < n
+      → (slice_index_or lines place d).parted ≤ (slice_index_or lines k d).parted
+  pub first : (k : ℕ) (d : PassLine) → k < place
+      → (slice_index_or lines place d).parted < (slice_index_or lines k d).parted
+
+-- where the last pass is kept the board stays, and else it goes back to the end of the kept one
+abbrev pub GoesBack : List PassLine → ℕ → BoardOf → BoardOf → Type 0
+GoesBack lines kept old new =
+    ((kept ≡ length lines) × (new ≡ old))
+    ⊎ ((kept < length lines) × (entries_after lines kept ≤ length old.history)
+    × (new ≡ taken_back old (entries_after lines kept)))
+
+-- passes were made over the first board until they ended, and the board stands at the end of the kept one
+pub record IsKept (m : Mesh) (r : RunOf) (first : BoardOf) (kept : Kept) : Type 0 where
+  pub passed : BoardOf
+  pub same : Stays first passed
+  pub has : HasPassed m r passed kept.lines
+  pub ended : HaveEnded r passed kept.lines
+  pub best : IsBest kept.lines kept.kept
+  pub gone : GoesBack kept.lines kept.kept passed kept.board
+
+-- what is told of a run that the closing pass ended
+abbrev pub told_of : Mesh → List ℕ → List PassLine → ℕ → Closed → Routed
+told_of m dropped lines kept closed = record {
+  board = closed.board;
+  facts = record {
+    grid = m.grid;
+    nodes = node_count m;
+    dropped = dropped;
+    passes = lines;
+    kept = kept;
+    joins = closed.joins;
+    complete = complete_from 0 closed.ends;
+    cuts = flat_map (λ (cuts : List Cut). cuts) closed.ends;
+  };
+}
+
+-- the closing pass was made from the end of the kept pass, and is told
+pub record IsFinished (m : Mesh) (via_cost : ℕ) (kept : Kept) (dropped : List ℕ) (routed : Routed) : Type 0 where
+  pub closed : Closed
+  pub out : IsClosedOut m via_cost kept.board closed
+  pub board : IsBoard closed.board
+  pub told : routed ≡ told_of m dropped kept.lines kept.kept closed

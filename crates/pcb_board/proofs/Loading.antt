@@ -30,8 +30,8 @@ use Rattle.pcb_tiles.specs.Spread.{Spread, holding, ServesSpread}
 use Rattle.board_offers.proofs.Lists.{all_from, found_at, in_here, none_pass}
 use Rattle.pcb_board.specs.declared.load.Loaded.{Loaded}
 use Rattle.pcb_board.specs.Boards.{Loads, free_item}
-use Rattle.pcb_board.specs.inner.Loading.{IsLoaded, IsKept, LoadsOne, AreLoaded}
 use Rattle.pcb_board.specs.Snaps.{AreTilesOf}
+use Rattle.pcb_board.specs.inner.Loading.{IsLoaded, IsKept, LoadsOne, AreLoaded}
 use Rattle.pcb_board.proofs.Starting.{loaded_more, fixed_loaded}
 
 -- ---- a legal list with one more routed item

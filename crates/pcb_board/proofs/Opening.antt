@@ -13,9 +13,10 @@ use Rattle.pcb_board.specs.declared.answer.Entry.{Entry}
 use Rattle.pcb_board.specs.declared.board.Board.TheInside.{Inside}
 use Rattle.pcb_board.specs.Boards.{BoardOf, Starts, worker_entries}
 use Rattle.pcb_board.specs.declared.load.Loaded.{Loaded}
-use Rattle.pcb_board.specs.Indexing.{AreIndexed, AreNumbered}
-use Rattle.pcb_board.specs.inner.Loading.{AreLoaded}
+use Rattle.pcb_board.specs.Indexing.{AreIndexed}
+use Rattle.pcb_board.specs.Indexing.{AreNumbered}
 use Rattle.pcb_board.specs.Snaps.{AreTilesOf}
+use Rattle.pcb_board.specs.inner.Loading.{AreLoaded}
 use Rattle.pcb_board.specs.Keeping.{IsBoard, started}
 use Rattle.pcb_board.specs.Indexing.{board_of, IsIndexed}
 use Rattle.pcb_board.proofs.Committing.{boarded}

@@ -11,8 +11,8 @@ ghost use Rattle.pcb_model.specs.Board.{IsLegal, IsMade, IsRouted};
 ghost use Rattle.pcb_model.specs.Sound.{IsSound, IsFreeSound};
 ghost use Rattle.pcb_tiles.specs.Tiling.{IsArea};
 ghost use Rattle.pcb_tiles.specs.Spread.{holding, ServesSpread};
-ghost use Rattle.pcb_board.specs.inner.Loading.{IsKept, LoadsOne, AreFixed, AreLoaded};
 ghost use Rattle.pcb_board.specs.Snaps.{AreTilesOf};
+ghost use Rattle.pcb_board.specs.inner.Loading.{IsKept, LoadsOne, AreFixed, AreLoaded};
 
 use crate::renew::add_copy;
 use geo_kernel::{List, Point, Rect4, Spine, box_of};

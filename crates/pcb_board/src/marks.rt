@@ -9,9 +9,9 @@ ghost use Rattle.pcb_model.specs.Sound.{IsSound};
 ghost use Rattle.board_offers.specs.declared.offer.Shoved.{Shoved as OneShove};
 ghost use Rattle.board_offers.specs.Items.{is_on};
 ghost use Rattle.board_offers.specs.Given.{AreGiven};
+ghost use Rattle.pcb_board.specs.Snaps.{AreTilesOf};
 ghost use Rattle.pcb_board.specs.inner.Turning.{ArePut, IsRangePut, MarksJoin, EndsWithin, AreTurned};
 ghost use Rattle.pcb_board.specs.inner.Turning.{is_marked as marked};
-ghost use Rattle.pcb_board.specs.Snaps.{AreTilesOf};
 
 use crate::answer::Entry;
 use crate::load::empty_tiles;

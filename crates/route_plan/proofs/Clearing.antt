@@ -28,8 +28,9 @@ use Rattle.least_offer.specs.Together.{StandTogether}
 use Rattle.route_plan.specs.declared.way.Way.{Way}
 use Rattle.route_plan.specs.inner.Ways.{MakesWayOn}
 use Rattle.route_plan.specs.declared.route.Route.{Route}
-use Rattle.route_plan.specs.Plans.{IsSnapOf, CanPlan, IsShutFrom, IsShutIn, IsOfferOf, StandsAt, IsPlanOf}
+use Rattle.route_plan.specs.Plans.{IsSnapOf, CanPlan, IsShutFrom, IsShutIn}
 use Rattle.route_plan.specs.inner.Routes.{IsRoute, IsPassingOffer, IsPassing}
+use Rattle.route_plan.specs.Plans.{IsOfferOf, IsPlanOf, StandsAt}
 use Rattle.route_plan.proofs.Offering.{net_at, joins, least}
 use Rattle.route_plan.proofs.Planning.{on_board, number_is, shut_in, split, some_left}
 use Rattle.route_plan.proofs.Routing.{net_walk_of}

@@ -21,7 +21,7 @@ use Rattle.route_plan.specs.declared.plans.Led.{Led}
 use Rattle.route_plan.specs.declared.plans.Led.TheVariants as led
 use Rattle.route_plan.specs.declared.plans.Planned.{Planned}
 use Rattle.route_plan.specs.declared.plans.Planned.TheVariants as planned
-use Rattle.least_offer.specs.Least.{IsLeastOffer, MayBeMade, TakesNothing, JoinsLeast}
+use Rattle.least_offer.specs.Least.{IsLeastOffer, JoinsLeast, MayBeMade, TakesNothing}
 
 -- the snapshot is one of a board of a sound design of plain copper
 pub record IsSnapOf (s : SnapOf) (b : BoardOf) : Type 0 where

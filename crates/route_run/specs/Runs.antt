@@ -17,11 +17,11 @@ use Rattle.least_offer.specs.Least.{IsLeastOffer}
 use Rattle.route_plan.specs.Plans.{IsWhole}
 use Rattle.cut_certificate.specs.declared.cut.Cut.{Cut}
 use Rattle.closing_pass.specs.Closing.{Closes, AreEnds}
-use Rattle.searcher_pool.specs.Passes.{PassOf, Between, IsJoinOf, IsShutOn, IsSpent, IsPassed, MetFull}
+use Rattle.searcher_pool.specs.declared.log.WorkerLog.{WorkerLog}
+use Rattle.searcher_pool.specs.Passes.{PassOf, Between, IsJoinOf, IsPassed, IsShutOn, IsSpent, MetFull}
 use Rattle.route_run.specs.declared.facts.PassLine.{PassLine}
 use Rattle.route_run.specs.declared.facts.Facts.{Facts}
 use Rattle.route_lattice.specs.Fits.{FitsDesign}
-use Rattle.searcher_pool.specs.declared.log.WorkerLog.{WorkerLog}
 
 -- what a run goes by: the price of a via in nm, how many workers there are, and how many passes there may be
 pub record RunOf : Type 0 where

@@ -26,7 +26,8 @@ use Rattle.searcher_pool.specs.declared.worker.Worker.{Worker}
 use Rattle.searcher_pool.specs.declared.worker.Attempt.{Attempt}
 use Rattle.searcher_pool.specs.declared.worker.Attempt.TheVariants.{Ended, Joined, Late}
 use Rattle.searcher_pool.specs.Passes.{Between, IsShutOn, PassOf, note_of}
-use Rattle.searcher_pool.specs.inner.Working.{Attempts, EndsSeen, IsAfter, IsDrawn, IsPlanned, IsReady, IsTurnOf, Knows}
+use Rattle.searcher_pool.specs.inner.Working.{Attempts, EndsSeen, IsAfter, IsDrawn, IsPlanned, IsReady, IsTurnOf}
+use Rattle.searcher_pool.specs.inner.Working.{Knows}
 use Rattle.searcher_pool.specs.inner.Working.{attempt_of}
 use Rattle.board_turn.proofs.EventLists.{reaches_grows, reaches_one}
 use Rattle.searcher_pool.proofs.Seen.{longer}

@@ -1,10 +1,8 @@
 use Rattle.std.proofs.Common.{◌≡◌, take}
 use Rattle.std.specs.List.{filter}
 use Rattle.pcb_model.specs.declared.item.Item.{Item}
-use Rattle.pcb_model.specs.Bounds.{HasClearancesWithin}
-use Rattle.pcb_tiles.specs.Tiling.{IsArea}
-use Rattle.pcb_board.specs.inner.Turning.{is_marked}
 use Rattle.pcb_board.specs.Snaps.{AreTilesOf}
+use Rattle.pcb_board.specs.inner.Turning.{is_marked}
 use Rattle.pcb_board.proofs.marks.marked_tiles.Given as goal
 
 abbrev pub invariant-loop-item : goal.invariant-loop-item

@@ -4,7 +4,7 @@ use Rattle.pcb_model.specs.declared.design.Design.{Design}
 use Rattle.route_run.specs.Runs.{HaveEnded, run_from, pass_at}
 use Rattle.route_run.specs.inner.Passing.{EndsBy, HasPassed, MayFollow}
 use Rattle.route_run.specs.Runs.{IsTask}
-use Rattle.route_run.proofs.Passing.{made_on, pass_more, ready_on, follow_more}
+use Rattle.route_run.proofs.Passing.{follow_more, made_on, pass_more, ready_on}
 use Rattle.route_run.proofs.Running.{ended_by, ended_last, follow_none, stays_same, stays_on}
 use Rattle.route_run.proofs.passes.pass_on.Goals as goal
 

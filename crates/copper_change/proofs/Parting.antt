@@ -4,12 +4,11 @@ use Rattle.std.proofs.Common.{cond, not, ◌||◌, refl, sym, ◌∙◌, ap, sub
 use Rattle.std.specs.Prelude.{All, Contains}
 use Rattle.std.specs.List.{filter}
 use Rattle.std.proofs.lemmas.Bool.{eq-eqb, or_left, or_right, or_from, ne_eqb, cases_order}
-use Rattle.std.proofs.lemmas.List.{append-nil}
 use Rattle.std.proofs.lemmas.List.Elements.{All-tail, filter-append}
 use Rattle.pcb_model.specs.declared.item.Item.{Item}
 use Rattle.pcb_model.specs.Copper.{Ascends, IsFirstFrom}
 use Rattle.copper_change.specs.Changes.{has_id, alone, IsSince, AreOneById, IsMerge, IsChange}
-use Rattle.copper_change.proofs.Listing.{AreBelow, none_below, one_below, all_below, all_by, in_here, in_later}
+use Rattle.copper_change.proofs.Listing.{AreBelow, one_below, all_below, all_by, in_here, in_later}
 use Rattle.copper_change.proofs.Listing.{all_front, pairs_rest}
 
 -- ---- the ids of a list
@@ -29,11 +28,6 @@ has_no_id (b ∷ items) x none =
     (has_no_id items x (All-tail (λ (c : Item). c.id ≡ x → ⊥) b items none))
 
 -- ---- items that another list lacks
--- an item of an id that the other has isn't alone
-pub one_not_alone : (lone other : List Item) (x : Item) → has_id other x.id ≡ true → lone ≡ lone ++ alone (x ∷ []) other
-one_not_alone lone other x has =
-    sym (append-nil lone) ∙ ap (λ (t : Bool). lone ++ cond (not t) (x ∷ []) []) (sym has)
-
 -- an item of an id that the other lacks is alone
 pub one_alone : (lone other : List Item) (x : Item) → has_id other x.id ≡ false
     → lone ++ x ∷ [] ≡ lone ++ alone (x ∷ []) other
@@ -44,10 +38,6 @@ pub record AreLoneTo (items other : List Item) (from : ℕ) (lone : List Item) :
   pub done : List Item
   pub are : AreBelow items from done
   pub lone_is : lone ≡ alone done other
-
--- none are below 0
-pub lone_first : (items other : List Item) → AreLoneTo items other 0 []
-lone_first items other = record { done = []; are = none_below items; lone_is = refl }
 
 -- the first item from the id on comes next
 pub lone_next : (items other : List Item) (from next : ℕ) (x : Item) (lone after : List Item) → Ascends items

@@ -15,8 +15,8 @@ use Rattle.geo_kernel.proofs.Segments.{less}
 use Rattle.geo_kernel.proofs.Paths.{Any-here, Any-cases, Any-nil}
 use Rattle.geo_kernel.proofs.Parity.{xor, odd, le_yes, le_no, lt_yes, lt_no}
 use Rattle.geo_kernel.proofs.Moves.{spine_moved, any_moved}
+use Rattle.geo_kernel.proofs.Solid.{told_by_odd}
 use Rattle.spine_cover.specs.Covering.{CoversBy}
-use Rattle.spine_cover.proofs.Stretching.{told_by_odd}
 
 -- ---- inside
 le_moved : (a x y : ℤ) → int_le (x +ℤ a) (y +ℤ a) ≡ int_le x y

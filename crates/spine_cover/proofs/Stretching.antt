@@ -1,27 +1,18 @@
 -- A picture n times as large: what is inside stays inside, and along a segment that meets no edge points are inside
 -- alike.
-use Rattle.std.proofs.Common.{◌≡◌, ℕ, ◌%◌, ◌<◌, ◌++◌, List, [], ◌∷◌, map, All, ℤ, pos, ◌-ℤ◌, ◌*ℤ◌, ◌≤ℤ◌, ◌<ℤ◌, int_lt}
-use Rattle.std.proofs.Common.{int_le, ◌&&◌, Bool, true, false, cond, not, count_by, refl, sym, ap, ap₂, ◌∙◌, subst}
-use Rattle.std.proofs.Common.{arith}
-use Rattle.std.proofs.lemmas.Int.{ints, by_lt_z}
+use Rattle.std.proofs.Common.{◌≡◌, ℕ, ◌<◌, ◌++◌, List, [], ◌∷◌, map, All}
+use Rattle.std.proofs.Common.{refl, sym, ap, ap₂, ◌∙◌, subst}
 use Rattle.std.proofs.lemmas.List.{map-append}
 use Rattle.std.proofs.lemmas.List.Elements.{All-head, All-tail, All-map}
-use borrow.Author.Differences.{true_is_lt, false_is_lt, true_is_le, false_is_le}
 use Rattle.geo_kernel.specs.declared.point.Point.{Point}
 use Rattle.geo_kernel.specs.Nearest.{Cross}
 use Rattle.geo_kernel.specs.Spine.{Segment, links, last_of, loop_segments, area_segments, is_right, IsInside}
 use Rattle.geo_kernel.specs.Solid.{stretched, IsInsideAt}
-use Rattle.geo_kernel.proofs.Ring.{ring, ◌⊖◌, ◌⊗◌, x0, x1, x2, x3, x4, x5, x6}
-use Rattle.geo_kernel.proofs.Order.{scale, cancel}
-use Rattle.geo_kernel.proofs.Paths.{bit, All-append_first, All-append_second}
+use Rattle.geo_kernel.proofs.Paths.{All-append_first, All-append_second}
 use Rattle.geo_kernel.proofs.Parity.{xor, odd, NoneCross, same_parity}
-use Rattle.geo_kernel.proofs.Solid.{odd-append, count_odd}
+use Rattle.geo_kernel.proofs.Solid.{odd-append, told_by_odd, right_stretched}
 
 -- ---- along a segment that meets no edge
-pub told_by_odd : (f h : Segment → Bool) (gs hs : List Segment) → odd f gs ≡ odd h hs → (count_by f gs % 2 ≡ 1)
-    → (count_by h hs % 2 ≡ 1)
-told_by_odd f h gs hs e c = count_odd h hs ∙ ap bit (sym e) ∙ sym (count_odd f gs) ∙ c
-
 module _ (p x : Point) where
   abbrev Missed : Segment → Type 0
   Missed e = ¬ (Cross p x e.from e.to)
@@ -60,86 +51,8 @@ module _ (p x : Point) where
   inside_before loops h =
       told_by_odd (is_right x) (is_right p) (area_segments loops) (area_segments loops) (sym (area_same loops h))
 
--- ---- a point counts the same n times as large
+-- ---- the segments n times as large
 module _ (n : ℕ) (positive : 0 < n) where
-  some_n : pos 0 <ℤ pos n
-  some_n = omega (arith, ints)
-
-  lt_stretched : (a b : ℤ) → int_lt (pos n *ℤ a) (pos n *ℤ b) ≡ int_lt a b
-  lt_stretched a b =
-      by_lt_z a b
-      (λ l. yes_lt _ _ (strict a b l) ∙ sym (yes_lt a b l))
-      (λ l. no_lt _ _ (scale (pos n) b a (weak n) l) ∙ sym (no_lt a b l))
-    where
-      weak : (n : ℕ) → pos 0 ≤ℤ pos n
-      weak n = omega (arith, ints)
-
-      yes_lt : (a b : ℤ) → a <ℤ b → int_lt a b ≡ true
-      yes_lt a b h = sym (true_is_lt a b (omega (arith, ints)))
-
-      no_lt : (a b : ℤ) → b ≤ℤ a → int_lt a b ≡ false
-      no_lt a b h = sym (false_is_lt a b (omega (arith, ints)))
-
-      clash : (a b : ℤ) → a <ℤ b → b ≤ℤ a → ⊥
-      clash a b h k = omega (arith, ints)
-
-      strict : (a b : ℤ) → a <ℤ b → (pos n *ℤ a) <ℤ (pos n *ℤ b)
-      strict a b h =
-          by_lt_z (pos n *ℤ a) (pos n *ℤ b) (λ l. l) (λ l. absurd (clash a b h (cancel (pos n) b a some_n l)))
-
-  le_stretched : (a b : ℤ) → int_le (pos n *ℤ a) (pos n *ℤ b) ≡ int_le a b
-  le_stretched a b = turned (pos n *ℤ a) (pos n *ℤ b) ∙ ap not (lt_stretched b a) ∙ sym (turned a b)
-    where
-      turned : (a b : ℤ) → int_le a b ≡ not (int_lt b a)
-      turned a b =
-          by_lt_z b a (λ l. no_le a b l ∙ sym (ap not (yes_lt b a l))) (λ l. yes_le a b l ∙ sym (ap not (no_lt b a l)))
-        where
-          yes_lt : (a b : ℤ) → a <ℤ b → int_lt a b ≡ true
-          yes_lt a b h = sym (true_is_lt a b (omega (arith, ints)))
-
-          no_lt : (a b : ℤ) → b ≤ℤ a → int_lt a b ≡ false
-          no_lt a b h = sym (false_is_lt a b (omega (arith, ints)))
-
-          yes_le : (a b : ℤ) → a ≤ℤ b → int_le a b ≡ true
-          yes_le a b h = sym (true_is_le a b (omega (arith, ints)))
-
-          no_le : (a b : ℤ) → b <ℤ a → int_le a b ≡ false
-          no_le a b h = sym (false_is_le a b (omega (arith, ints)))
-
-  turn_stretched : (px py fx fy tx ty : ℤ) →
-      (pos n *ℤ tx -ℤ pos n *ℤ fx) *ℤ (pos n *ℤ py -ℤ pos n *ℤ fy) -ℤ (pos n *ℤ ty -ℤ pos n *ℤ fy) *ℤ
-      (pos n *ℤ px -ℤ pos n *ℤ fx)
-      ≡ pos n *ℤ (pos n *ℤ ((tx -ℤ fx) *ℤ (py -ℤ fy) -ℤ (ty -ℤ fy) *ℤ (px -ℤ fx)))
-  turn_stretched px py fx fy tx ty = ring (pos n ∷ px ∷ py ∷ fx ∷ fy ∷ tx ∷ ty ∷ [])
-      ((x0 ⊗ x5 ⊖ x0 ⊗ x3) ⊗ (x0 ⊗ x2 ⊖ x0 ⊗ x4) ⊖ (x0 ⊗ x6 ⊖ x0 ⊗ x4) ⊗ (x0 ⊗ x1 ⊖ x0 ⊗ x3))
-      (x0 ⊗ (x0 ⊗ ((x5 ⊖ x3) ⊗ (x2 ⊖ x4) ⊖ (x6 ⊖ x4) ⊗ (x1 ⊖ x3)))) tt
-
-  nil : pos n *ℤ pos 0 ≡ pos 0
-  nil = omega (arith, ints)
-
-  above_stretched : (z : ℤ) → int_lt (pos 0) (pos n *ℤ (pos n *ℤ z)) ≡ int_lt (pos 0) z
-  above_stretched z = ap (λ o. int_lt o (pos n *ℤ (pos n *ℤ z))) (sym nil) ∙ lt_stretched (pos 0) (pos n *ℤ z)
-      ∙ ap (λ o. int_lt o (pos n *ℤ z)) (sym nil) ∙ lt_stretched (pos 0) z
-
-  below_stretched : (z : ℤ) → int_lt (pos n *ℤ (pos n *ℤ z)) (pos 0) ≡ int_lt z (pos 0)
-  below_stretched z = ap (λ o. int_lt (pos n *ℤ (pos n *ℤ z)) o) (sym nil) ∙ lt_stretched (pos n *ℤ z) (pos 0)
-      ∙ ap (λ o. int_lt (pos n *ℤ z) o) (sym nil) ∙ lt_stretched z (pos 0)
-
-  same_test : (a b c d e f g h i j : Bool) → a ≡ f → b ≡ g → c ≡ h → d ≡ i → e ≡ j
-      → cond a (b && c) (d && e) ≡ cond f (g && h) (i && j)
-  same_test a b c d e f g h i j p q r s t = cc
-
-  right_stretched : (p u v : Point) → is_right (stretched n p) (record { from = stretched n u; to = stretched n v })
-      ≡ is_right p (record { from = u; to = v })
-  right_stretched p u v =
-      same_test _ _ _ _ _ _ _ _ _ _ (le_stretched u.y p.y) (lt_stretched p.y v.y)
-      (ap (int_lt (pos 0)) (turn_stretched p.x p.y u.x u.y v.x v.y)
-      ∙ above_stretched ((v.x -ℤ u.x) *ℤ (p.y -ℤ u.y) -ℤ (v.y -ℤ u.y) *ℤ (p.x -ℤ u.x)))
-      (le_stretched v.y p.y)
-      (ap (λ z. int_lt z (pos 0)) (turn_stretched p.x p.y u.x u.y v.x v.y)
-      ∙ below_stretched ((v.x -ℤ u.x) *ℤ (p.y -ℤ u.y) -ℤ (v.y -ℤ u.y) *ℤ (p.x -ℤ u.x)))
-
-  -- ---- the segments n times as large
   abbrev pub larger : Segment → Segment
   larger g = record { from = stretched n g.from; to = stretched n g.to }
 
@@ -165,7 +78,7 @@ module _ (n : ℕ) (positive : 0 < n) where
 
   odd_larger : (p : Point) (gs : List Segment) → odd (is_right (stretched n p)) (map larger gs) ≡ odd (is_right p) gs
   odd_larger p [] = refl
-  odd_larger p (g ∷ gs) = ap₂ xor (right_stretched p g.from g.to) (odd_larger p gs)
+  odd_larger p (g ∷ gs) = ap₂ xor (right_stretched n positive p g.from g.to) (odd_larger p gs)
 
   area_odd : (p : Point) (loops : List (List Point))
       → odd (is_right (stretched n p)) (area_segments (map (map (stretched n)) loops))

@@ -109,7 +109,8 @@ module _ (m : Mesh) (via_cost : ℕ) (b : BoardOf) (s : Shoved) (island : Island
       → IsStated (legal_graph b.design m (on 0) net via_cost) starts goals w
   stated_aside o net starts goals w rip shoves none net_is st =
       subst (λ (n : ℕ). IsStated (legal_graph b.design m (on 0) n via_cost) starts goals w) net_is
-      (stated_beside b.design m o.net via_cost (without (s.id ∷ []) b.items) (item_at (given b) s.id) s.chain (id_of o) 0
+      (stated_beside b.design m o.net via_cost (without (s.id ∷ []) b.items) (item_at (given b) s.id) s.chain
+      (id_of o) 0
       starts goals w
       (subst (λ (xs : List Item). IsStated (legal_graph b.design m xs o.net via_cost) starts goals w)
       (moved_on b o s rip shoves)

@@ -1,5 +1,6 @@
 -- A set of nodes that legal moves don't leave with an item, nor without it.
-use Rattle.std.proofs.Common.{◌≡◌, ℕ, zero, suc, ◌<◌, List, [], ◌∷◌, ◌==◌, Bool, true, false, not, cond, Option, Some, None}
+use Rattle.std.proofs.Common.{◌≡◌, ℕ, zero, suc, ◌<◌, List, [], ◌∷◌, ◌==◌, Bool, true, false, not, cond, Option, Some}
+use Rattle.std.proofs.Common.{None}
 use Rattle.std.proofs.Common.{refl, sym, ap, ◌∙◌, subst, inl, inr, ◌⊎◌, arith, true≢false}
 use Rattle.std.proofs.lemmas.Bool.{eqb-true}
 use Rattle.std.specs.Prelude.{Contains, Any, ◌||◌}
@@ -42,10 +43,12 @@ in_or_not (x ∷ xs) v = elim (same_or_not x v) [
     nowhere (suc k, within, is) n f = f (k, omega (arith, within), is)
 
 -- an item with another id stays
-stays : (id : ℕ) (items : List Item) (a : Item) → Contains items a → (a.id ≡ id → ⊥) → Contains (without (id ∷ []) items) a
+stays : (id : ℕ) (items : List Item) (a : Item) → Contains items a → (a.id ≡ id → ⊥)
+    → Contains (without (id ∷ []) items) a
 stays id [] a (k, within, is) n = absurd (omega (arith, within))
 stays id (x ∷ items) a (zero, within, is) n =
-    here x a (without (id ∷ []) items) (names (id ∷ []) x.id) (unnamed x.id (λ e. n (ap (λ (y : Item). y.id) (sym is) ∙ e))) is
+    here x a (without (id ∷ []) items) (names (id ∷ []) x.id)
+    (unnamed x.id (λ e. n (ap (λ (y : Item). y.id) (sym is) ∙ e))) is
   where
     here : (x a : Item) (rest : List Item) (b : Bool) → b ≡ false → x ≡ a → Contains (cond (not b) (x ∷ rest) rest) a
     here x a rest true e is = absurd (true≢false e)
@@ -88,7 +91,8 @@ module _ (d : Design) (m : Mesh) (items : List Item) (net via_cost id : ℕ) (no
         absurd (by_block found is_open)
   ]
     where
-      by_block : Any (IsOf node hop.index) blocked → IsOpen d (without (id ∷ []) items) net (probe_at d m net node hop.index)
+      by_block : Any (IsOf node hop.index) blocked
+          → IsOpen d (without (id ∷ []) items) net (probe_at d m net node hop.index)
           → ⊥
       by_block (k, b, inside, is, of) is_open2 =
           let b_in : Contains blocked b = (k, inside, is) in

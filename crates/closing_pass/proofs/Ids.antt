@@ -87,7 +87,8 @@ stated_alike g h same starts goals w s = record {
   small = s.small;
 }
 
-pub stated_beside : (d : Design) (m : Mesh) (net via_cost : ℕ) (xs : List Item) (a : Item) (chain : List Point) (i k : ℕ)
+pub stated_beside : (d : Design) (m : Mesh) (net via_cost : ℕ) (xs : List Item) (a : Item) (chain : List Point)
+    (i k : ℕ)
     → StatedAlike (legal_graph d m (beside d xs a chain i) net via_cost)
     (legal_graph d m (beside d xs a chain k) net via_cost)
 stated_beside d m net via_cost xs a chain i k = stated_alike (legal_graph d m (beside d xs a chain i) net via_cost)

@@ -96,8 +96,8 @@ Rejoins d m via_cost net most items next (w ∷ ws) =
     × Rejoins d m via_cost net most (items ++ added_from d net next metals) (next + length metals) ws
 
 -- ---- settled moves
--- The settled move of this offer and these walks is there, and helps. The offer joins the island past the item with this
--- id, which it takes out or moves aside; the walks join the item's net until it has no more islands than before.
+-- The settled move of this offer and these walks is there, and helps. The offer joins the island past the item with
+-- this id, which it takes out or moves aside; the walks join the item's net until it has no more islands than before.
 pub record Helps (m : Mesh) (via_cost : ℕ) (b : BoardOf) (island : Island) (others : List Island) (id : ℕ) (o : Offer)
     (walks : List Walk) : Type 0 where
   pub closer : IsCloserOffer b island.net o

@@ -16,8 +16,8 @@ ghost use Rattle.route_lattice.specs.Legal.{legal_graph};
 ghost use Rattle.closing_pass.specs.Ids.{beside, IdsChangeNothing, StatedAlike};
 ghost use Rattle.closing_pass.specs.Gate.{IsPassedOver, StaysWithin};
 
-/// Two offers for an island that take out the same item, or move it aside to the same chain, and lay stated walks add the
-/// same copper.
+/// Two offers for an island that take out the same item, or move it aside to the same chain, and lay stated walks add
+/// the same copper.
 pub fn one_way_out()
     ensures aside { (m : Mesh) (via_cost : ℕ) (b : BoardOf) (s : OneShove) (island : OneIsland) (others : Seq OneIsland)
         (o p : OneOffer) → o.rip ≡ [] → p.rip ≡ [] → o.shoves ≡ s ∷ [] → p.shoves ≡ s ∷ [] → o.penalty ≡ None
@@ -36,11 +36,11 @@ pub fn stays_within()
         → StaysWithin d m items net via_cost id nodes }
 {}
 
-/// The id of a wire that was moved aside changes neither the moves beside it nor which nodes are legal, and so no stated
-/// walk.
+/// The id of a wire that was moved aside changes neither the moves beside it nor which nodes are legal, and so no
+/// stated walk.
 pub fn ids_change_nothing()
     ensures moves { IdsChangeNothing }
-    ensures walks { (d : TheDesign) (m : Mesh) (net via_cost : ℕ) (xs : Seq OneItem) (a : OneItem) (chain : Seq OnePoint)
-        (i k : ℕ) → StatedAlike (legal_graph d m (beside d xs a chain i) net via_cost)
+    ensures walks { (d : TheDesign) (m : Mesh) (net via_cost : ℕ) (xs : Seq OneItem) (a : OneItem)
+        (chain : Seq OnePoint) (i k : ℕ) → StatedAlike (legal_graph d m (beside d xs a chain i) net via_cost)
         (legal_graph d m (beside d xs a chain k) net via_cost) }
 {}

@@ -1,6 +1,7 @@
 -- Where a move of a net leads, one leads back.
 use Rattle.std.proofs.Common.{◌≡◌, ℕ, zero, suc, ◌<◌, ◌≤◌, ◌+◌, ◌-◌, ◌*◌, ◌/◌, ◌%◌, List, length, Some, None}
-use Rattle.std.proofs.Common.{Bool, true, false, not, ◌&&◌, cond, arith, refl, sym, ap, ap₂, ◌∙◌, subst, ltb-true, le-ltb}
+use Rattle.std.proofs.Common.{Bool, true, false, not, ◌&&◌, cond, arith, refl, sym, ap, ap₂, ◌∙◌, subst, ltb-true}
+use Rattle.std.proofs.Common.{le-ltb}
 use Rattle.std.proofs.Common.{inl, inr, ◌==◌}
 use Rattle.std.specs.Prelude.{nat_lt, slice_index}
 use Rattle.std.proofs.lemmas.Bool.{cases_lt}
@@ -97,7 +98,8 @@ module _ (m : Mesh) (v : ℕ) (there : v < node_count m) where
       ap (λ n. column m n) (sym (left (length m.xs) (length m.ys) v k))
       ∙ column_at m (level m v) (row m v) (column m v - 1) h in
       let some : 0 < v = omega (arith, k, mod_le v (length m.xs)) in
-      let s = right_step m (v - 1) (length m.xs) (length m.ys) 0 refl refl refl (omega (arith, e, k, c_there)) in record {
+      let s = right_step m (v - 1) (length m.xs) (length m.ys) 0 refl refl refl (omega (arith, e, k, c_there)) in
+      record {
         index = 0;
         move = Step 0;
         listed = omega arith;
@@ -213,7 +215,8 @@ module _ (d : Design) (m : Mesh) (v p t : ℕ) (there : v < node_count m) (below
       first false x e = cc
 
 -- the index of the via back
-module _ (d : Design) (m : Mesh) (net v i : ℕ) (there : v < node_count m) (big : 4 ≤ i) (i_there : i < way_count d m net) where
+module _ (d : Design) (m : Mesh) (net v i : ℕ) (there : v < node_count m) (big : 4 ≤ i)
+    (i_there : i < way_count d m net) where
   abbrev L : ℕ
   L = length m.layers
 

@@ -45,7 +45,8 @@ impl CloseTo<'_> {
     // The segment against a path of `t`.
     fn is_path(&self, g: Segment, path: &Path<'_>) -> bool
         ensures { IsTrue result ↔ Any
-            (IsClose self.now.how self.now.k.value (record { from = g.from.at; to = g.to.at })) (links path.now.start path.now.rest.now) }
+            (IsClose self.now.how self.now.k.value (record { from = g.from.at; to = g.to.at }))
+            (links path.now.start path.now.rest.now) }
     {
         let mut last = path.start;
         for p in path.rest {
@@ -64,7 +65,8 @@ impl CloseTo<'_> {
     // The segment against the loops of `t`.
     fn is_area(&self, g: Segment, area: &Loops<'_>) -> bool
         ensures { IsTrue result ↔ Any
-            (IsClose self.now.how self.now.k.value (record { from = g.from.at; to = g.to.at })) (area_segments area.now.loops.now) }
+            (IsClose self.now.how self.now.k.value (record { from = g.from.at; to = g.to.at }))
+            (area_segments area.now.loops.now) }
     {
         for points in area.loops {
             let points = Points {

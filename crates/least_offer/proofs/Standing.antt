@@ -589,7 +589,8 @@ module _ (m : Mesh) (via_cost : ℕ) (b : BoardOf) (o : Offer)
         points = enough_points m (chain_of item.metal) r way_up chain fit.shoved;
         within = chain_within d m (chain_of item.metal) r way_up chain fits
             (wire_within item.metal (is_given item item_in).fits.metal_fits) fit.shoved;
-        inside = subst (λ (mt : Metal). AreInside d.bounds (pieces_of d mt)) (chain_same chain item.metal) fit.fits.inside;
+        inside = subst (λ (mt : Metal). AreInside d.bounds (pieces_of d mt)) (chain_same chain item.metal)
+            fit.fits.inside;
       }
 
       on_moved : (P : Item → Type 0) → P moved → All P (replaced d (given b) o)

@@ -1,7 +1,8 @@
 //! Laws of a walk's copper, for the proofs of callers.
 //! The functions do nothing; a call brings the law that its clauses state.
 
-ghost use Rattle.std.specs.Prelude.{◌≡◌, ℕ, ◌+◌, ◌*◌, ◌<◌, ◌≤◌, ◌∷◌, List as Seq, All, Any, Contains, length, map, Some};
+ghost use Rattle.std.specs.Prelude.{◌≡◌, ℕ, ◌+◌, ◌*◌, ◌<◌, ◌≤◌, ◌∷◌, List as Seq, All, Any, Contains, length, map};
+ghost use Rattle.std.specs.Prelude.{Some};
 ghost use Rattle.geo_kernel.specs.declared.point.Point.{Point as OnePoint};
 ghost use Rattle.pcb_model.specs.declared.item.Item.{Item as OneItem};
 ghost use Rattle.pcb_model.specs.declared.item.Metal.{Metal as OneMetal};

@@ -151,7 +151,8 @@ module _ (d : Design) (m : ℕ) (pairs : All (IsPairCovered d m) d.pairs) (one o
               | inr h ↦
                   let u : p.a ≡ y = eqb-true p.a y h.0 in
                   let v : p.b ≡ x = eqb-true p.b x h.1 in
-                  subst Within (pairs_swapped d (Some y) (Some x)) (subst Within (λ i. pairs_of d (Some (u i)) (Some (v i)))
+                  subst Within (pairs_swapped d (Some y) (Some x))
+                  (subst Within (λ i. pairs_of d (Some (u i)) (Some (v i)))
                   (s.1.each b a (f ∙ ap Some (sym u)) (e ∙ ap Some (sym v)) one other))
             ]
       ]

@@ -1,6 +1,7 @@
 -- The rules of class pairs as one set.
 use Rattle.std.proofs.Common.{◌≡◌, ℕ, ◌<◌, ◌+◌, ◌++◌, ◌∷◌, [], Bool, true, false, cond, List, length, take, get_or}
-use Rattle.std.proofs.Common.{Option, Some, None, filter, flat_map, reverse, refl, sym, ap, ◌∙◌, ◌&&◌, ◌||◌, ◌==◌, max, arith}
+use Rattle.std.proofs.Common.{Option, Some, None, filter, flat_map, reverse, refl, sym, ap, ◌∙◌, ◌&&◌, ◌||◌, ◌==◌, max}
+use Rattle.std.proofs.Common.{arith}
 use Rattle.std.specs.Option.{option_or, option_map, unwrap_or}
 use Rattle.std.specs.List.{find}
 use Rattle.std.proofs.lemmas.List.{take_more, reverse-append, append-nil}

@@ -118,8 +118,9 @@ fn raised_by_nets(d: &Design, p: &ClassPair, a: u32, b: u32, least: u64) -> u64
     raised_between_kind(d, p, a, b, Kind::Area, smd)
 }
 
-// The greatest of a number and the values of a pair, where both of its classes have nets. A pair without a greater value
-// of its own raises nothing: what its classes' pairs give is the own value of one of these, which is looked at in turn.
+// The greatest of a number and the values of a pair, where both of its classes have nets. A pair without a greater
+// value of its own raises nothing: what its classes' pairs give is the own value of one of these, which is looked at in
+// turn.
 fn raised_by_pair(d: &Design, p: &ClassPair, least: u64) -> u64
     requires reached { IsValue d.now least }
     requires few_nets { length d.now.nets ≤ 2 ^ 26 }

@@ -1,6 +1,8 @@
 -- What a pass keeps while it comes to nodes.
-use Rattle.std.proofs.Common.{◌≡◌, ℕ, zero, suc, ◌+◌, ◌<◌, ◌≤◌, List, [], ◌∷◌, ◌++◌, length, map, take, get_or, replicate}
-use Rattle.std.proofs.Common.{Option, Some, Bool, true, false, not, cond, refl, sym, ap, ◌∙◌, subst, inl, inr, ◌⊎◌, arith}
+use Rattle.std.proofs.Common.{◌≡◌, ℕ, zero, suc, ◌+◌, ◌<◌, ◌≤◌, List, [], ◌∷◌, ◌++◌, length, map, take, get_or}
+use Rattle.std.proofs.Common.{replicate}
+use Rattle.std.proofs.Common.{Option, Some, Bool, true, false, not, cond, refl, sym, ap, ◌∙◌, subst, inl, inr, ◌⊎◌}
+use Rattle.std.proofs.Common.{arith}
 use Rattle.std.specs.Prelude.{Contains, slice_get, AllPairs}
 use Rattle.std.proofs.lemmas.List.Kept.{AllPairs-from_increasing}
 use Rattle.std.specs.List.{count_by}
@@ -125,7 +127,8 @@ pub told_more : (paths : List (List ℕ)) (old new : Pass) (v place : ℕ) (back
 told_more paths old new v place back t fresh within place_is a =
     let path : List ℕ = v ∷ back in
     let more : List (List ℕ) = paths ++ path ∷ [] in record {
-      nodes_are = a.nodes_are ∙ ap (λ (l : List ℕ). l ++ v ∷ []) t.nodes_are ∙ sym (map-append first_of paths (path ∷ []));
+      nodes_are = a.nodes_are ∙ ap (λ (l : List ℕ). l ++ v ∷ []) t.nodes_are
+          ∙ sym (map-append first_of paths (path ∷ []));
       many = omega (
         arith,
         ap (length {A = ℕ}) a.before_is,
@@ -381,7 +384,11 @@ adds_next old mid new fresh i place a h all one =
 pub all_below : (xs ys : List ℕ) (count n : ℕ) → ((v : ℕ) → Contains xs v → Contains ys v)
     → All (λ s. s < count) ys → n ≡ count → (k d : ℕ) → k < length xs → get_or xs k d < n
 all_below xs ys count n f all e k d h =
-    omega (arith, All-contains (λ s. s < count) ys (get_or xs k d) all (f (get_or xs k d) (Contains-get_or xs k d h)), e)
+    omega (
+      arith,
+      All-contains (λ s. s < count) ys (get_or xs k d) all (f (get_or xs k d) (Contains-get_or xs k d h)),
+      e,
+    )
 
 -- a node that it came to has a label
 pub node_there : (graph : MoveGraph) (starts goals : List ℕ) (t : List (Option Label)) (most : ℕ) (p : Pass) (k : ℕ)
@@ -398,7 +405,8 @@ node_there graph starts goals t most p k a seeded h u e =
     by (x ∷ back) c = within t u c.0.after c.0.there
 
 -- a pass that has come to no node
-pub blank_pass : (count : ℕ) (p : Pass) → p.nodes.items ≡ [] → p.before.items ≡ [] → p.marks.items ≡ replicate count false
+pub blank_pass : (count : ℕ) (p : Pass) → p.nodes.items ≡ [] → p.before.items ≡ []
+    → p.marks.items ≡ replicate count false
     → IsBlankPass count p
 blank_pass count p ne be me = record {
   told = record {

@@ -1,6 +1,7 @@
 -- A pass over steps comes to each node first by the path that comes before all others to it.
 use Rattle.std.proofs.Common.{◌≡◌, ℕ, ◌<◌, List, [], ◌∷◌, ◌++◌, map, refl, sym, ap, ◌∙◌, subst, inl, inr, ◌⊎◌, arith}
-use Rattle.wave_search.specs.inner.Spreads.{Has, IsPath, IsBefore, IsAtMost, AllBefore, InOrder, IsCovered, IsSpread, AllAbove}
+use Rattle.wave_search.specs.inner.Spreads.{Has, IsPath, IsBefore, IsAtMost, AllBefore, InOrder, IsCovered, IsSpread}
+use Rattle.wave_search.specs.inner.Spreads.{AllAbove}
 use Rattle.wave_search.specs.inner.Spreads.{Ascend, AreFresh, onto}
 
 -- ---- lists
@@ -20,7 +21,8 @@ has_cases (z ∷ xs) ys x h = elim h [
 ]
 
 -- an element of mapped numbers
-pub mapped : (path : List ℕ) (xs : List ℕ) (p : List ℕ) → Has (map (onto path) xs) p → (v : ℕ) × Has xs v × (v ∷ path ≡ p)
+pub mapped : (path : List ℕ) (xs : List ℕ) (p : List ℕ) → Has (map (onto path) xs) p
+    → (v : ℕ) × Has xs v × (v ∷ path ≡ p)
 mapped path [] p h = absurd h
 mapped path (x ∷ xs) p h = elim h [
   | inl e ↦ (x, inl refl, e)
@@ -106,7 +108,8 @@ mapped_order path (x ∷ xs) f = (
   mapped_order path xs f.1,
 )
 
-pub append_assoc : {X : Type 0} (xs : List X) (y : X) (ys zs : List X) → (xs ++ y ∷ []) ++ (ys ++ zs) ≡ (xs ++ y ∷ ys) ++ zs
+pub append_assoc : {X : Type 0} (xs : List X) (y : X) (ys zs : List X)
+    → (xs ++ y ∷ []) ++ (ys ++ zs) ≡ (xs ++ y ∷ ys) ++ zs
 append_assoc [] y ys zs = refl
 append_assoc {X} (x ∷ xs) y ys zs = ap (λ (l : List X). x ∷ l) (append_assoc xs y ys zs)
 
@@ -153,7 +156,8 @@ goes_on R T done rest u back fresh s f =
         | inr b ↦ elim b [
           | inl e ↦ subst (λ (l : List ℕ). IsCovered ((done ++ path ∷ []) ++ (rest ++ new)) (v ∷ l) v) e
               (elim (f.every v (subst (λ (y : ℕ). T y v) (sym (head_of u x back ys e)) t)) [
-                | inl k ↦ record { back = path; there = into_new (v ∷ path) (in_mapped path fresh v k); most = inr refl }
+                | inl k ↦
+                    record { back = path; there = into_new (v ∷ path) (in_mapped path fresh v k); most = inr refl }
                 | inr k ↦ record {
                   back = k.0;
                   there = into_old (v ∷ k.0) k.1;

@@ -1,5 +1,6 @@
 -- Of the walks of the least price the first is the one whose path the pass comes to first.
-use Rattle.std.proofs.Common.{◌≡◌, ℕ, ◌+◌, ◌<◌, ◌≤◌, List, [], ◌∷◌, ◌++◌, length, map, reverse, Option, Some, None, refl, sym}
+use Rattle.std.proofs.Common.{◌≡◌, ℕ, ◌+◌, ◌<◌, ◌≤◌, List, [], ◌∷◌, ◌++◌, length, map, reverse, Option, Some, None}
+use Rattle.std.proofs.Common.{refl, sym}
 use Rattle.std.proofs.Common.{ap, ◌∙◌, subst, inl, inr, ◌⊎◌, arith}
 use Rattle.std.specs.Prelude.{Contains}
 use Rattle.std.proofs.lemmas.List.{reverse-append}
@@ -255,7 +256,10 @@ module _ (graph : MoveGraph) (starts goals : List ℕ) (low : ℕ → ℕ) (t : 
         let w = label_walk g priced.label priced.there priced.done in
         let tights = all_tight w.from w.hops g w.starts_in cg w.leads (omega (arith, w.price_is, priced.price_is)) in
         let end = path_end w.hops w.from g [] w.leads in
-        (end.0, subst (IsPath (Contains starts) (IsStep graph t)) end.1 (tight_path w.hops w.from [] w.starts_in tights.0))
+        (
+          end.0,
+          subst (IsPath (Contains starts) (IsStep graph t)) end.1 (tight_path w.hops w.from [] w.starts_in tights.0),
+        )
 
     -- ---- the moves of the least indices
     first_indices : (u : ℕ) (hs ks : List Hop) → AllLeast graph t u hs → AllTight graph t u ks

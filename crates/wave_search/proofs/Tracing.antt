@@ -130,7 +130,8 @@ begun graph starts t roots v l there none nodes moves ne me =
 
 -- a tight move behind
 pub passed_on : (graph : MoveGraph) (starts nodes : List ℕ) (moves : List Move) (at paid to price : ℕ)
-    → Passed graph starts nodes moves at paid → (mv : Move) (tight : IsTight graph at paid to price) → tight.hop.move ≡ mv
+    → Passed graph starts nodes moves at paid → (mv : Move) (tight : IsTight graph at paid to price)
+    → tight.hop.move ≡ mv
     → (nodes' : List ℕ) (moves' : List Move) → nodes' ≡ nodes ++ to ∷ [] → moves' ≡ moves ++ mv ∷ []
     → Passed graph starts nodes' moves' to price
 passed_on graph starts nodes moves at paid to price p mv tight is nodes' moves' ne me = let h : Hop = tight.hop in

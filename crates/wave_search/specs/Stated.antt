@@ -35,7 +35,8 @@ AnswersStated graph starts goals (Found.Closed r) = NoneLeads graph starts goals
 
 -- it is a least one
 abbrev pub AreLeastStated : MoveGraph → Type 0
-AreLeastStated graph = (starts goals : List ℕ) (w : Walk) → IsStated graph starts goals w → IsLeastWalk graph starts goals w
+AreLeastStated graph = (starts goals : List ℕ) (w : Walk) → IsStated graph starts goals w
+    → IsLeastWalk graph starts goals w
 
 -- and there is one, whatever the order of starts and goals
 abbrev pub AreOneStated : MoveGraph → Type 0

@@ -13,7 +13,8 @@ ghost use Rattle.std.specs.List.Sorted.{IsStrictlyIncreasing};
 ghost use Rattle.std.specs.Prelude.{slice_index_or, ◌+◌};
 ghost use Rattle.route_lattice.specs.Walks.{NoneCostsLess};
 ghost use Rattle.wave_search.specs.inner.State.{IsExact};
-ghost use Rattle.wave_search.specs.inner.Passing.{IsMarked, Adds, AreNew, LeadsTo, AddsAll, IsBlankPass, IsPriced, EndsAt};
+ghost use Rattle.wave_search.specs.inner.Passing.{IsMarked, Adds, AreNew, LeadsTo, AddsAll, IsBlankPass, IsPriced};
+ghost use Rattle.wave_search.specs.inner.Passing.{EndsAt};
 ghost use Rattle.wave_search.specs.Stated.{IsStated};
 ghost use Rattle.wave_search.specs.inner.State.{IsFirstGoal};
 
@@ -239,7 +240,8 @@ impl<'a, M: Moves, B: Bound, T: Ties> Query<'a, M, B, T> {
         requires bound { IsBound (M.graph self.now.m.now) self.now.goals.now (B.low_of self.now.b.now) }
         requires starts { All (λ s. s < (M.graph self.now.m.now).count) self.now.starts.now }
         requires marked { (v : ℕ) → (Contains self.now.marks.now v ↔ Contains self.now.goals.now v) }
-        requires exact { IsExact (M.graph self.now.m.now) self.now.starts.now (B.low_of self.now.b.now) table.now price }
+        requires exact { IsExact (M.graph self.now.m.now) self.now.starts.now (B.low_of self.now.b.now) table.now
+            price }
         requires small { (v : ℕ) (l : TheLabel) → label_at table.now v ≡ Some l → l.price < 2 ^ 60 }
         requires none_less { NoneCostsLess (M.graph self.now.m.now) self.now.starts.now self.now.goals.now price }
         requires goal { (g : ℕ) × Contains self.now.goals.now g × IsPriced table.now g price }
@@ -278,7 +280,8 @@ impl<'a, M: Moves, B: Bound, T: Ties> Query<'a, M, B, T> {
         requires ready { M.ready self.now.m.now }
         requires sound { IsSound (M.graph self.now.m.now) }
         requires bound { IsBound (M.graph self.now.m.now) self.now.goals.now (B.low_of self.now.b.now) }
-        requires exact { IsExact (M.graph self.now.m.now) self.now.starts.now (B.low_of self.now.b.now) table.now price }
+        requires exact { IsExact (M.graph self.now.m.now) self.now.starts.now (B.low_of self.now.b.now) table.now
+            price }
         requires small { (v : ℕ) (l : TheLabel) → label_at table.now v ≡ Some l → l.price < 2 ^ 60 }
         requires none_less { NoneCostsLess (M.graph self.now.m.now) self.now.starts.now self.now.goals.now price }
         requires price { price < 2 ^ 60 }

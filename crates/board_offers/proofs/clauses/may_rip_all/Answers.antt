@@ -11,7 +11,8 @@ loop-id-preserved c =
     let xs = c.args.rip.now in
     let i = c.loop-id.id-index in
     passed_here (λ x. IsSomeAnd (slice_get c.args.given.now x) (IsInTheWayOf c.args.d.now c.args.net c.args.added.now))
-    xs i (get_or xs i 0) c.loop-id-test.true (get_or_default xs i 0 (get_or xs i 0) c.loop-id-test.true) c.loop-id.invariant
+    xs i (get_or xs i 0) c.loop-id-test.true (get_or_default xs i 0 (get_or xs i 0) c.loop-id-test.true)
+    c.loop-id.invariant
     (c.may_rip.ensures.0 c.if-not-may_rip.false)
 
 pub returns-then-not-may_rip : goal.returns-then-not-may_rip

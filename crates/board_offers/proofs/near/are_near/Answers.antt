@@ -10,7 +10,8 @@ loop-p-preserved c =
     let xs = c.args.points.now in
     let i = c.loop-p.p-index in
     passed_here (IsWithin (2 ^ 29)) xs i (get_or xs i origin) c.loop-p-test.true
-    (get_or_default xs i origin (get_or xs i origin) c.loop-p-test.true) c.loop-p.invariant (c.is_near.ensures.0 c.if-not-is_near.false)
+    (get_or_default xs i origin (get_or xs i origin) c.loop-p-test.true) c.loop-p.invariant
+    (c.is_near.ensures.0 c.if-not-is_near.false)
 
 pub returns-then-not-is_near : goal.returns-then-not-is_near
 returns-then-not-is_near c =

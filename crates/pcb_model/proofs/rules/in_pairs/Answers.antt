@@ -3,7 +3,8 @@ use Rattle.std.specs.Option.{option_or, unwrap_or}
 use Rattle.std.proofs.lemmas.List.{take_all}
 use Rattle.pcb_model.specs.declared.design.Typed.{Typed}
 use Rattle.pcb_model.specs.declared.design.ClassPair.{ClassPair}
-use Rattle.pcb_model.specs.Rules.{names_pair, names_one, last_value, last_plain, joint_rules, is_of_classes, first_present}
+use Rattle.pcb_model.specs.Rules.{names_pair, names_one, last_value, last_plain, joint_rules, is_of_classes}
+use Rattle.pcb_model.specs.Rules.{first_present}
 use Rattle.pcb_model.specs.Rules.{levels}
 use Rattle.pcb_model.proofs.Joint.{taken, passed, typed_more, plain_more, first_of}
 use Rattle.pcb_model.proofs.rules.in_pairs.Goals.{then-is_of_classes, else-is_of_classes}
@@ -74,5 +75,6 @@ returns c =
     ∙ ap (λ o. option_or x o) before.wide))
     ∙ ap (λ o. option_or (option_or x y) o) before.plain))
     ∙ (first_of x y (last_plain ps) c.args.rest
-    ∙ ap (λ (qs : List ClassPair). first_present c.args.rest (levels c.args.ka c.args.kb (joint_rules (filter (is_of_classes a b) qs))))
+    ∙ ap (λ (qs : List ClassPair). first_present c.args.rest
+    (levels c.args.ka c.args.kb (joint_rules (filter (is_of_classes a b) qs))))
     (take_all i pairs c.loop-p-test.false)))

@@ -25,7 +25,8 @@ loop-p-preserved c =
 
 pub returns-clause-reaches : goal.returns-clause-reaches
 returns-clause-reaches c =
-    All-whole (λ (p : ClassPair). AreRulesWithin c.loop-p.greatest p.rules) c.args.pairs.now c.loop-p.p-index (omega arith)
+    All-whole (λ (p : ClassPair). AreRulesWithin c.loop-p.greatest p.rules) c.args.pairs.now c.loop-p.p-index
+    (omega arith)
     c.loop-p.invariant.reaches
 
 pub returns-clause-lowest : goal.returns-clause-lowest

@@ -1,7 +1,8 @@
 use Rattle.std.proofs.Common.{◌+◌, arith, ◌∙◌, length, [], refl}
 use Rattle.wave_search.proofs.Steps.{whole}
 use Rattle.wave_search.proofs.Run.{node_in, node_below, price_small, origin_small, room, unbound, goalless, none_in}
-use Rattle.wave_search.proofs.Run.{skipped, goal_key, none_less_now, state_now, taken_now, nothing_now, falls, exhausted}
+use Rattle.wave_search.proofs.Run.{skipped, goal_key, none_less_now, state_now, taken_now, nothing_now, falls}
+use Rattle.wave_search.proofs.Run.{exhausted}
 use Rattle.wave_search.proofs.query.Query.first_goal.Goals as goal
 
 pub waiting-requires-clause-node : goal.waiting-requires-clause-node

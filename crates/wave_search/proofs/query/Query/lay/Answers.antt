@@ -4,7 +4,8 @@ use Rattle.wave_search.specs.declared.stated.TheConstants.{NO_PLACE}
 use Rattle.wave_search.specs.inner.State.{IsTight}
 use Rattle.wave_search.proofs.Steps.{one_label}
 use Rattle.wave_search.proofs.Table.{within}
-use Rattle.wave_search.proofs.Laying.{laying_begins, laying_next, laying_ends, beyond, place_in, place_listed, place_before}
+use Rattle.wave_search.proofs.Laying.{laying_begins, laying_next, laying_ends, beyond, place_in, place_listed}
+use Rattle.wave_search.proofs.Laying.{place_before}
 use Rattle.wave_search.proofs.query.Query.lay.Goals as goal
 
 pub back-init : goal.back-init

@@ -4,8 +4,8 @@ use Rattle.wave_search.proofs.query.Query.lay.Given as goal
 
 abbrev pub invariant-back : goal.invariant-back
 invariant-back g l = record {
-  laying : IsLaying (g.M.Moves.graph l.self.m.now) l.self.starts.now l.self.goals.now l.table l.price l.pass l.place l.at
-      l.node l.nodes.items l.moves.items;
+  laying : IsLaying (g.M.Moves.graph l.self.m.now) l.self.starts.now l.self.goals.now l.table l.price l.pass l.place
+      l.at l.node l.nodes.items l.moves.items;
   small : l.at < 2 ^ 32;
 }
 

@@ -20,7 +20,8 @@ loop-i-preserved g c =
       | in-Some+in_ok-push w ↦
           let grown = ap (λ x. x.items) w.fresh-is ∙ w.in_ok-push.ensures.items in record {
             led = more_has (λ v. IsStep graph t node v × (IsMarked marks v → ⊥)) c.loop-i.fresh.items
-                c.match-new_over.fresh.items w.in-Some.to grown c.loop-i.invariant.led (w.in-Some.ensures.step, w.in-Some.ensures.new);
+                c.match-new_over.fresh.items w.in-Some.to grown c.loop-i.invariant.led
+                (w.in-Some.ensures.step, w.in-Some.ensures.new);
             every = λ v s h. elim (below_or s.tight.hop.index c.loop-i.i h) [
               | inl lt ↦ elim (c.loop-i.invariant.every v s lt) [
                 | inl a ↦ inl (has_more c.loop-i.fresh.items c.match-new_over.fresh.items w.in-Some.to grown v a)

@@ -83,7 +83,8 @@ pass-preserved g c =
     (c.node_at-node.ensures ∙ ap (λ (l : List ℕ). get_or l c.pass.k 0) c.as_slice-in-pass.ensures.value) in
     let fresh = c.as_slice-in-pass-3.result.now in
     let is_new : AreNew graph c.args.table.now c.pass.pass.marks.items c.node_at-node.result fresh =
-    subst (λ (ms : List _). AreNew graph c.args.table.now ms c.node_at-node.result fresh) c.as_slice-in-pass-2.ensures.value
+    subst (λ (ms : List _). AreNew graph c.args.table.now ms c.node_at-node.result fresh)
+    c.as_slice-in-pass-2.ensures.value
     (subst (λ (l : List ℕ). AreNew graph c.args.table.now c.as_slice-in-pass-2.result.now c.node_at-node.result l)
     (sym c.as_slice-in-pass-3.ensures.value) c.in_ok-new_beyond.ensures) in
     at_next graph c.args.self.now.starts.now c.args.self.now.goals.now c.args.table.now c.args.price c.pass.pass
@@ -106,7 +107,8 @@ pub unreachable-requires : goal.unreachable-requires
 unreachable-requires g c =
     let graph = g.M.Moves.graph c.args.self.now.m.now in
     let at = c.requires.goal in
-    let p = some_path graph c.args.self.now.starts.now c.args.self.now.goals.now (g.B.Bound.low_of c.args.self.now.b.now)
+    let p = some_path graph c.args.self.now.starts.now c.args.self.now.goals.now
+    (g.B.Bound.low_of c.args.self.now.b.now)
     c.args.table.now c.args.price c.requires.sound c.requires.bound c.requires.exact c.requires.none_less at.0 at.1
     at.2 in
     at_end graph c.args.self.now.starts.now c.args.self.now.goals.now c.args.table.now c.args.price c.pass.pass

@@ -7,7 +7,8 @@ pass_to-requires-clause-goal g c = (
   c.requires.first.is_goal,
   record {
     label = c.args.goal.label;
-    there = c.in_ok-settle_rest.ensures.kept c.args.goal.node c.args.goal.label c.requires.first.there c.requires.first.is_done;
+    there = c.in_ok-settle_rest.ensures.kept c.args.goal.node c.args.goal.label c.requires.first.there
+        c.requires.first.is_done;
     done = c.requires.first.is_done;
     price_is = refl;
   },

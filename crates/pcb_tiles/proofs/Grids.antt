@@ -19,7 +19,7 @@ use Rattle.pcb_model.specs.Bounds.{IsItemFit}
 use Rattle.pcb_tiles.specs.Tiling.{columns_in, rows_in, has_entry, columns_of, rows_of, is_between, IsBlockIn}
 use Rattle.pcb_tiles.specs.Tiling.{entries_in}
 use Rattle.pcb_tiles.specs.Searches.{IsEntry, IsPassed, IsFoundIn, RowsSoFar}
-use Rattle.pcb_tiles.specs.Searches.{IsHit, Sought, IsMetInRows, AreRowsPassed, IsMet}
+use Rattle.pcb_tiles.specs.Searches.{HasBlock, IsHit, Sought, IsMetInRows, AreRowsPassed, IsMet}
 use Rattle.pcb_tiles.specs.Cells.{entry_of, entries_at, row_at, grid_of, changed_cell, cell_at, row_in, next_cell}
 use Rattle.pcb_tiles.specs.Cells.{changed_row, next_row}
 use Rattle.pcb_tiles.proofs.Ranges.{sum_range_agree}
@@ -104,7 +104,7 @@ empty_is area n m row rows grid e f g h k =
 entry_is : (a : Item) → IsItemFit a → IsEntry (entry_of a)
 entry_is a h = record { id_is = refl; item_fits = h; extent_is = extent_holds a.pieces h.pieces_fit }
 
-pub all_entries : (area : Rect4) (items : List Item) → All IsItemFit items
+all_entries : (area : Rect4) (items : List Item) → All IsItemFit items
     → All (All (All IsEntry)) (grid_of area items)
 all_entries area items h =
     let P : Item → Type 0 = λ a. IsEntry (entry_of a) in
@@ -116,7 +116,7 @@ all_entries area items h =
     (get_or (range_with_len 0 (columns_in area)) i e) in
     All-map IsEntry entry_of (filter p items) (All-filter p P items each)))
 
-pub all_wide : (area : Rect4) (items : List Item) (n : ℕ) → n < columns_in area
+all_wide : (area : Rect4) (items : List Item) (n : ℕ) → n < columns_in area
     → All (λ (row : List (List Entry)). n < length row) (grid_of area items)
 all_wide area items n h =
     All-map (λ (row : List (List Entry)). n < length row) (row_at area items) (range_with_len 0 (rows_in area))
@@ -233,8 +233,19 @@ sought_of Yes No from area items b best w s =
       ];
     }
 
-pub grid_rows : (area : Rect4) (items : List Item) → length (grid_of area items) ≡ rows_in area
+grid_rows : (area : Rect4) (items : List Item) → length (grid_of area items) ≡ rows_in area
 grid_rows area items = length-map-range_with_len (row_at area items) 0 (rows_in area)
+
+-- the tiles of items have each block of their area
+pub has_block : (area : Rect4) (items : List Item) (b : Block) → All IsItemFit items → IsBlockIn area b
+    → HasBlock (grid_of area items) b
+has_block area items b fit block = record {
+  entries = all_entries area items fit;
+  wide = all_wide area items b.last_column block.columns_within;
+  within = (let m = grid_rows area items in omega (arith, m, block.rows_within));
+  columns = block.columns;
+  order = block.order;
+}
 
 -- where no entry of a block is met
 pub none_met : (Yes No : Item → Type 0) (area : Rect4) (items : List Item) (b : Block) → IsBlockIn area b

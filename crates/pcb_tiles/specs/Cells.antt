@@ -35,10 +35,6 @@ with_item a items = filter (λ (b : Item). ltb b.id a.id) items ++ a ∷ filter 
 abbrev pub without_item : ℕ → List Item → List Item
 without_item id items = filter (λ (b : Item). not (eqb b.id id)) items
 
-abbrev pub changed_items : Change → List Item → List Item
-changed_items (Put e) items = with_item e.item items
-changed_items (Drop id) items = without_item id items
-
 abbrev pub with_entry : Entry → List Entry → List Entry
 with_entry e cell = filter (λ (f : Entry). ltb f.id e.id) cell ++ e ∷ filter (λ (f : Entry). ltb e.id f.id) cell
 

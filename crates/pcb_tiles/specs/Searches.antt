@@ -1,5 +1,5 @@
 -- What a search through tiles knows on its way. Only private functions speak of it.
-use Rattle.std.specs.Prelude.{◌≡◌, ℕ, ◌≤◌, ◌<◌, ◌^◌, List, Option, Some, None, All, Contains, true, ◌⊎◌, suc}
+use Rattle.std.specs.Prelude.{◌≡◌, ℕ, ◌≤◌, ◌<◌, ◌^◌, List, Option, Some, None, All, Contains, true, ◌⊎◌, suc, length}
 use Rattle.pcb_model.specs.declared.item.Item.{Item}
 use Rattle.pcb_model.specs.declared.item.Piece.{Piece}
 use Rattle.pcb_model.specs.declared.design.Design.{Design}
@@ -33,6 +33,20 @@ pub record IsEntry (e : Entry) : Type 0 where
   pub id_is : e.id ≡ e.item.id
   pub item_fits : IsItemFit e.item
   pub extent_is : IsExtentOf e.item.pieces e.extent
+
+-- a row of tiles with such entries, and a block whose columns it has
+pub record HasColumns (row : List (List Entry)) (b : Block) : Type 0 where
+  pub entries : All (All IsEntry) row
+  pub within : b.last_column < length row
+  pub columns : b.first_column ≤ b.last_column
+
+-- rows of tiles with such entries, and a block that lies in them
+pub record HasBlock (rows : List (List (List Entry))) (b : Block) : Type 0 where
+  pub entries : All (All (All IsEntry)) rows
+  pub wide : All (λ (row : List (List Entry)). b.last_column < length row) rows
+  pub within : b.last_row < length rows
+  pub columns : b.first_column ≤ b.last_column
+  pub order : b.first_row ≤ b.last_row
 
 -- the entry is sought, from an id on and under the best one
 pub record IsBetter (Yes : Item → Type 0) (from : ℕ) (best : Option ℕ) (e : Entry) : Type 0 where

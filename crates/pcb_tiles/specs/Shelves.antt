@@ -3,6 +3,7 @@ use Rattle.std.specs.Prelude.{ℕ, ◌-◌, ◌<◌, ◌≤◌, List, [], Option
 use Rattle.std.specs.Prelude.{take, drop, suc}
 use Rattle.std.specs.List.{flat_map}
 use Rattle.pcb_model.specs.declared.item.Item.{Item}
+use Rattle.pcb_model.specs.Copper.{Ascends}
 
 -- the items of all chunks
 abbrev pub flat : List (List Item) → List Item
@@ -12,6 +13,11 @@ flat chunks = flat_map (λ (c : List Item). c) chunks
 pub record IsChunk (items : List Item) : Type 0 where
   pub some : 0 < length items
   pub at_most : length items ≤ 128
+
+-- chunks of items in order of id
+pub record AreChunks (chunks : List (List Item)) : Type 0 where
+  pub ascends : Ascends (flat chunks)
+  pub each : All IsChunk chunks
 
 abbrev pub id_of : Option Item → ℕ
 id_of None = 0

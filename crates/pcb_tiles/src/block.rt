@@ -24,6 +24,16 @@ pub(crate) struct Block {
     pub(crate) last_row: usize,
 }
 
+/// The coordinates of an area along one axis, ends included.
+#[derive(Clone, Copy)]
+struct Span {
+    lo: i64,
+    hi: i64,
+    ghost rises: { lo ≤ℤ hi },
+    ghost lo_within: { unsigned_abs lo ≤ 2 ^ 29 },
+    ghost hi_within: { unsigned_abs hi ≤ 2 ^ 29 },
+}
+
 fn tile_of(z: i64) -> u64
     requires { unsigned_abs z ≤ 2 ^ 30 }
     ensures { result ≡ tile_number z }
@@ -31,50 +41,40 @@ fn tile_of(z: i64) -> u64
     (z + OFFSET) as u64 / SIDE
 }
 
-fn place_of(lo: i64, hi: i64, z: i64) -> usize
-    requires rises { lo ≤ℤ hi }
-    requires lo_within { unsigned_abs lo ≤ 2 ^ 29 }
-    requires hi_within { unsigned_abs hi ≤ 2 ^ 29 }
-    ensures is { result ≡ place_number lo hi z }
-    ensures within { result < count_number lo hi }
-{
-    let nearest = z.min(hi).max(lo);
-    (tile_of(nearest) - tile_of(lo)) as usize
-}
+impl Span {
+    fn place_of(self, z: i64) -> usize
+        ensures is { result ≡ place_number self.lo self.hi z }
+        ensures within { result < count_number self.lo self.hi }
+    {
+        let nearest = z.min(self.hi).max(self.lo);
+        (tile_of(nearest) - tile_of(self.lo)) as usize
+    }
 
-// How many tiles there are from `lo` to `hi`.
-fn count_of(lo: i64, hi: i64) -> usize
-    requires rises { lo ≤ℤ hi }
-    requires lo_within { unsigned_abs lo ≤ 2 ^ 29 }
-    requires hi_within { unsigned_abs hi ≤ 2 ^ 29 }
-    ensures is { result ≡ count_number lo hi }
-    ensures within { result ≤ 2 ^ 20 }
-{
-    (tile_of(hi) - tile_of(lo)) as usize + 1
-}
+    // How many tiles there are.
+    fn count(self) -> usize
+        ensures is { result ≡ count_number self.lo self.hi }
+        ensures within { result ≤ 2 ^ 20 }
+    {
+        (tile_of(self.hi) - tile_of(self.lo)) as usize + 1
+    }
 
-// The place of a coordinate less a distance.
-fn place_before(lo: i64, hi: i64, z: i64, by: u64) -> usize
-    requires rises { lo ≤ℤ hi }
-    requires lo_within { unsigned_abs lo ≤ 2 ^ 29 }
-    requires hi_within { unsigned_abs hi ≤ 2 ^ 29 }
-    requires z_within { unsigned_abs z ≤ 2 ^ 29 }
-    requires by_within { by ≤ 2 ^ 29 }
-    ensures { result ≡ place_number lo hi (z -ℤ pos by) }
-{
-    place_of(lo, hi, z - by as i64)
-}
+    // The place of a coordinate less a distance.
+    fn place_before(self, z: i64, by: u64) -> usize
+        requires z_within { unsigned_abs z ≤ 2 ^ 29 }
+        requires by_within { by ≤ 2 ^ 29 }
+        ensures { result ≡ place_number self.lo self.hi (z -ℤ pos by) }
+    {
+        self.place_of(z - by as i64)
+    }
 
-// The place of a coordinate and a distance more.
-fn place_after(lo: i64, hi: i64, z: i64, by: u64) -> usize
-    requires rises { lo ≤ℤ hi }
-    requires lo_within { unsigned_abs lo ≤ 2 ^ 29 }
-    requires hi_within { unsigned_abs hi ≤ 2 ^ 29 }
-    requires z_within { unsigned_abs z ≤ 2 ^ 29 }
-    requires by_within { by ≤ 2 ^ 29 }
-    ensures { result ≡ place_number lo hi (z +ℤ pos by) }
-{
-    place_of(lo, hi, z + by as i64)
+    // The place of a coordinate and a distance more.
+    fn place_after(self, z: i64, by: u64) -> usize
+        requires z_within { unsigned_abs z ≤ 2 ^ 29 }
+        requires by_within { by ≤ 2 ^ 29 }
+        ensures { result ≡ place_number self.lo self.hi (z +ℤ pos by) }
+    {
+        self.place_of(z + by as i64)
+    }
 }
 
 /// The tiles that a box grown on each side meets.
@@ -85,13 +85,21 @@ pub(crate) fn block_around(area: Rect4, bounds: Rect4, by: u64) -> Block
     ensures of { IsBlockOf area bounds by result }
     ensures within { IsBlockIn area result }
 {
-    let column = place_before(area.x0, area.x1, bounds.x0, by);
-    let row = place_before(area.y0, area.y1, bounds.y0, by);
+    let across = Span {
+        lo: area.x0,
+        hi: area.x1,
+    };
+    let up = Span {
+        lo: area.y0,
+        hi: area.y1,
+    };
+    let column = across.place_before(bounds.x0, by);
+    let row = up.place_before(bounds.y0, by);
     Block {
         first_column: column,
-        last_column: place_after(area.x0, area.x1, bounds.x1, by).max(column),
+        last_column: across.place_after(bounds.x1, by).max(column),
         first_row: row,
-        last_row: place_after(area.y0, area.y1, bounds.y1, by).max(row),
+        last_row: up.place_after(bounds.y1, by).max(row),
     }
 }
 
@@ -101,7 +109,11 @@ pub(crate) fn columns_in(area: Rect4) -> usize
     ensures is { result ≡ columns_number area }
     ensures within { result ≤ 2 ^ 20 }
 {
-    count_of(area.x0, area.x1)
+    let across = Span {
+        lo: area.x0,
+        hi: area.x1,
+    };
+    across.count()
 }
 
 /// How many rows.
@@ -110,7 +122,11 @@ pub(crate) fn rows_in(area: Rect4) -> usize
     ensures is { result ≡ rows_number area }
     ensures within { result ≤ 2 ^ 20 }
 {
-    count_of(area.y0, area.y1)
+    let up = Span {
+        lo: area.y0,
+        hi: area.y1,
+    };
+    up.count()
 }
 
 /// Whether a number is from `first` to `last`.

@@ -12,6 +12,7 @@ ghost use Rattle.pcb_model.specs.Copper.{IsOther};
 ghost use Rattle.pcb_tiles.specs.Tiling.{columns_of, rows_of};
 ghost use Rattle.pcb_tiles.specs.Cells.{cell_at, row_in};
 ghost use Rattle.pcb_tiles.specs.Searches.{IsAsking, IsUnder, IsEntry, IsBetter, IsPassed, CellSoFar, RowSoFar};
+ghost use Rattle.pcb_tiles.specs.Searches.{HasColumns, HasBlock};
 ghost use Rattle.pcb_tiles.specs.Searches.{RowsSoFar, IsMetIn, IsMetInRow, IsMetInRows, IsRowPassed, AreRowsPassed};
 
 use crate::block::Block;
@@ -174,9 +175,7 @@ fn best_in_row<S: Seeks, L: Ledger>(
     steps: &mut Steps<L>,
 ) -> Option<u64>
     requires ready { S.ready s.now }
-    requires entries { All (All IsEntry) row.now }
-    requires within { b.now.last_column < length row.now }
-    requires columns { b.now.first_column ≤ b.now.last_column }
+    requires row { HasColumns row.now b.now }
     ensures so { RowSoFar (S.yes s.now) (S.no s.now) from best result row.now
         b.now.first_column (suc b.now.last_column) }
     ensures cost { steps.new ≤ steps.old + sum_by (λ column. length (cell_at row.now column)) (columns_of b.now) }
@@ -197,11 +196,7 @@ pub(crate) fn best_in_rows<S: Seeks, L: Ledger>(
     steps: &mut Steps<L>,
 ) -> Option<u64>
     requires ready { S.ready s.now }
-    requires entries { All (All (All IsEntry)) rows.now }
-    requires wide { All (λ row. b.now.last_column < length row) rows.now }
-    requires within { b.now.last_row < length rows.now }
-    requires columns { b.now.first_column ≤ b.now.last_column }
-    requires order { b.now.first_row ≤ b.now.last_row }
+    requires rows { HasBlock rows.now b.now }
     ensures so { RowsSoFar (S.yes s.now) (S.no s.now) from result rows.now b.now (suc b.now.last_row) }
     ensures cost { steps.new ≤ steps.old + sum_by
         (λ row. sum_by (λ column. length (cell_at (row_in rows.now row) column)) (columns_of b.now))
@@ -233,9 +228,7 @@ fn any_in_cell<S: Seeks, L: Ledger>(s: &S, cell: &[Entry], steps: &mut Steps<L>)
 // Whether one in the tiles of a row is, from `first` to `last`.
 fn any_in_row<S: Seeks, L: Ledger>(s: &S, row: &[Cell], b: &Block, steps: &mut Steps<L>) -> bool
     requires ready { S.ready s.now }
-    requires entries { All (All IsEntry) row.now }
-    requires within { b.now.last_column < length row.now }
-    requires columns { b.now.first_column ≤ b.now.last_column }
+    requires row { HasColumns row.now b.now }
     ensures yes { OnTrue result (IsMetInRow (S.yes s.now) row.now b.now.first_column (suc b.now.last_column)) }
     ensures no { OnFalse result (IsRowPassed (S.no s.now) row.now b.now.first_column (suc b.now.last_column)) }
     ensures cost { steps.new ≤ steps.old + sum_by (λ column. length (cell_at row.now column)) (columns_of b.now) }
@@ -256,11 +249,7 @@ pub(crate) fn any_in_rows<S: Seeks, L: Ledger>(
     steps: &mut Steps<L>,
 ) -> bool
     requires ready { S.ready s.now }
-    requires entries { All (All (All IsEntry)) rows.now }
-    requires wide { All (λ row. b.now.last_column < length row) rows.now }
-    requires within { b.now.last_row < length rows.now }
-    requires columns { b.now.first_column ≤ b.now.last_column }
-    requires order { b.now.first_row ≤ b.now.last_row }
+    requires rows { HasBlock rows.now b.now }
     ensures yes { OnTrue result (IsMetInRows (S.yes s.now) rows.now b.now) }
     ensures no { OnFalse result (AreRowsPassed (S.no s.now) rows.now b.now (suc b.now.last_row)) }
     ensures cost { steps.new ≤ steps.old + sum_by

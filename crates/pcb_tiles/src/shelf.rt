@@ -8,7 +8,7 @@ ghost use Rattle.pcb_model.specs.declared.item.Item.{Item as OneItem};
 ghost use Rattle.pcb_model.specs.Copper.{Ascends, IsFirstFrom};
 ghost use Rattle.pcb_tiles.specs.declared.shelf.TheConstants.{MOST};
 ghost use Rattle.pcb_tiles.specs.Cells.{with_item, without_item};
-ghost use Rattle.pcb_tiles.specs.Shelves.{flat, IsChunk, IsHome, IsRoom, last_id, chunk_at as chunk_number};
+ghost use Rattle.pcb_tiles.specs.Shelves.{flat, IsChunk, AreChunks, IsHome, IsRoom, last_id, chunk_at as chunk_number};
 
 use geo_kernel::List;
 use pcb_model::Item;
@@ -46,8 +46,7 @@ fn last_id_of(chunk: &Chunk) -> u64
 
 // The first chunk whose last id isn't below `id`.
 fn home_of(chunks: &[Chunk], id: u64) -> usize
-    requires ascends { Ascends (flat chunks.now) }
-    requires chunks { All IsChunk chunks.now }
+    requires { AreChunks chunks.now }
     ensures { IsHome chunks.now id result }
 {
     chunks.partition_point(|c| last_id_of(c) < id)
@@ -55,8 +54,7 @@ fn home_of(chunks: &[Chunk], id: u64) -> usize
 
 // The chunk in which an item of this id has its place: the last one where the id is above all.
 fn room_of(chunks: &[Chunk], id: u64) -> usize
-    requires ascends { Ascends (flat chunks.now) }
-    requires chunks { All IsChunk chunks.now }
+    requires { AreChunks chunks.now }
     ensures within { result ≤ length chunks.now }
     ensures room { IsRoom chunks.now id result }
 {
@@ -79,8 +77,7 @@ fn chunk_at(chunks: &[Chunk], k: usize) -> &[Shared<Item>]
 
 /// The item of the least id at or above `from`, or None exactly where there is none.
 pub(crate) fn first_from(chunks: &[Chunk], from: u64) -> Option<&Item>
-    requires ascends { Ascends (flat chunks.now) }
-    requires chunks { All IsChunk chunks.now }
+    requires { AreChunks chunks.now }
     ensures { MatchOption (option_copied result) (All (λ b. b.id < from) (flat chunks.now))
         (IsFirstFrom from (flat chunks.now)) }
 {
@@ -246,8 +243,7 @@ pub(crate) fn put(
     a: &Shared<Item>,
     chunks: &[Chunk],
 ) -> Result<List<Chunk>, AllocError>
-    requires ascends { Ascends (flat chunks.now) }
-    requires chunks { All IsChunk chunks.now }
+    requires chunks { AreChunks chunks.now }
     requires absent { All (λ b. b.id ≡ a.now.id → ⊥) (flat chunks.now) }
     ensures items { IfOk result (λ s. flat s ≡ with_item a.now (flat chunks.now)) }
     ensures chunks { IfOk result (λ s. All IsChunk s) }
@@ -260,8 +256,7 @@ pub(crate) fn put(
 
 /// The items without the one of this id.
 pub(crate) fn take(alloc: Global, id: u64, chunks: &[Chunk]) -> Result<List<Chunk>, AllocError>
-    requires ascends { Ascends (flat chunks.now) }
-    requires chunks { All IsChunk chunks.now }
+    requires { AreChunks chunks.now }
     ensures items { IfOk result (λ s. flat s ≡ without_item id (flat chunks.now)) }
     ensures chunks { IfOk result (λ s. All IsChunk s) }
 {
@@ -273,8 +268,7 @@ pub(crate) fn take(alloc: Global, id: u64, chunks: &[Chunk]) -> Result<List<Chun
 
 /// The item of this id, or None exactly where there is none.
 pub(crate) fn item_of(chunks: &[Chunk], id: u64) -> Option<&Item>
-    requires ascends { Ascends (flat chunks.now) }
-    requires chunks { All IsChunk chunks.now }
+    requires { AreChunks chunks.now }
     ensures { MatchOption (option_copied result) (All (λ b. b.id ≡ id → ⊥) (flat chunks.now))
         (λ b. Contains (flat chunks.now) b × (b.id ≡ id)) }
 {

@@ -2,19 +2,25 @@
 //! Each call works over the parts of the tiles, which contracts don't name.
 
 ghost use Rattle.std.specs.Prelude.{◌≡◌, ◌≤◌, ◌<◌, ◌+◌, ◌^◌, [], ◌∷◌, ◌++◌, All, Contains, OnOk, OnErr, IfErr, IfOk};
-ghost use Rattle.std.specs.Prelude.{MatchOption};
+ghost use Rattle.std.specs.Prelude.{MatchOption, None};
+ghost use Rattle.std.specs.Bool.{OnTrue, OnFalse};
 ghost use Rattle.pcb_model.specs.Bounds.{IsItemFit};
+ghost use Rattle.pcb_model.specs.Near.{IsBoxWithin};
 ghost use Rattle.std.specs.Option.{option_copied};
 ghost use Rattle.pcb_model.specs.Copper.{Ascends};
-ghost use Rattle.pcb_tiles.specs.Tiling.{IsArea, asked_block, own_block, probed_block, entries_in};
+ghost use Rattle.pcb_tiles.specs.Tiling.{IsArea, IsBlockOf, IsBlockIn, asked_block, own_block, probed_block};
+ghost use Rattle.pcb_tiles.specs.Tiling.{entries_in};
+ghost use Rattle.pcb_tiles.specs.Searches.{Sought, IsMet};
 ghost use Rattle.pcb_tiles.specs.Cells.{with_item, without_item};
 ghost use Rattle.pcb_tiles.specs.Spread.{holding, Gains, Loses, ServesSpread};
 
+use crate::block::{Block, block_around};
 use crate::cells::{Grid, empty_grid};
-use crate::least::{is_any_block, least_block, least_clash, least_touch, with_less, with_more};
+use crate::parts::{with_less, with_more};
+use crate::search::{Blocking, Clashing, Joining, Seeks, any_in_rows, best_in_rows};
 use crate::shelf::{Shelf, first_from, item_of};
 use geo_kernel::{List, Rect4};
-use pcb_model::{Copper, Design, Item, Probe, Steps, copy_item};
+use pcb_model::{Copper, Design, Extent, Item, Probe, Steps, copy_item};
 use shared_value::Shared;
 use std::alloc::{AllocError, Global};
 use std::marker::Model;
@@ -83,6 +89,53 @@ impl Tiles {
             shelf: self.shelf.share()?,
             grid: self.grid.share()?,
         })
+    }
+
+    // The greatest clearance that is served.
+    fn known_reach(&self) -> u64
+        ensures is { result ≡ self.now.reach }
+        ensures within { result ≤ 2 ^ 28 }
+    {
+        self.reach
+    }
+
+    // The tiles that a box grown on each side meets.
+    fn block_around(&self, bounds: Rect4, by: u64) -> Block
+        requires bounds_within { IsBoxWithin (2 ^ 29) bounds }
+        requires by_within { by ≤ 2 ^ 29 }
+        ensures of { IsBlockOf self.now.area bounds by result }
+        ensures within { IsBlockIn self.now.area result }
+        ensures area { IsArea self.now.area }
+        ensures fit { All IsItemFit self.now.items }
+    {
+        block_around(self.area, bounds, by)
+    }
+
+    // The least id that is sought in a block of tiles.
+    fn seek<S: Seeks, L: Ledger>(
+        &self,
+        s: &S,
+        b: &Block,
+        from: u64,
+        steps: &mut Steps<L>,
+    ) -> Option<u64>
+        requires ready { S.ready s.now }
+        requires block { IsBlockIn self.now.area b.now }
+        ensures so { Sought (S.yes s.now) (S.no s.now) from self.now.area b.now self.now.items result }
+        ensures cost { steps.new ≤ steps.old + entries_in self.now.area self.now.items b.now }
+    {
+        best_in_rows(s, from, self.grid.get().as_slice(), b, steps)
+    }
+
+    // Whether something is sought in a block of tiles.
+    fn seek_any<S: Seeks, L: Ledger>(&self, s: &S, b: &Block, steps: &mut Steps<L>) -> bool
+        requires ready { S.ready s.now }
+        requires block { IsBlockIn self.now.area b.now }
+        ensures yes { OnTrue result (IsMet (S.yes s.now) self.now.items) }
+        ensures no { OnFalse result (Sought (S.yes s.now) (S.no s.now) 0 self.now.area b.now self.now.items None) }
+        ensures cost { steps.new ≤ steps.old + entries_in self.now.area self.now.items b.now }
+    {
+        any_in_rows(s, self.grid.get().as_slice(), b, steps)
     }
 
     // What is kept with one more item.
@@ -239,16 +292,16 @@ impl Copper for Tiles {
         from: u64,
         steps: &mut Steps<L>,
     ) -> Option<u64> {
-        least_clash(
-            self.area,
-            self.reach,
-            &self.shelf,
-            &self.grid,
+        let e = Extent::of_item(a);
+        let reach = self.known_reach();
+        let b = self.block_around(e.bounds, reach + e.width);
+        let sought = Clashing {
             d,
             a,
-            from,
-            steps,
-        )
+            extent: e,
+            reach,
+        };
+        self.seek(&sought, &b, from, steps)
     }
 
     fn next_block<L: Ledger>(
@@ -259,42 +312,38 @@ impl Copper for Tiles {
         from: u64,
         steps: &mut Steps<L>,
     ) -> Option<u64> {
-        least_block(
-            self.area,
-            self.reach,
-            &self.shelf,
-            &self.grid,
+        let e = Extent::of_probe(d, p);
+        let reach = self.known_reach();
+        let b = self.block_around(e.bounds, reach + (e.width + 1) / 2);
+        let sought = Blocking {
             d,
             net,
             p,
-            from,
-            steps,
-        )
+            extent: e,
+            reach,
+        };
+        self.seek(&sought, &b, from, steps)
     }
 
     fn is_blocked<L: Ledger>(&self, d: &Design, net: u32, p: &Probe, steps: &mut Steps<L>) -> bool {
-        is_any_block(
-            self.area,
-            self.reach,
-            &self.shelf,
-            &self.grid,
+        let e = Extent::of_probe(d, p);
+        let reach = self.known_reach();
+        let b = self.block_around(e.bounds, reach + (e.width + 1) / 2);
+        let sought = Blocking {
             d,
             net,
             p,
-            steps,
-        )
+            extent: e,
+            reach,
+        };
+        self.seek_any(&sought, &b, steps)
     }
 
     fn next_touch<L: Ledger>(&self, a: &Item, from: u64, steps: &mut Steps<L>) -> Option<u64> {
-        least_touch(
-            self.area,
-            self.reach,
-            &self.shelf,
-            &self.grid,
-            a,
-            from,
-            steps,
-        )
+        let e = Extent::of_item(a);
+        let b = self.block_around(e.bounds, (e.width + 1) / 2);
+        let sought = Joining { a, extent: e };
+        self.seek(&sought, &b, from, steps)
     }
 
     ghost serving = { λ c d h. h.serves };

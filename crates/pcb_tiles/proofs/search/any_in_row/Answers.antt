@@ -19,7 +19,7 @@ returns-then-any_in_cell-clause-yes g c =
     let e : c.as_slice.result.now ≡ cell_at c.args.row.now c.loop-at.at =
     c.as_slice.ensures
     ∙ (c.get.ensures ∙ at_cell c.args.row.now c.loop-at.at c.index-row-at.result
-    (omega (arith, c.loop-at-test.true, c.requires.within)) c.index-row-at.is) in
+    (omega (arith, c.loop-at-test.true, c.requires.row.within)) c.index-row-at.is) in
     record {
       column = c.loop-at.at;
       from_first = c.loop-at.auto.at;
@@ -32,7 +32,7 @@ returns-then-any_in_cell-clause-cost g c =
     let e : c.as_slice.result.now ≡ cell_at c.args.row.now c.loop-at.at =
     c.as_slice.ensures
     ∙ (c.get.ensures ∙ at_cell c.args.row.now c.loop-at.at c.index-row-at.result
-    (omega (arith, c.loop-at-test.true, c.requires.within)) c.index-row-at.is) in
+    (omega (arith, c.loop-at-test.true, c.requires.row.within)) c.index-row-at.is) in
     let f : ℕ → ℕ = λ column. length (cell_at c.args.row.now column) in
     let n : length c.as_slice.result.now ≡ f c.loop-at.at = ap length e in
     let s = sum_range_more f c.args.b.now.first_column c.loop-at.at c.loop-at.auto.at in
@@ -45,7 +45,7 @@ loop-at-preserved g c =
     let e : c.as_slice.result.now ≡ cell_at c.args.row.now c.loop-at.at =
     c.as_slice.ensures
     ∙ (c.get.ensures ∙ at_cell c.args.row.now c.loop-at.at c.index-row-at.result
-    (omega (arith, c.loop-at-test.true, c.requires.within)) c.index-row-at.is) in
+    (omega (arith, c.loop-at-test.true, c.requires.row.within)) c.index-row-at.is) in
     let F : List Entry → Type 0 = All (IsPassed (g.S.Seeks.no c.args.s.now) 0 None) in
     let f : ℕ → ℕ = λ column. length (cell_at c.args.row.now column) in
     let n : length c.as_slice.result.now ≡ f c.loop-at.at = ap length e in
@@ -64,7 +64,7 @@ returns-clause-no g c = record {
 pub returns-clause-cost : goal.returns-clause-cost
 returns-clause-cost g c =
     let e : c.loop-at.at ≡ suc c.args.b.now.last_column =
-    omega (arith, c.loop-at-test.false, c.loop-at.auto.at-end, c.requires.columns) in
+    omega (arith, c.loop-at-test.false, c.loop-at.auto.at-end, c.requires.row.columns) in
     let F : ℕ → Type 0 =
     λ n. c.loop-at.steps ≤ c.args.steps.now + sum_by (λ column. length (cell_at c.args.row.now column))
     (range_with_len c.args.b.now.first_column (n - c.args.b.now.first_column)) in

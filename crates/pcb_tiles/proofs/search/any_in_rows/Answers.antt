@@ -1,4 +1,4 @@
-use Rattle.std.proofs.Common.{◌≡◌, ◌≤◌, ◌+◌, ◌-◌, ℕ, List, length, arith, ap, ◌∙◌, subst}
+use Rattle.std.proofs.Common.{rules, ◌≡◌, ◌≤◌, ◌+◌, ◌-◌, ℕ, List, length, arith, ap, ◌∙◌, subst}
 use Prim.Native.Nat.{suc}
 use Rattle.std.specs.List.{range_with_len, sum_by}
 use Rattle.pcb_tiles.specs.declared.cells.Entry.{Entry}
@@ -25,7 +25,7 @@ returns-then-any_in_row-clause-yes g c =
     let e : c.as_slice.result.now ≡ row_in c.args.rows.now c.loop-at.at =
     c.as_slice.ensures
     ∙ (c.get.ensures ∙ at_row c.args.rows.now c.loop-at.at c.index-rows-at.result
-    (omega (arith, c.loop-at-test.true, c.requires.within)) c.index-rows-at.is) in
+    (omega (arith, c.loop-at-test.true, c.requires.rows.within)) c.index-rows-at.is) in
     let b = c.args.b.now in
     let F : List (List Entry) → Type 0 =
     λ es. IsMetInRow (g.S.Seeks.yes c.args.s.now) es b.first_column (suc b.last_column) in
@@ -41,7 +41,7 @@ returns-then-any_in_row-clause-cost g c =
     let e : c.as_slice.result.now ≡ row_in c.args.rows.now c.loop-at.at =
     c.as_slice.ensures
     ∙ (c.get.ensures ∙ at_row c.args.rows.now c.loop-at.at c.index-rows-at.result
-    (omega (arith, c.loop-at-test.true, c.requires.within)) c.index-rows-at.is) in
+    (omega (arith, c.loop-at-test.true, c.requires.rows.within)) c.index-rows-at.is) in
     let cost_of : List (List Entry) → ℕ =
     λ r. sum_by (λ column. length (cell_at r column)) (columns_of c.args.b.now) in
     let f : ℕ → ℕ = λ row. cost_of (row_in c.args.rows.now row) in
@@ -56,7 +56,7 @@ loop-at-preserved g c =
     let e : c.as_slice.result.now ≡ row_in c.args.rows.now c.loop-at.at =
     c.as_slice.ensures
     ∙ (c.get.ensures ∙ at_row c.args.rows.now c.loop-at.at c.index-rows-at.result
-    (omega (arith, c.loop-at-test.true, c.requires.within)) c.index-rows-at.is) in
+    (omega (arith, c.loop-at-test.true, c.requires.rows.within)) c.index-rows-at.is) in
     let F : List (List Entry) → Type 0 =
     λ es. IsRowPassed (g.S.Seeks.no c.args.s.now) es c.args.b.now.first_column (suc c.args.b.now.last_column) in
     let cost_of : List (List Entry) → ℕ =
@@ -78,9 +78,13 @@ returns-clause-no g c = record {
 pub returns-clause-cost : goal.returns-clause-cost
 returns-clause-cost g c =
     let e : c.loop-at.at ≡ suc c.args.b.now.last_row =
-    omega (arith, c.loop-at-test.false, c.loop-at.auto.at-end, c.requires.order) in
+    omega (arith, c.loop-at-test.false, c.loop-at.auto.at-end, c.requires.rows.order) in
     let F : ℕ → Type 0 =
     λ n. c.loop-at.steps ≤ c.args.steps.now + sum_by
     (λ row. sum_by (λ column. length (cell_at (row_in c.args.rows.now row) column)) (columns_of c.args.b.now))
     (range_with_len c.args.b.now.first_row (n - c.args.b.now.first_row)) in
     subst F e c.loop-at.invariant.cost
+
+pub any_in_row-requires-clause-row : goal.any_in_row-requires-clause-row
+any_in_row-requires-clause-row g c =
+    record { entries = search rules; within = search rules; columns = c.requires.rows.columns }

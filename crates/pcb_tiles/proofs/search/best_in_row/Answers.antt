@@ -20,7 +20,7 @@ loop-column-preserved g c =
     let e : c.as_slice.result.now ≡ cell_at c.args.row.now c.loop-column.column =
     c.as_slice.ensures
     ∙ (c.get.ensures ∙ at_cell c.args.row.now c.loop-column.column c.index-row-column.result
-    (omega (arith, c.loop-column-test.true, c.requires.within)) c.index-row-column.is) in
+    (omega (arith, c.loop-column-test.true, c.requires.row.within)) c.index-row-column.is) in
     let F : List Entry → Type 0 =
     λ es. CellSoFar (g.S.Seeks.yes c.args.s.now)
     (g.S.Seeks.no c.args.s.now) c.args.from c.loop-column.found c.best_in_cell-found.result es in
@@ -39,7 +39,7 @@ loop-column-preserved g c =
 pub returns-clause-so : goal.returns-clause-so
 returns-clause-so g c =
     let e : c.loop-column.column ≡ suc c.args.b.now.last_column =
-    omega (arith, c.loop-column-test.false, c.loop-column.auto.column-end, c.requires.columns) in
+    omega (arith, c.loop-column-test.false, c.loop-column.auto.column-end, c.requires.row.columns) in
     let F : ℕ → Type 0 =
     λ n. RowSoFar (g.S.Seeks.yes c.args.s.now)
     (g.S.Seeks.no c.args.s.now) c.args.from c.args.best c.loop-column.found c.args.row.now
@@ -49,7 +49,7 @@ returns-clause-so g c =
 pub returns-clause-cost : goal.returns-clause-cost
 returns-clause-cost g c =
     let e : c.loop-column.column ≡ suc c.args.b.now.last_column =
-    omega (arith, c.loop-column-test.false, c.loop-column.auto.column-end, c.requires.columns) in
+    omega (arith, c.loop-column-test.false, c.loop-column.auto.column-end, c.requires.row.columns) in
     let F : ℕ → Type 0 =
     λ n. c.loop-column.steps ≤ c.args.steps.now + sum_by (λ column. length (cell_at c.args.row.now column))
     (range_with_len c.args.b.now.first_column (n - c.args.b.now.first_column)) in

@@ -1,4 +1,4 @@
-use Rattle.std.proofs.Common.{◌≡◌, ◌≤◌, ◌+◌, ◌-◌, ℕ, List, length, arith, ap, ◌∙◌, subst}
+use Rattle.std.proofs.Common.{rules, ◌≡◌, ◌≤◌, ◌+◌, ◌-◌, ℕ, List, length, arith, ap, ◌∙◌, subst}
 use Prim.Native.Nat.{suc}
 use Rattle.std.specs.List.{range_with_len, sum_by}
 use Rattle.pcb_tiles.specs.declared.cells.Entry.{Entry}
@@ -25,7 +25,7 @@ loop-row-preserved g c =
     let e : c.as_slice.result.now ≡ row_in c.args.rows.now c.loop-row.row =
     c.as_slice.ensures
     ∙ (c.get.ensures ∙ at_row c.args.rows.now c.loop-row.row c.index-rows-row.result
-    (omega (arith, c.loop-row-test.true, c.requires.within)) c.index-rows-row.is) in
+    (omega (arith, c.loop-row-test.true, c.requires.rows.within)) c.index-rows-row.is) in
     let F : List (List Entry) → Type 0 =
     λ es. RowSoFar (g.S.Seeks.yes c.args.s.now)
     (g.S.Seeks.no c.args.s.now) c.args.from c.loop-row.found c.best_in_row-found.result es
@@ -47,7 +47,7 @@ loop-row-preserved g c =
 pub returns-clause-so : goal.returns-clause-so
 returns-clause-so g c =
     let e : c.loop-row.row ≡ suc c.args.b.now.last_row =
-    omega (arith, c.loop-row-test.false, c.loop-row.auto.row-end, c.requires.order) in
+    omega (arith, c.loop-row-test.false, c.loop-row.auto.row-end, c.requires.rows.order) in
     let F : ℕ → Type 0 =
     λ n. RowsSoFar (g.S.Seeks.yes c.args.s.now)
     (g.S.Seeks.no c.args.s.now) c.args.from c.loop-row.found c.args.rows.now c.args.b.now n in
@@ -56,9 +56,13 @@ returns-clause-so g c =
 pub returns-clause-cost : goal.returns-clause-cost
 returns-clause-cost g c =
     let e : c.loop-row.row ≡ suc c.args.b.now.last_row =
-    omega (arith, c.loop-row-test.false, c.loop-row.auto.row-end, c.requires.order) in
+    omega (arith, c.loop-row-test.false, c.loop-row.auto.row-end, c.requires.rows.order) in
     let F : ℕ → Type 0 =
     λ n. c.loop-row.steps ≤ c.args.steps.now + sum_by
     (λ row. sum_by (λ column. length (cell_at (row_in c.args.rows.now row) column)) (columns_of c.args.b.now))
     (range_with_len c.args.b.now.first_row (n - c.args.b.now.first_row)) in
     subst F e c.loop-row.invariant.cost
+
+pub best_in_row-found-requires-clause-row : goal.best_in_row-found-requires-clause-row
+best_in_row-found-requires-clause-row g c =
+    record { entries = search rules; within = search rules; columns = c.requires.rows.columns }

@@ -11,7 +11,7 @@ place_of-i-requires c =
 pub returns-then-i-items : goal.returns-then-i-items
 returns-then-i-items c =
     first_is c.args.chunks.now c.args.from c.home_of.result c.chunk_at-items.result.now None
-    c.requires.ascends c.requires.chunks c.home_of.ensures c.chunk_at-items.ensures
+    c.requires.ascends c.requires.each c.home_of.ensures c.chunk_at-items.ensures
     (λ k d h. c.place_of-i.ensures.below k d (omega (arith, h, c.if-i-items.true)))
 
 pub returns : goal.returns
@@ -21,7 +21,7 @@ returns c =
     omega (arith, n, c.place_of-i.ensures.bound) in
     let F = IsFirstFrom c.args.from c.chunk_at-items.result.now in
     first_is c.args.chunks.now c.args.from c.home_of.result c.chunk_at-items.result.now (Some c.get.result.now)
-    c.requires.ascends c.requires.chunks c.home_of.ensures c.chunk_at-items.ensures
+    c.requires.ascends c.requires.each c.home_of.ensures c.chunk_at-items.ensures
     (subst F (sym c.get.ensures)
     (first_of_items c.chunk_at-items.result.now c.args.from c.place_of-i.result c.index-items-i.result
     (subst Ascends (sym c.chunk_at-items.ensures)

@@ -10,7 +10,7 @@ returns c =
     let point = IsPartitionPoint-from_clause (λ (x : List Item). ltb (last_id x) c.args.id) c.args.chunks.now
     c.partition_point.result c.partition_point.ensures.partitioned
     (IsPartitionedBy-ltb last_id c.args.chunks.now c.args.id
-    (chunks_rise c.args.chunks.now c.requires.ascends c.requires.chunks))
+    (chunks_rise c.args.chunks.now c.requires.ascends c.requires.each))
     (λ a r q k. search rules) in
     home_is c.args.chunks.now c.args.id c.partition_point.result c.partition_point.ensures.bound
     (λ j d h. ltb-true _ _ (point.0 j d (omega arith) h)) (λ j d h l. ltb-false _ _ (point.1 j d h l))

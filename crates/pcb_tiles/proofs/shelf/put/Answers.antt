@@ -8,7 +8,7 @@ use Rattle.pcb_tiles.proofs.shelf.put.Goals as goal
 
 pub cut-requires : goal.cut-requires
 cut-requires c =
-    let m = put_fits c.args.chunks.now c.room_of-k.result c.args.a.now c.requires.ascends c.requires.chunks
+    let m = put_fits c.args.chunks.now c.room_of-k.result c.args.a.now c.requires.chunks.ascends c.requires.chunks.each
     c.requires.absent in
     let e = ap length (c.in_ok-items.ensures ∙ ap (with_item c.args.a.now) c.chunk_at.ensures) in
     omega (arith, m, e)
@@ -25,5 +25,5 @@ returns-clause-items c =
 pub returns-clause-chunks : goal.returns-clause-chunks
 returns-clause-chunks c =
     IfOk-weaker _ _ _ (λ all is.
-    chunks_all c.args.chunks.now c.as_slice.result.now all c.room_of-k.result c.requires.chunks
+    chunks_all c.args.chunks.now c.as_slice.result.now all c.room_of-k.result c.requires.chunks.each
     (subst (All IsChunk) (sym c.as_slice.ensures) c.in_ok-changed.ensures.chunks) is) c.replaced.ensures

@@ -7,7 +7,7 @@ use Rattle.pcb_tiles.proofs.shelf.take.Goals as goal
 
 pub cut-requires : goal.cut-requires
 cut-requires c =
-    let m = take_fits c.args.chunks.now c.room_of-k.result c.args.id c.requires.chunks in
+    let m = take_fits c.args.chunks.now c.room_of-k.result c.args.id c.requires.each in
     let e = ap length (c.in_ok-items.ensures ∙ ap (without_item c.args.id) c.chunk_at.ensures) in
     omega (arith, m, e)
 
@@ -22,5 +22,5 @@ returns-clause-items c =
 pub returns-clause-chunks : goal.returns-clause-chunks
 returns-clause-chunks c =
     IfOk-weaker _ _ _ (λ all is.
-    chunks_all c.args.chunks.now c.as_slice.result.now all c.room_of-k.result c.requires.chunks
+    chunks_all c.args.chunks.now c.as_slice.result.now all c.room_of-k.result c.requires.each
     (subst (All IsChunk) (sym c.as_slice.ensures) c.in_ok-changed.ensures.chunks) is) c.replaced.ensures

@@ -1,19 +1,13 @@
-use Rattle.std.proofs.Common.{List, All, ◌∙◌, sym, subst}
-use Rattle.pcb_model.specs.declared.item.Item.{Item}
-use Rattle.pcb_model.specs.Copper.{Ascends}
-use Rattle.pcb_tiles.specs.Shelves.{flat, IsChunk}
+use Rattle.std.proofs.Common.{All, ◌∙◌, sym, subst}
+use Rattle.pcb_tiles.specs.Shelves.{flat, IsChunk, AreChunks}
 use Rattle.pcb_tiles.proofs.Changes.{grid_take_is, spread_without}
 use Rattle.pcb_tiles.proofs.Shelves.{take_kept}
-use Rattle.pcb_tiles.proofs.least.with_less.Goals as goal
+use Rattle.pcb_tiles.proofs.parts.with_less.Goals as goal
 
-pub take-requires-clause-ascends : goal.take-requires-clause-ascends
-take-requires-clause-ascends c =
-    let F : List (List Item) → Type 0 = λ x. Ascends (flat x) in
-    subst F (sym (c.as_slice.ensures ∙ c.get.ensures)) c.requires.spread.ascends
-
-pub take-requires-clause-chunks : goal.take-requires-clause-chunks
-take-requires-clause-chunks c =
-    subst (All IsChunk) (sym (c.as_slice.ensures ∙ c.get.ensures)) c.requires.spread.chunks
+pub take-requires : goal.take-requires
+take-requires c =
+    subst AreChunks (sym (c.as_slice.ensures ∙ c.get.ensures))
+    (record { ascends = c.requires.spread.ascends; each = c.requires.spread.chunks })
 
 pub returns-clause-items : goal.returns-clause-items
 returns-clause-items c =

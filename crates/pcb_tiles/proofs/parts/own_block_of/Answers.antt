@@ -1,6 +1,6 @@
 use Rattle.std.proofs.Common.{arith}
 use Rattle.pcb_tiles.proofs.Nearness.{own_is}
-use Rattle.pcb_tiles.proofs.least.own_block_of.Goals as goal
+use Rattle.pcb_tiles.proofs.parts.own_block_of.Goals as goal
 
 pub returns : goal.returns
 returns c =

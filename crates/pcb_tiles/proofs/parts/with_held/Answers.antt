@@ -1,19 +1,14 @@
 use Rattle.std.proofs.Common.{◌≡◌, ◌<◌, ◌^◌, List, All, arith, refl, ◌∙◌, sym, subst}
 use Rattle.pcb_model.specs.declared.item.Item.{Item}
-use Rattle.pcb_model.specs.Copper.{Ascends}
-use Rattle.pcb_tiles.specs.Shelves.{flat, IsChunk}
+use Rattle.pcb_tiles.specs.Shelves.{flat, IsChunk, AreChunks}
 use Rattle.pcb_tiles.proofs.Changes.{spread_with}
 use Rattle.pcb_tiles.proofs.Shelves.{put_kept}
-use Rattle.pcb_tiles.proofs.least.with_held.Goals as goal
-
-pub put-requires-clause-ascends : goal.put-requires-clause-ascends
-put-requires-clause-ascends c =
-    let F : List (List Item) → Type 0 = λ x. Ascends (flat x) in
-    subst F (sym (c.as_slice.ensures ∙ c.get-2.ensures)) c.requires.spread.ascends
+use Rattle.pcb_tiles.proofs.parts.with_held.Goals as goal
 
 pub put-requires-clause-chunks : goal.put-requires-clause-chunks
 put-requires-clause-chunks c =
-    subst (All IsChunk) (sym (c.as_slice.ensures ∙ c.get-2.ensures)) c.requires.spread.chunks
+    subst AreChunks (sym (c.as_slice.ensures ∙ c.get-2.ensures))
+    (record { ascends = c.requires.spread.ascends; each = c.requires.spread.chunks })
 
 pub put-requires-clause-absent : goal.put-requires-clause-absent
 put-requires-clause-absent c =

@@ -1,7 +1,7 @@
 use Rattle.std.proofs.lemmas.Result.{IfOk-weaker}
 use Rattle.pcb_tiles.proofs.Changes.{grid_put_is}
 use Rattle.pcb_tiles.specs.Shelves.{flat}
-use Rattle.pcb_tiles.proofs.least.grid_with.Goals as goal
+use Rattle.pcb_tiles.proofs.parts.grid_with.Goals as goal
 
 pub returns : goal.returns
 returns c = IfOk-weaker _ _ _ (λ after is.

@@ -4,7 +4,7 @@ use Rattle.pcb_model.specs.declared.item.Item.{Item}
 use Rattle.pcb_model.specs.Bounds.{IsItemFit}
 use Rattle.pcb_tiles.specs.Cells.{with_item}
 use Rattle.pcb_tiles.specs.Shelves.{flat}
-use Rattle.pcb_tiles.proofs.least.with_more.Goals as goal
+use Rattle.pcb_tiles.proofs.parts.with_more.Goals as goal
 
 pub with_held-requires-clause-absent : goal.with_held-requires-clause-absent
 with_held-requires-clause-absent c =

@@ -1,16 +1,13 @@
-use Rattle.std.proofs.Common.{◌≡◌, ℤ, pos, arith, sym, ap, ◌∙◌, subst}
+use Rattle.std.proofs.Common.{◌≡◌, ℤ, pos, arith, sym, ap, ◌∙◌, subst, refl}
 use Rattle.std.specs.Prelude.{◌-ℤ◌}
 use Rattle.std.proofs.lemmas.Int.{to_z-of_z, to_z_pos}
 use mir.Val.{SFits, to_z, of_z}
 use mir.Syntax.{w64}
 use Rattle.pcb_tiles.proofs.Tilings.{fits64, fits_same, fits_less, place_same}
-use Rattle.pcb_tiles.proofs.block.place_before.Goals as goal
+use Rattle.pcb_tiles.proofs.block.Span.place_before.Goals as goal
 
 pub returns : goal.returns
 returns c =
-    let lo = c.args.lo in
-    let a0 : SFits w64 c.args.lo = fits_same c.args.lo c.requires.lo_within in
-    let a1 : SFits w64 c.args.hi = fits_same c.args.hi c.requires.hi_within in
     let b : SFits w64 c.args.z = fits_same c.args.z c.requires.z_within in
     let z : SFits w64 (c.args.z -ℤ pos c.args.by) =
     fits64 (c.args.z -ℤ pos c.args.by)
@@ -23,8 +20,7 @@ returns c =
     ap G q ∙ ap H p in
     let F : ℤ → Type 0 = λ t. SFits w64 t in
     let y : SFits w64 (to_z w64 (of_z w64 c.args.z) -ℤ to_z w64 c.args.by) = subst F (sym e) z in
-    place_same (to_z w64 (of_z w64 c.args.lo)) (to_z w64 (of_z w64 c.args.hi))
-    (to_z w64 (of_z w64 (to_z w64 (of_z w64 c.args.z) -ℤ to_z w64 c.args.by))) c.args.lo
-    c.args.hi (c.args.z -ℤ pos c.args.by) c.place_of.result
-    c.place_of.ensures.is (to_z-of_z w64 c.args.lo a0) (to_z-of_z w64 c.args.hi a1)
+    place_same c.args.self.lo c.args.self.hi
+    (to_z w64 (of_z w64 (to_z w64 (of_z w64 c.args.z) -ℤ to_z w64 c.args.by))) c.args.self.lo c.args.self.hi
+    (c.args.z -ℤ pos c.args.by) c.place_of.result c.place_of.ensures.is refl refl
     (to_z-of_z w64 (to_z w64 (of_z w64 c.args.z) -ℤ to_z w64 c.args.by) y ∙ e)

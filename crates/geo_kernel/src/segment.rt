@@ -77,45 +77,48 @@ impl Near {
     }
 }
 
-impl Segment {
-    fn nearest(self, p: Bounded) -> Near
-        ensures { IsNearest p.at self.from.at self.to.at result.above result.below }
-    {
-        let w = p.minus(self.from);
-        let v = self.to.minus(self.from);
-        let along = w.dot(v);
-        let length = v.dot(v);
-        if along <= 0 {
-            Near::of(w)
-        } else if along >= length {
-            Near::of(p.minus(self.to))
-        } else {
-            Near::beside(w, v)
-        }
+// The squared distance of a point from the segment between two others. It takes points, since a segment would have to
+// be laid out in memory for each call.
+fn nearest(p: Bounded, from: Bounded, to: Bounded) -> Near
+    ensures { IsNearest p.at from.at to.at result.above result.below }
+{
+    let w = p.minus(from);
+    let v = to.minus(from);
+    let along = w.dot(v);
+    let length = v.dot(v);
+    if along <= 0 {
+        Near::of(w)
+    } else if along >= length {
+        Near::of(p.minus(to))
+    } else {
+        Near::beside(w, v)
     }
+}
 
+// Whether the segments `a` `b` and `c` `d` have a point in common, and aren't parallel.
+fn crosses(a: Bounded, b: Bounded, c: Bounded, d: Bounded) -> bool
+    ensures { IsTrue result ↔ Cross a.at b.at c.at d.at }
+{
+    let w = a.minus(c);
+    let u = b.minus(a);
+    let v = d.minus(c);
+    let all = u.cross(v);
+    let first = v.cross(w);
+    let second = u.cross(w);
+    meets(all, first, second) || meets(-all, -first, -second)
+}
+
+impl Segment {
     fn keeps_point(self, p: Bounded, k: Doubled) -> bool
         ensures { IsTrue result ↔ SegmentsKeep p.at p.at self.from.at self.to.at k.value }
     {
-        self.nearest(p).is_at_least(k)
+        nearest(p, self.from, self.to).is_at_least(k)
     }
 
     fn touches_point(self, p: Bounded, k: Doubled) -> bool
         ensures { IsTrue result ↔ SegmentsTouch p.at p.at self.from.at self.to.at k.value }
     {
-        self.nearest(p).is_at_most(k)
-    }
-
-    fn crosses(self, g: Segment) -> bool
-        ensures { IsTrue result ↔ Cross self.from.at self.to.at g.from.at g.to.at }
-    {
-        let w = self.from.minus(g.from);
-        let u = self.to.minus(self.from);
-        let v = g.to.minus(g.from);
-        let all = u.cross(v);
-        let first = v.cross(w);
-        let second = u.cross(w);
-        meets(all, first, second) || meets(-all, -first, -second)
+        nearest(p, self.from, self.to).is_at_most(k)
     }
 
     fn ends_keep(self, g: Segment, k: Doubled) -> bool
@@ -148,7 +151,7 @@ impl Segment {
         let mine = span(self.from.at, self.to.at);
         if are_beyond(mine, span(g.from.at, g.to.at), k.value) {
             true
-        } else if k.value > 0 && self.crosses(g) {
+        } else if k.value > 0 && crosses(self.from, self.to, g.from, g.to) {
             false
         } else {
             self.ends_keep(g, k)
@@ -162,7 +165,7 @@ impl Segment {
         let mine = span(self.from.at, self.to.at);
         if are_beyond(mine, span(g.from.at, g.to.at), k.value + 1) {
             false
-        } else if self.crosses(g) {
+        } else if crosses(self.from, self.to, g.from, g.to) {
             true
         } else {
             self.ends_touch(g, k)

@@ -255,8 +255,7 @@ module _ (graph : MoveGraph) (starts goals : List ℕ) (low : ℕ → ℕ) (t : 
     some_path g cg priced =
         let w = label_walk g priced.label priced.there priced.done in
         let tights = all_tight w.from w.hops g w.starts_in cg w.leads (omega (arith, w.price_is, priced.price_is)) in
-        let end = path_end w.hops w.from g [] w.leads in
-        (
+        let end = path_end w.hops w.from g [] w.leads in (
           end.0,
           subst (IsPath (Contains starts) (IsStep graph t)) end.1 (tight_path w.hops w.from [] w.starts_in tights.0),
         )

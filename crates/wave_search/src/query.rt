@@ -385,10 +385,22 @@ impl<'a, M: Moves, B: Bound, T: Ties> Query<'a, M, B, T> {
         }
         self.settle_rest(alloc, table, front, order, goal.node, goal.label)?;
         let done = order.as_slice();
-        if let Some(walk) = self.chosen_walk(alloc, table, done, goal.label.price, Openness::Taken)? {
+        if let Some(walk) = self.chosen_walk(
+            alloc,
+            table,
+            done,
+            goal.label.price,
+            Openness::Taken,
+        )? {
             return Ok(walk);
         }
-        if let Some(walk) = self.chosen_walk(alloc, table, done, goal.label.price, Openness::Asked)? {
+        if let Some(walk) = self.chosen_walk(
+            alloc,
+            table,
+            done,
+            goal.label.price,
+            Openness::Asked,
+        )? {
             return Ok(walk);
         }
         self.trace(alloc, table, goal.node, goal.label)

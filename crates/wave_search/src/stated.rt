@@ -21,8 +21,8 @@ ghost use Rattle.wave_search.specs.inner.State.{IsFirstGoal};
 use crate::bound::Bound;
 use crate::front::Front;
 use crate::labels::Labels;
-use crate::rows::Label;
 use crate::query::{Done, Query};
+use crate::rows::Label;
 use crate::ties::Ties;
 use geo_kernel::List;
 use route_lattice::{Move, Moves, Walk};
@@ -340,7 +340,14 @@ impl<'a, M: Moves, B: Bound, T: Ties> Query<'a, M, B, T> {
         let place = self.pass_to(alloc, table, &mut pass, goal.label.price)?;
         let mut nodes = Vec::new(alloc);
         let mut moves = Vec::new(alloc);
-        self.lay(table, &pass, place, goal.label.price, &mut nodes, &mut moves)?;
+        self.lay(
+            table,
+            &pass,
+            place,
+            goal.label.price,
+            &mut nodes,
+            &mut moves,
+        )?;
         Ok(Walk {
             nodes: List::from_vec(nodes),
             moves: List::from_vec(moves),

@@ -11,8 +11,8 @@ ghost use Rattle.wave_search.specs.inner.State.{label_at, IsTight, IsTightOf, Is
 use crate::bound::Bound;
 use crate::choices::{Choices, Start};
 use crate::labels::Labels;
-use crate::rows::Label;
 use crate::query::Query;
+use crate::rows::Label;
 use crate::ties::Ties;
 use geo_kernel::List;
 use route_lattice::{Move, Moves, Walk};

@@ -1,12 +1,12 @@
 use Rattle.std.proofs.Common.{pos, lit≤, refl, sym, ◌∙◌}
 use Rattle.geo_kernel.proofs.Bounds.{at_most, above}
 use Rattle.geo_kernel.proofs.Segments.{as_point, at_first, at_second, at_between}
-use Rattle.geo_kernel.proofs.segment.Segment.nearest.Goals as goal
+use Rattle.geo_kernel.proofs.segment.nearest.Goals as goal
 
 pub returns-then-along-le0 : goal.returns-then-along-le0
 returns-then-along-le0 c =
     rw c.of.ensures.below
-    (at_first c.args.p.at c.args.self.from.at c.args.self.to.at (as_point c.minus-w.result)
+    (at_first c.args.p.at c.args.from.at c.args.to.at (as_point c.minus-w.result)
     (as_point c.minus-v.result) c.dot-along.result
     c.dot-length.result
     c.minus-w.ensures.x c.minus-w.ensures.y c.minus-v.ensures.x c.minus-v.ensures.y c.dot-along.ensures.value
@@ -17,7 +17,7 @@ returns-then-along-le0 c =
 pub returns-then-along-length : goal.returns-then-along-length
 returns-then-along-length c =
     rw c.of-then-along-length.ensures.below
-    (at_second c.args.p.at c.args.self.from.at c.args.self.to.at (as_point c.minus-w.result)
+    (at_second c.args.p.at c.args.from.at c.args.to.at (as_point c.minus-w.result)
     (as_point c.minus-v.result) c.dot-along.result
     c.dot-length.result
     c.minus-w.ensures.x c.minus-w.ensures.y c.minus-v.ensures.x c.minus-v.ensures.y c.dot-along.ensures.value
@@ -29,7 +29,7 @@ returns-then-along-length c =
 pub returns-else-along-length : goal.returns-else-along-length
 returns-else-along-length c =
     rw (c.beside.ensures.below ∙ sym c.dot-length.ensures.value)
-    (at_between c.args.p.at c.args.self.from.at c.args.self.to.at (as_point c.minus-w.result)
+    (at_between c.args.p.at c.args.from.at c.args.to.at (as_point c.minus-w.result)
     (as_point c.minus-v.result)
     c.dot-along.result c.dot-length.result
     c.minus-w.ensures.x c.minus-w.ensures.y c.minus-v.ensures.x c.minus-v.ensures.y c.dot-along.ensures.value

@@ -1,11 +1,11 @@
 use Rattle.std.proofs.Common.{inl, inr, ⊎_elim, sym, ◌∙◌, true≢false}
 use Rattle.geo_kernel.proofs.Bounds.{middle, opposite, opposite_fits}
 use Rattle.geo_kernel.proofs.Segments.{cross_is}
-use Rattle.geo_kernel.proofs.segment.Segment.crosses.Goals as goal
+use Rattle.geo_kernel.proofs.segment.crosses.Goals as goal
 
 pub returns-then-meets : goal.returns-then-meets
 returns-then-meets c =
-    let i = cross_is c.args.self.from.at c.args.self.to.at c.args.g.from.at c.args.g.to.at c.minus-w.result
+    let i = cross_is c.args.a.at c.args.b.at c.args.c.at c.args.d.at c.minus-w.result
     c.minus-u.result c.minus-v.result
     c.cross-all.result c.cross-first.result c.cross-second.result
     c.minus-w.ensures.x c.minus-w.ensures.y c.minus-u.ensures.x c.minus-u.ensures.y c.minus-v.ensures.x
@@ -20,7 +20,7 @@ returns-then-meets c =
 
 pub returns-else-meets : goal.returns-else-meets
 returns-else-meets c =
-    let i = cross_is c.args.self.from.at c.args.self.to.at c.args.g.from.at c.args.g.to.at c.minus-w.result
+    let i = cross_is c.args.a.at c.args.b.at c.args.c.at c.args.d.at c.minus-w.result
     c.minus-u.result c.minus-v.result
     c.cross-all.result c.cross-first.result c.cross-second.result
     c.minus-w.ensures.x c.minus-w.ensures.y c.minus-u.ensures.x c.minus-u.ensures.y c.minus-v.ensures.x

@@ -10,7 +10,7 @@ use Rattle.route_lattice.specs.Walks.{MoveGraph, IsSound, Hop, Opens, Leads, Rea
 use Rattle.route_lattice.specs.Mesh.{Mesh}
 use Rattle.route_lattice.specs.Legal.{legal_graph}
 use Rattle.cut_certificate.specs.Backwards.{backwards, LedBack, HasMoveTo, IsMutual}
-use Rattle.cut_certificate.specs.Marks.{Fill, IsMarked, IsFlood}
+use Rattle.cut_certificate.specs.inner.Marks.{Fill, IsMarked, IsFlood}
 use Rattle.cut_certificate.proofs.Flooding.{leads_on, stays_in}
 use Rattle.cut_certificate.proofs.Turning.{HasWayTo, way_undone}
 

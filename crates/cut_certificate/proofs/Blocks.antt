@@ -11,8 +11,9 @@ use Rattle.std.proofs.lemmas.List.Quantifiers.{Any-push, all_pairs_push}
 use Rattle.route_lattice.specs.declared.moves.Move.{Move}
 use Rattle.cut_certificate.specs.declared.cut.Blocker.{Blocker}
 use Rattle.cut_certificate.specs.declared.cut.Block.{Block}
-use Rattle.cut_certificate.specs.Border.{LeadsOut, IsBefore, AreInOrder, IsOf, IsBlock, AreBlocks, AllListed, IsEarlier}
-use Rattle.cut_certificate.specs.Border.{Extends}
+use Rattle.cut_certificate.specs.Border.{LeadsOut, IsBefore, AreInOrder, IsOf, IsBlock, AreBlocks}
+use Rattle.cut_certificate.specs.inner.Listing.{AllListed, IsEarlier}
+use Rattle.cut_certificate.specs.inner.Listing.{Extends}
 
 -- what holds of some element holds of some of a longer list
 any_left : (P : Block → Type 0) (xs ys : List Block) → Any P xs → Any P (xs ++ ys)

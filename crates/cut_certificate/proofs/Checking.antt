@@ -11,7 +11,8 @@ use Rattle.pcb_islands.specs.declared.net.Island.{Island}
 use Rattle.route_lattice.specs.Mesh.{node_count}
 use Rattle.route_lattice.specs.Ground.{GroundOf}
 use Rattle.route_lattice.specs.Anchors.{Anchors}
-use Rattle.cut_certificate.specs.Cuts.{IsStart, IsGoal, HoldsStartsOf, HoldsNoneOf, HoldsNoneOfIsland}
+use Rattle.cut_certificate.specs.Cuts.{IsStart, IsGoal}
+use Rattle.cut_certificate.specs.inner.Checks.{HoldsStartsOf, HoldsNoneOf, HoldsNoneOfIsland}
 
 -- ---- items by id
 module _ (items : List Item) (up : Ascends items) where

@@ -6,7 +6,8 @@ use Rattle.route_lattice.specs.Walks.{MoveGraph, IsSound, Hop, Leads, Reaches, I
 use Rattle.cut_certificate.proofs.Flooding.{leads_on}
 use Rattle.cut_certificate.specs.declared.cut.Blocker.{Blocker}
 use Rattle.cut_certificate.specs.declared.cut.Block.{Block}
-use Rattle.cut_certificate.specs.Border.{IsListed, IsBlock, AreBlocks, IsClosed}
+use Rattle.cut_certificate.specs.Border.{IsListed, IsBlock, AreBlocks}
+use Rattle.cut_certificate.specs.inner.Listing.{IsClosed}
 
 module _ (graph : MoveGraph) where
   -- a walk stays among the nodes of the graph

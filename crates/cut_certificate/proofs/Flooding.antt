@@ -6,7 +6,7 @@ use Rattle.std.proofs.lemmas.List.{length-append}
 use Rattle.std.proofs.lemmas.List.Elements.{Contains-append_left, Contains-push, Contains-push_cases}
 use Rattle.route_lattice.specs.Walks.{MoveGraph, Hop, Opens, Leads, Reaches, IsReach, to_of, move_of, cost}
 use Rattle.cut_certificate.specs.Goals.{Tells}
-use Rattle.cut_certificate.specs.Marks.{Fill, IsMarked, left_in, Gains, IsNext, IsFlood, AreListed}
+use Rattle.cut_certificate.specs.inner.Marks.{Fill, IsMarked, left_in, Gains, IsNext, IsFlood, AreListed}
 use Rattle.cut_certificate.proofs.Marking.{in_range}
 
 -- the fill without the node that is taken

@@ -5,7 +5,7 @@ use Rattle.std.specs.Prelude.{◌⊎◌, Contains}
 use Rattle.std.proofs.Math.ListN.{set, length-set}
 use Rattle.std.proofs.lemmas.List.{length-append, take_more}
 use Rattle.std.proofs.lemmas.List.Elements.{Contains-append_left, Contains-push, Contains-push_cases}
-use Rattle.cut_certificate.specs.Marks.{Fill, IsMarked, left_in, Gains}
+use Rattle.cut_certificate.specs.inner.Marks.{Fill, IsMarked, left_in, Gains}
 use Rattle.cut_certificate.proofs.Marking.{mark_here, mark_stays, mark_only, mark_less}
 
 -- ---- a node that isn't marked

@@ -4,7 +4,7 @@ use Rattle.std.specs.Prelude.{◌⊎◌}
 use Rattle.std.proofs.lemmas.Bool.{cases_lt}
 use Rattle.route_lattice.specs.declared.moves.Move.{Move}
 use Rattle.route_lattice.specs.Walks.{MoveGraph}
-use Rattle.cut_certificate.specs.Marks.{Fill, Gains, IsLedTo}
+use Rattle.cut_certificate.specs.inner.Marks.{Fill, Gains, IsLedTo}
 use Rattle.cut_certificate.proofs.Gaining.{gains_both}
 
 module _ (graph : MoveGraph) (node i : ℕ) where

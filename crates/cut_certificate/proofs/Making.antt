@@ -13,8 +13,9 @@ use Rattle.route_lattice.specs.declared.moves.Walk.{Walk}
 use Rattle.route_lattice.specs.Anchors.{AnchorsAmong, AreAnchorsAmong}
 use Rattle.route_lattice.specs.Legal.{IsLegalNode, AreThoseOf, legal_graph}
 use Rattle.cut_certificate.specs.declared.border.Border.{Border}
-use Rattle.cut_certificate.specs.Border.{Closes}
-use Rattle.cut_certificate.specs.Cuts.{LeadsOn, IsReached, IsShutBy, IsCut, IsAmong, AreIdsOf, AreStarts, AreGoals}
+use Rattle.cut_certificate.specs.inner.Listing.{Closes}
+use Rattle.cut_certificate.specs.Cuts.{LeadsOn, IsReached, IsShutBy, IsCut, AreStarts, AreGoals}
+use Rattle.cut_certificate.specs.inner.Checks.{IsAmong, AreIdsOf}
 
 -- ---- elements of a list
 -- the first element

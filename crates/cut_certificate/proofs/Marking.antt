@@ -9,7 +9,7 @@ use Rattle.std.proofs.lemmas.List.Elements.{Contains-append_left, Contains-get_o
 use Rattle.std.proofs.lemmas.List.Quantifiers.{all_pairs_push}
 use Rattle.std.proofs.lemmas.List.Sums.{sum_by-set}
 use Rattle.std.proofs.lemmas.Option.{slice_get-get_or, slice_get_within}
-use Rattle.cut_certificate.specs.Marks.{IsMarked, AreListed}
+use Rattle.cut_certificate.specs.inner.Marks.{IsMarked, AreListed}
 
 -- a marked node is one
 pub in_range : (marks : List Bool) (v : ℕ) → IsMarked marks v → v < length marks

@@ -88,9 +88,6 @@ module _ (bs : List Block) (next : AllAdjacentBelow IsBefore bs (length bs)) (i 
 pub order_from_next : (bs : List Block) → AllAdjacentBelow IsBefore bs (length bs) → AreInOrder bs
 order_from_next bs next i j d before lt = far bs next i d (j - (i + 1)) j (omega arith) lt
 
-pub next_from_order : (bs : List Block) → AreInOrder bs → AllAdjacentBelow IsBefore bs (length bs)
-next_from_order bs up k d lt = up k (k + 1) d (omega arith) lt
-
 -- a step over a block and the one before it
 module _ (bs : List Block) (k : ℕ) (p : 0 < k) (lt : k < length bs) (a b : Block) where
   pub before_more : IsBefore (get_or bs (k - 1) a) (get_or bs k b) → AllAdjacentBelow IsBefore bs k

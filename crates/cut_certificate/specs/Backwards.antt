@@ -9,13 +9,6 @@ pub record LedBy (graph : MoveGraph) (from to : ℕ) : Type 0 where
   pub opens : Opens graph from hop
   pub to_is : hop.to ≡ to
 
--- the open move of an index does
-pub record LedOver (graph : MoveGraph) (from to i : ℕ) : Type 0 where
-  pub hop : Hop
-  pub opens : Opens graph from hop
-  pub index_is : hop.index ≡ i
-  pub to_is : hop.to ≡ to
-
 -- an open move leads from where a move leads to the node
 abbrev pub LedBack : MoveGraph → ℕ → Option (Move × ℕ) → Type 0
 LedBack graph node None = ⊥

@@ -14,10 +14,9 @@ use Rattle.pcb_model.specs.Copper.{Finds}
 use Rattle.pcb_islands.specs.declared.net.Island.{Island}
 use Rattle.pcb_islands.specs.Islands.{AreIslands}
 use Rattle.route_lattice.specs.Mesh.{Mesh, node_count}
-use Rattle.route_lattice.specs.Ground.{GroundOf}
 use Rattle.route_lattice.specs.Ways.{way, way_count}
 use Rattle.route_lattice.specs.Walks.{Hop, Leads, IsReach}
-use Rattle.route_lattice.specs.Anchors.{Anchors, AnchorsAmong}
+use Rattle.route_lattice.specs.Anchors.{AnchorsAmong}
 use Rattle.route_lattice.specs.Legal.{IsLegalNode, probe_at, legal_graph}
 use Rattle.cut_certificate.specs.declared.cut.Blocker.{Blocker}
 use Rattle.cut_certificate.specs.declared.cut.Blocker.TheVariants as blocker
@@ -96,36 +95,7 @@ pub record CutsOff (d : Design) (m : Mesh) (items : List Item) (via_cost : ℕ) 
   pub found_are : AreIslands d items island.net found
   pub cuts : Cuts d m items via_cost island (others_of island found) cut
 
--- ---- steps of a check and of a search
--- each node that anchors the item, and whose disc is legal, is among the nodes
-abbrev pub HoldsStarts : GroundOf → ℕ → List ℕ → Item → Type 0
-HoldsStarts on net nodes a =
-    (node : ℕ) → node < node_count on.lat → Anchors on.d on.lat node a → IsLegalNode on.d on.lat on.items net node
-    → Contains nodes node
-
--- each item with this id is held so
-abbrev pub HoldsStartsOf : GroundOf → ℕ → List ℕ → ℕ → Type 0
-HoldsStartsOf on net nodes id = (a : Item) → Contains on.items a → a.id ≡ id → HoldsStarts on net nodes a
-
--- none of the nodes anchors the item
-abbrev pub HoldsNone : GroundOf → List ℕ → Item → Type 0
-HoldsNone on nodes a = All (λ node. Anchors on.d on.lat node a → ⊥) nodes
-
-abbrev pub HoldsNoneOf : GroundOf → List ℕ → ℕ → Type 0
-HoldsNoneOf on nodes id = (a : Item) → Contains on.items a → a.id ≡ id → HoldsNone on nodes a
-
--- none of the nodes anchors an item of the island
-abbrev pub HoldsNoneOfIsland : GroundOf → List ℕ → Island → Type 0
-HoldsNoneOfIsland on nodes o = All (HoldsNoneOf on nodes) o.items
-
--- the id is that of an item of some of the islands
-abbrev pub IsAmong : List Island → ℕ → Type 0
-IsAmong others id = Any (λ (o : Island). Contains o.items id) others
-
--- the numbers are the ids of the items of the islands
-abbrev pub AreIdsOf : List Island → List ℕ → Type 0
-AreIdsOf others ids = (id : ℕ) → Contains ids id ↔ IsAmong others id
-
+-- ---- nodes of walks
 -- the nodes are those at which a walk from the island may start, and end
 pub record AreStarts (d : Design) (m : Mesh) (items : List Item) (island : Island) (nodes : List ℕ) : Type 0 where
   pub exact : (node : ℕ) → Contains nodes node ↔ IsStart d m items island node

@@ -4,8 +4,10 @@
 ghost use Rattle.std.specs.Prelude.{◌≡◌, ◌<◌};
 ghost use Rattle.std.specs.Bool.{OnTrue, OnFalse};
 ghost use Rattle.route_lattice.specs.Walks.{IsSound};
-ghost use Rattle.cut_certificate.specs.Backwards.{backwards, LedBy, LedOver};
+ghost use Rattle.cut_certificate.specs.Backwards.{backwards, LedBy};
+ghost use Rattle.cut_certificate.specs.inner.Marks.{LedOver};
 
+use crate::sound::SoundMoves;
 use route_lattice::{Move, Moves};
 
 /// The moves of another set of moves, turned round.
@@ -14,38 +16,34 @@ pub struct Backwards<'a, M: Moves> {
     pub m: &'a M,
 }
 
-impl<M: Moves> Backwards<'_, M> {
+impl<M: Moves> SoundMoves<'_, M> {
     /// Whether move `i` of a node is open and leads to the other one.
     fn leads_by(&self, from: u32, to: u32, i: u32) -> bool
-        requires ready { M.ready self.now.m.now }
-        requires sound { IsSound (M.graph self.now.m.now) }
-        requires from { from < (M.graph self.now.m.now).count }
-        requires index { i < (M.graph self.now.m.now).arity }
-        ensures yes { OnTrue result (LedOver (M.graph self.now.m.now) from to i) }
-        ensures no { OnFalse result (LedOver (M.graph self.now.m.now) from to i → ⊥) }
+        requires from { from < (M.graph self.now).count }
+        requires index { i < (M.graph self.now).arity }
+        ensures yes { OnTrue result (LedOver (M.graph self.now) from to i) }
+        ensures no { OnFalse result (LedOver (M.graph self.now) from to i → ⊥) }
     {
-        let Some((_, there)) = self.m.at(from, i) else {
+        let Some((_, there)) = self.moves.at(from, i) else {
             return false;
         };
         if there != to {
             return false;
         }
-        if !self.m.is_open(from, i) {
+        if !self.moves.is_open(from, i) {
             return false;
         }
-        let _price = self.m.price(from, i);
+        let _price = self.moves.price(from, i);
         true
     }
 
     /// Whether an open move leads from a node to another one.
     fn leads(&self, from: u32, to: u32) -> bool
-        requires ready { M.ready self.now.m.now }
-        requires sound { IsSound (M.graph self.now.m.now) }
-        requires from { from < (M.graph self.now.m.now).count }
-        ensures yes { OnTrue result (LedBy (M.graph self.now.m.now) from to) }
-        ensures no { OnFalse result (LedBy (M.graph self.now.m.now) from to → ⊥) }
+        requires { from < (M.graph self.now).count }
+        ensures yes { OnTrue result (LedBy (M.graph self.now) from to) }
+        ensures no { OnFalse result (LedBy (M.graph self.now) from to → ⊥) }
     {
-        for i in 0..self.m.arity() {
+        for i in 0..self.arity() {
             if self.leads_by(from, to, i) {
                 return true;
             }
@@ -73,7 +71,7 @@ impl<M: Moves> Moves for Backwards<'_, M> {
 
     fn is_open(&self, node: u32, i: u32) -> bool {
         match self.m.at(node, i) {
-            Some((_, from)) => self.leads(from, node),
+            Some((_, from)) => SoundMoves { moves: self.m }.leads(from, node),
             None => false,
         }
     }

@@ -5,17 +5,16 @@ ghost use Rattle.std.specs.Prelude.{◌≡◌, ℕ, ◌<◌, ◌↔◌, All, Con
 ghost use Rattle.std.specs.List.Sorted.{IsStrictlyIncreasing};
 ghost use Rattle.cut_certificate.specs.declared.cut.Blocker.{Blocker as OneBlocker};
 ghost use Rattle.cut_certificate.specs.Border.{LeadsOut, IsBefore, AreInOrder, IsListed, IsBlock, AreBlocks};
-ghost use Rattle.cut_certificate.specs.Border.{AllListed, Extends, IsClosed, Closes};
+ghost use Rattle.cut_certificate.specs.inner.Listing.{AllListed, AreEarlier, Extends, IsClosed, Closes};
 ghost use Rattle.cut_certificate.specs.Same.{SameMoves};
 ghost use Rattle.cut_certificate.specs.Goals.{Meets};
-ghost use Rattle.route_lattice.specs.Walks.{IsSound};
 
 use crate::cut::{Block, Blocker};
-use crate::laws::reach_tells_goals;
-use crate::spread::flood;
+use crate::sound::SoundMoves;
 use geo_kernel::List;
 use route_lattice::{Moves, Reach};
 use std::alloc::{AllocError, Global};
+use std::marker::Model;
 
 /// All nodes that moves reach, and the moves that lead out of them.
 #[derive(Drop)]
@@ -64,19 +63,6 @@ pub(crate) fn has(nodes: &[u32], node: u32) -> bool
     nodes.binary_search(&node).is_ok()
 }
 
-fn leads_out<M: Shuts>(m: &M, nodes: &[u32], node: u32, index: u32) -> bool
-    requires ready { M.ready m.now }
-    requires ascends { IsStrictlyIncreasing nodes.now }
-    requires node { node < (M.graph m.now).count }
-    requires index { index < (M.graph m.now).arity }
-    ensures { IsTrue result ↔ LeadsOut (M.graph m.now).at nodes.now node index }
-{
-    match m.at(node, index) {
-        None => false,
-        Some((_, to)) => !has(nodes, to),
-    }
-}
-
 fn is_before(a: &Block, b: &Block) -> bool
     ensures { IsTrue result ↔ IsBefore a.now b.now }
 {
@@ -95,165 +81,211 @@ fn in_order(blocked: &[Block]) -> bool
     true
 }
 
-fn is_listed(blocked: &[Block], node: u32, index: u32) -> bool
-    requires { AreInOrder blocked.now }
-    ensures { IsTrue result ↔ IsListed blocked.now node index }
-{
-    blocked
-        .binary_search_by_key(&(node, index), |b| (b.node, b.index))
-        .is_ok()
+/// Blocks in order.
+#[derive(Drop)]
+struct BlockList<'a> {
+    blocks: &'a [Block],
 }
 
-fn stays_or_listed<M: Shuts>(m: &M, nodes: &[u32], blocked: &[Block], node: u32, index: u32) -> bool
-    requires ready { M.ready m.now }
-    requires ascends { IsStrictlyIncreasing nodes.now }
-    requires in_order { AreInOrder blocked.now }
-    requires node { node < (M.graph m.now).count }
-    requires index { index < (M.graph m.now).arity }
-    ensures { IsTrue result ↔ (LeadsOut (M.graph m.now).at nodes.now node index → IsListed blocked.now node index) }
-{
-    !leads_out(m, nodes, node, index) || is_listed(blocked, node, index)
+impl<'a> Model for BlockList<'a> {
+    ghost use Rattle.std.specs.Prelude.{List};
+    ghost use Rattle.cut_certificate.specs.declared.cut.Block.{Block};
+
+    ghost Value = { List Block };
+
+    ghost use Rattle.cut_certificate.specs.Border.{AreInOrder};
+
+    ghost view = { λ s. s.blocks.now };
+
+    ghost invariant = { λ s. AreInOrder s.blocks.now };
 }
 
-fn all_listed<M: Shuts>(m: &M, nodes: &[u32], blocked: &[Block], node: u32) -> bool
-    requires ready { M.ready m.now }
-    requires ascends { IsStrictlyIncreasing nodes.now }
-    requires in_order { AreInOrder blocked.now }
-    requires node { node < (M.graph m.now).count }
-    ensures { IsTrue result ↔ AllListed (M.graph m.now).at (M.graph m.now).arity nodes.now blocked.now node }
-{
-    for i in 0..m.arity() {
-        if !stays_or_listed(m, nodes, blocked, node, i) {
-            return false;
+impl BlockList<'_> {
+    fn has(&self, node: u32, index: u32) -> bool
+        ensures { IsTrue result ↔ IsListed self.now node index }
+    {
+        self.blocks
+            .binary_search_by_key(&(node, index), |b| (b.node, b.index))
+            .is_ok()
+    }
+}
+
+impl<M: Shuts> SoundMoves<'_, M> {
+    /// What shuts a move, or None where it is open.
+    fn blocker(&self, node: u32, i: u32) -> Option<Blocker>
+        requires node { node < (M.graph self.now).count }
+        requires index { i < (M.graph self.now).arity }
+        requires there { IsSome ((M.graph self.now).at node i) }
+        ensures open { IfNone result ((M.graph self.now).open_at node i) }
+        ensures shut { (by : OneBlocker) → (M.shut_by self.now node i by ↔ (result ≡ Some by)) }
+    {
+        self.moves.blocker(node, i)
+    }
+
+    /// Each move has a price: a call that does nothing but say so.
+    fn have_prices(&self)
+        ensures { (node i : ℕ) → node < (M.graph self.now).count → i < (M.graph self.now).arity
+            → (p : ℕ) × (M.graph self.now).priced node i p }
+    {
+        self.moves.has_prices();
+    }
+}
+
+/// Nodes of some moves, ascending.
+#[derive(Drop)]
+struct MoveNodes<'a, M: Shuts> {
+    on: SoundMoves<'a, M>,
+    nodes: &'a [u32],
+    ghost ascend: { IsStrictlyIncreasing nodes.now },
+    ghost there: { All (λ v. v < (M.graph on).count) nodes.now },
+}
+
+impl<M: Shuts> MoveNodes<'_, M> {
+    fn leads_out(&self, node: u32, index: u32) -> bool
+        requires node { node < (M.graph self.now.on).count }
+        requires index { index < (M.graph self.now.on).arity }
+        ensures { IsTrue result ↔ LeadsOut (M.graph self.now.on).at self.now.nodes.now node index }
+    {
+        match self.on.moves.at(node, index) {
+            None => false,
+            Some((_, to)) => !has(self.nodes, to),
         }
     }
-    true
-}
 
-fn nodes_listed<M: Shuts>(m: &M, nodes: &[u32], blocked: &[Block]) -> bool
-    requires ready { M.ready m.now }
-    requires ascends { IsStrictlyIncreasing nodes.now }
-    requires nodes { All (λ v. v < (M.graph m.now).count) nodes.now }
-    requires in_order { AreInOrder blocked.now }
-    ensures { IsTrue result ↔ All (AllListed (M.graph m.now).at (M.graph m.now).arity nodes.now blocked.now) nodes.now }
-{
-    for v in nodes {
-        if !all_listed(m, nodes, blocked, *v) {
+    fn stays_or_listed(&self, blocked: &BlockList<'_>, node: u32, index: u32) -> bool
+        requires node { node < (M.graph self.now.on).count }
+        requires index { index < (M.graph self.now.on).arity }
+        ensures { IsTrue result ↔ (LeadsOut (M.graph self.now.on).at self.now.nodes.now node index
+            → IsListed blocked.now node index) }
+    {
+        !self.leads_out(node, index) || blocked.has(node, index)
+    }
+
+    fn all_listed(&self, blocked: &BlockList<'_>, node: u32) -> bool
+        requires { node < (M.graph self.now.on).count }
+        ensures { IsTrue result ↔ AllListed (M.graph self.now.on).at (M.graph self.now.on).arity self.now.nodes.now
+            blocked.now node }
+    {
+        for i in 0..self.on.arity() {
+            if !self.stays_or_listed(blocked, node, i) {
+                return false;
+            }
+        }
+        true
+    }
+
+    fn nodes_listed(&self, blocked: &BlockList<'_>) -> bool
+        ensures { IsTrue result ↔ All (AllListed (M.graph self.now.on).at (M.graph self.now.on).arity
+            self.now.nodes.now blocked.now) self.now.nodes.now }
+    {
+        for v in self.nodes {
+            if !self.all_listed(blocked, *v) {
+                return false;
+            }
+        }
+        true
+    }
+
+    fn is_shut_by(&self, node: u32, index: u32, by: Blocker) -> bool
+        requires node { node < (M.graph self.now.on).count }
+        requires index { index < (M.graph self.now.on).arity }
+        requires there { IsSome ((M.graph self.now.on).at node index) }
+        ensures { IsTrue result ↔ M.shut_by self.now.on node index by }
+    {
+        self.on.blocker(node, index) == Some(by)
+    }
+
+    fn is_block(&self, block: &Block) -> bool
+        ensures { IsTrue result ↔ IsBlock (M.graph self.now.on).at (M.graph self.now.on).arity
+            (M.shut_by self.now.on) self.now.nodes.now block.now }
+    {
+        if !has(self.nodes, block.node) {
             return false;
         }
-    }
-    true
-}
-
-fn is_shut_by<M: Shuts>(m: &M, node: u32, index: u32, by: Blocker) -> bool
-    requires ready { M.ready m.now }
-    requires node { node < (M.graph m.now).count }
-    requires index { index < (M.graph m.now).arity }
-    requires there { IsSome ((M.graph m.now).at node index) }
-    ensures { IsTrue result ↔ M.shut_by m.now node index by }
-{
-    m.blocker(node, index) == Some(by)
-}
-
-fn is_block<M: Shuts>(m: &M, nodes: &[u32], b: &Block) -> bool
-    requires ready { M.ready m.now }
-    requires ascends { IsStrictlyIncreasing nodes.now }
-    requires nodes { All (λ v. v < (M.graph m.now).count) nodes.now }
-    ensures { IsTrue result ↔ IsBlock (M.graph m.now).at (M.graph m.now).arity (M.shut_by m.now) nodes.now b.now }
-{
-    if !has(nodes, b.node) {
-        return false;
-    }
-    if b.index >= m.arity() {
-        return false;
-    }
-    if !leads_out(m, nodes, b.node, b.index) {
-        return false;
-    }
-    is_shut_by(m, b.node, b.index, b.by)
-}
-
-fn all_blocks<M: Shuts>(m: &M, nodes: &[u32], blocked: &[Block]) -> bool
-    requires ready { M.ready m.now }
-    requires ascends { IsStrictlyIncreasing nodes.now }
-    requires nodes { All (λ v. v < (M.graph m.now).count) nodes.now }
-    ensures { IsTrue result ↔ All (IsBlock (M.graph m.now).at (M.graph m.now).arity (M.shut_by m.now) nodes.now)
-        blocked.now }
-{
-    for b in blocked {
-        if !is_block(m, nodes, b) {
+        if block.index >= self.on.arity() {
             return false;
         }
+        if !self.leads_out(block.node, block.index) {
+            return false;
+        }
+        self.is_shut_by(block.node, block.index, block.by)
     }
-    true
+
+    fn all_blocks(&self, blocked: &[Block]) -> bool
+        ensures { IsTrue result ↔ All (IsBlock (M.graph self.now.on).at (M.graph self.now.on).arity
+            (M.shut_by self.now.on) self.now.nodes.now) blocked.now }
+    {
+        for block in blocked {
+            if !self.is_block(block) {
+                return false;
+            }
+        }
+        true
+    }
+
+    fn are_blocks(&self, blocked: &[Block]) -> bool
+        ensures { IsTrue result ↔ AreBlocks (M.graph self.now.on).at (M.graph self.now.on).arity
+            (M.shut_by self.now.on) self.now.nodes.now blocked.now }
+    {
+        if !in_order(blocked) {
+            return false;
+        }
+        if !self.all_blocks(blocked) {
+            return false;
+        }
+        let list = BlockList { blocks: blocked };
+        self.nodes_listed(&list)
+    }
+
+    /// Appends the moves of a node that lead out.
+    fn push_blocks(&self, node: u32, blocked: &mut Vec<Block>) -> Result<(), AllocError>
+        requires inside { Contains self.now.nodes.now node }
+        requires closed { IsClosed (M.graph self.now.on).at (M.graph self.now.on).arity
+            (M.graph self.now.on).open_at self.now.nodes.now }
+        requires earlier { AreEarlier (M.graph self.now.on).at (M.graph self.now.on).arity (M.shut_by self.now.on)
+            self.now.nodes.now node blocked.old.items }
+        ensures { OnOk result (Extends (M.graph self.now.on).at (M.graph self.now.on).arity (M.shut_by self.now.on)
+            self.now.nodes.now node (M.graph self.now.on).arity blocked.old.items blocked.new.items) }
+    {
+        for i in 0..self.on.arity() {
+            if self.leads_out(node, i) {
+                let Some(by) = self.on.blocker(node, i) else {
+                    unreachable!();
+                };
+                blocked.push(Block { node, index: i, by })?;
+            }
+        }
+        Ok(())
+    }
+
+    /// The moves of the nodes that lead out, in order, each with what shuts it.
+    fn blocks_of(&self, alloc: Global) -> Result<Vec<Block>, AllocError>
+        requires { IsClosed (M.graph self.now.on).at (M.graph self.now.on).arity
+            (M.graph self.now.on).open_at self.now.nodes.now }
+        ensures { IfOk result (λ v. AreBlocks (M.graph self.now.on).at (M.graph self.now.on).arity
+            (M.shut_by self.now.on) self.now.nodes.now v.items) }
+    {
+        let mut blocked = Vec::new(alloc);
+        for v in self.nodes {
+            self.push_blocks(*v, &mut blocked)?;
+        }
+        Ok(blocked)
+    }
 }
 
 /// Whether the blocks are, in order, exactly the moves of the nodes that lead out, each with what shuts it.
-pub(crate) fn are_blocks<M: Shuts>(m: &M, nodes: &[u32], blocked: &[Block]) -> bool
-    requires ready { M.ready m.now }
-    requires ascends { IsStrictlyIncreasing nodes.now }
-    requires nodes { All (λ v. v < (M.graph m.now).count) nodes.now }
-    ensures { IsTrue result ↔ AreBlocks (M.graph m.now).at (M.graph m.now).arity (M.shut_by m.now) nodes.now
+pub(crate) fn are_blocks<'a, M: Shuts>(
+    on: SoundMoves<'a, M>,
+    nodes: &'a [u32],
+    blocked: &[Block],
+) -> bool
+    requires ascend { IsStrictlyIncreasing nodes.now }
+    requires there { All (λ v. v < (M.graph on).count) nodes.now }
+    ensures { IsTrue result ↔ AreBlocks (M.graph on.entry).at (M.graph on.entry).arity (M.shut_by on.entry) nodes.now
         blocked.now }
 {
-    if !in_order(blocked) {
-        return false;
-    }
-    if !all_blocks(m, nodes, blocked) {
-        return false;
-    }
-    nodes_listed(m, nodes, blocked)
-}
-
-/// Appends the moves of a node that lead out.
-fn push_blocks<M: Shuts>(
-    m: &M,
-    nodes: &[u32],
-    node: u32,
-    blocked: &mut Vec<Block>,
-) -> Result<(), AllocError>
-    requires ready { M.ready m.now }
-    requires ascends { IsStrictlyIncreasing nodes.now }
-    requires inside { Contains nodes.now node }
-    requires node { node < (M.graph m.now).count }
-    requires closed { IsClosed (M.graph m.now).at (M.graph m.now).arity (M.graph m.now).open_at nodes.now }
-    requires in_order { AreInOrder blocked.old.items }
-    requires earlier { All (λ b. b.node < node) blocked.old.items }
-    requires only { All (IsBlock (M.graph m.now).at (M.graph m.now).arity (M.shut_by m.now) nodes.now)
-        blocked.old.items }
-    ensures { OnOk result
-        (Extends (M.graph m.now).at (M.graph m.now).arity (M.shut_by m.now) nodes.now node (M.graph m.now).arity
-        blocked.old.items blocked.new.items) }
-{
-    for i in 0..m.arity() {
-        if leads_out(m, nodes, node, i) {
-            let Some(by) = m.blocker(node, i) else {
-                unreachable!();
-            };
-            blocked.push(Block { node, index: i, by })?;
-        }
-    }
-    Ok(())
-}
-
-/// The moves of the nodes that lead out, in order, each with what shuts it.
-pub(crate) fn blocks_of<M: Shuts>(
-    alloc: Global,
-    m: &M,
-    nodes: &[u32],
-) -> Result<Vec<Block>, AllocError>
-    requires ready { M.ready m.now }
-    requires ascends { IsStrictlyIncreasing nodes.now }
-    requires nodes { All (λ v. v < (M.graph m.now).count) nodes.now }
-    requires closed { IsClosed (M.graph m.now).at (M.graph m.now).arity (M.graph m.now).open_at nodes.now }
-    ensures { IfOk result
-        (λ v. AreBlocks (M.graph m.now).at (M.graph m.now).arity (M.shut_by m.now) nodes.now v.items) }
-{
-    let mut blocked = Vec::new(alloc);
-    for v in nodes {
-        push_blocks(m, nodes, *v, &mut blocked)?;
-    }
-    Ok(blocked)
+    let held = MoveNodes { on, nodes };
+    held.are_blocks(blocked)
 }
 
 /// Whether one of the nodes is a goal.
@@ -270,29 +302,32 @@ fn meets(nodes: &[u32], goals: &[u32]) -> bool
 }
 
 /// The border of all that open moves reach from the starts, or None where they reach a goal. The flood goes over
-/// `legal`, which has the same moves; `m` tells what shuts those that lead out.
+/// `legal`, which has the same moves; `shuts` tells what shuts those that lead out.
 pub(crate) fn close<M: Shuts, L: Moves>(
     alloc: Global,
-    m: &M,
-    legal: &L,
+    shuts: SoundMoves<'_, M>,
+    legal: &SoundMoves<'_, L>,
     starts: &List<u32>,
     goals: &List<u32>,
 ) -> Result<Option<Border>, AllocError>
-    requires ready { M.ready m.now }
-    requires legal_ready { L.ready legal.now }
-    requires same { SameMoves (L.graph legal.now) (M.graph m.now) }
-    requires sound { IsSound (M.graph m.now) }
-    requires starts { All (λ s. s < (M.graph m.now).count) starts.now }
-    ensures { IfOk result (Closes (M.graph m.now) (M.shut_by m.now) starts.now goals.now) }
+    requires same { SameMoves (L.graph legal.now) (M.graph shuts) }
+    requires starts { All (λ s. s < (M.graph shuts).count) starts.now }
+    ensures { IfOk result (Closes (M.graph shuts.entry) (M.shut_by shuts.entry) starts.now goals.now) }
 {
-    let reach = flood(alloc, legal, starts)?;
-    reach_tells_goals(m);
+    shuts.are_sound();
+    shuts.have_prices();
+    let reach = legal.flood(alloc, starts)?;
     if meets(reach.nodes.as_slice(), goals.as_slice()) {
         drop(reach);
         return Ok(None);
     }
-    m.has_prices();
-    match blocks_of(alloc, m, reach.nodes.as_slice()) {
+    let held = MoveNodes {
+        on: shuts,
+        nodes: reach.nodes.as_slice(),
+    };
+    let blocked = held.blocks_of(alloc);
+    drop(held);
+    match blocked {
         Ok(blocked) => Ok(Some(Border {
             reach,
             blocked: List::from_vec(blocked),

@@ -10,15 +10,17 @@ ghost use Rattle.route_lattice.specs.Anchors.{Anchors};
 ghost use Rattle.route_lattice.specs.Ways.{way, way_count};
 ghost use Rattle.route_lattice.specs.Legal.{IsLegalNode};
 ghost use Rattle.cut_certificate.specs.Border.{AreBlocks};
-ghost use Rattle.cut_certificate.specs.Cuts.{IsCut, IsShutBy, LeadsOn, HoldsStarts, HoldsStartsOf};
-ghost use Rattle.cut_certificate.specs.Cuts.{HoldsNone, HoldsNoneOf, HoldsNoneOfIsland};
+ghost use Rattle.cut_certificate.specs.Cuts.{IsCut, IsShutBy, LeadsOn};
+ghost use Rattle.cut_certificate.specs.inner.Checks.{HoldsStarts, HoldsStartsOf};
+ghost use Rattle.cut_certificate.specs.inner.Checks.{HoldsNone, HoldsNoneOf, HoldsNoneOfIsland};
 
 use crate::border::{are_blocks, ascends, has};
 use crate::cut::{Block, Cut};
+use crate::sound::SoundMoves;
 use geo_kernel::List;
 use pcb_islands::Island;
 use pcb_model::{Copper, Design, Item};
-use route_lattice::{Ground, Lattice};
+use route_lattice::{Ground, Lattice, legal_graph_sound};
 
 fn is_named(island: &Island, cut: &Cut) -> bool
     ensures { IsTrue result ↔ ((cut.now.net ≡ island.now.net) × (slice_get island.now.pins 0 ≡ Some cut.now.pin)) }
@@ -151,8 +153,10 @@ impl<C: Copper> CutNodes<'_, C> {
             self.now.on.lat self.now.net)
             (IsShutBy self.now.on.d self.now.on.lat self.now.on.items self.now.net) self.now.nodes.now blocked.now }
     {
+        legal_graph_sound();
         let moves = self.on.moves(self.net, 0);
-        are_blocks(&moves, self.nodes, blocked)
+        let on = SoundMoves { moves: &moves };
+        are_blocks(on, self.nodes, blocked)
     }
 }
 

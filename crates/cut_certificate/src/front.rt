@@ -2,7 +2,7 @@
 //! A node is marked when it begins to wait, so it waits once.
 
 ghost use Rattle.std.specs.Prelude.{◌≡◌, ◌↔◌, ◌<◌, ℕ, length, IfOk, OnOk, IsTrue};
-ghost use Rattle.cut_certificate.specs.Marks.{IsMarked, IsBlank, Gains, AreListed, fill_of};
+ghost use Rattle.cut_certificate.specs.inner.Marks.{IsMarked, IsBlank, Gains, AreListed, fill_of};
 
 use geo_kernel::List;
 use std::alloc::{AllocError, Global};

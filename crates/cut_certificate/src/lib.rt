@@ -11,6 +11,7 @@ mod front;
 mod laws;
 mod make;
 mod shut;
+mod sound;
 mod spread;
 
 pub use backwards::Backwards;

@@ -1,21 +1,23 @@
 //! Cuts, made by a search that closed.
 //! No cut is made where legal moves lead on.
 
-ghost use Rattle.std.specs.Prelude.{◌≡◌, ◌<◌, ◌==◌, length, List as Seq, IfOk, slice_index};
+ghost use Rattle.std.specs.Prelude.{◌≡◌, ◌<◌, ◌≤◌, ◌^◌, ◌==◌, length, List as Seq, IfOk, slice_index};
 ghost use Rattle.std.specs.List.{list_any};
 ghost use Rattle.pcb_islands.specs.declared.net.Island.{Island as OneIsland};
 ghost use Rattle.pcb_model.specs.Sound.{IsSound};
 ghost use Rattle.route_lattice.specs.Fits.{FitsDesign};
 ghost use Rattle.route_lattice.specs.Legal.{CanMove, legal_graph};
 ghost use Rattle.cut_certificate.specs.Same.{SameMoves};
-ghost use Rattle.cut_certificate.specs.Cuts.{Cuts, CutsOff, AreIdsOf, AreStarts, AreGoals, others_of};
+ghost use Rattle.cut_certificate.specs.Cuts.{Cuts, CutsOff, AreStarts, AreGoals, others_of};
+ghost use Rattle.cut_certificate.specs.inner.Checks.{AreIdsOf};
 
 use crate::border::{Border, close};
 use crate::cut::Cut;
+use crate::sound::SoundMoves;
 use geo_kernel::List;
 use pcb_islands::{Island, islands};
 use pcb_model::{Copper, Design};
-use route_lattice::{Lattice, LegalMoves, Moves, anchors_among, legal_among, legal_graph_sound};
+use route_lattice::{Ground, Lattice, Moves, anchors_among, legal_among, legal_graph_sound};
 use std::alloc::{AllocError, Global};
 
 /// The ids of the items of the islands.
@@ -73,39 +75,47 @@ fn first_pin(island: &Island) -> u32
     }
 }
 
-/// A cut that holds the starts of an island, or None where legal moves lead from one of them to a goal; whichever
-/// islands the goals are of.
-fn cut_between<C: Copper, M: Moves>(
-    alloc: Global,
-    lat: &Lattice,
-    d: &Design,
-    c: &C,
-    legal: &M,
-    island: &Island,
+/// An island of a net on its ground, and the price of a via in nm.
+#[derive(Drop)]
+struct FromIsland<'a, C: Copper> {
+    on: Ground<'a, C>,
+    island: &'a Island,
     via_cost: u64,
-    starts: &List<u32>,
-    goals: &List<u32>,
-) -> Result<Option<Cut>, AllocError>
-    requires can_move { CanMove d.now lat.now island.now.net via_cost }
-    requires pins { 0 < length island.now.pins }
-    requires serves { C.serves c.now d.now }
-    requires ready { M.ready legal.now }
-    requires legal { SameMoves (M.graph legal.now) (legal_graph d.now lat.now (C.items c.now) island.now.net via_cost) }
-    requires starts { AreStarts d.now lat.now (C.items c.now) island.now starts.now }
-    ensures { IfOk result (λ cut. (others : Seq OneIsland) → AreGoals d.now lat.now (C.items c.now) others goals.now
-        → Cuts d.now lat.now (C.items c.now) via_cost island.now others cut) }
-{
-    legal_graph_sound();
-    let net = island.net;
-    let moves = LegalMoves::of(lat, d, c, net, via_cost);
-    match close(alloc, &moves, legal, starts, goals)? {
-        None => Ok(None),
-        Some(Border { reach, blocked }) => Ok(Some(Cut {
-            net,
-            pin: first_pin(island),
-            reach,
-            blocked,
-        })),
+    ghost net_there: { island.now.net < length on.d.nets },
+    ghost small_cost: { via_cost ≤ 2 ^ 30 },
+    ghost pins: { 0 < length island.now.pins },
+}
+
+impl<C: Copper> FromIsland<'_, C> {
+    /// A cut that holds the starts of the island, or None where legal moves lead from one of them to a goal; whichever
+    /// islands the goals are of. The flood goes over `legal`.
+    fn cut_between<M: Moves>(
+        &self,
+        alloc: Global,
+        legal: &SoundMoves<'_, M>,
+        starts: &List<u32>,
+        goals: &List<u32>,
+    ) -> Result<Option<Cut>, AllocError>
+        requires legal { SameMoves (M.graph legal.now) (legal_graph self.now.on.d self.now.on.lat self.now.on.items
+            self.now.island.now.net self.now.via_cost) }
+        requires starts { AreStarts self.now.on.d self.now.on.lat self.now.on.items self.now.island.now starts.now }
+        ensures { IfOk result (λ cut. (others : Seq OneIsland)
+            → AreGoals self.now.on.d self.now.on.lat self.now.on.items others goals.now
+            → Cuts self.now.on.d self.now.on.lat self.now.on.items self.now.via_cost self.now.island.now others cut) }
+    {
+        legal_graph_sound();
+        let net = self.island.net;
+        let moves = self.on.moves(net, self.via_cost);
+        let shuts = SoundMoves { moves: &moves };
+        match close(alloc, shuts, legal, starts, goals)? {
+            None => Ok(None),
+            Some(Border { reach, blocked }) => Ok(Some(Cut {
+                net,
+                pin: first_pin(self.island),
+                reach,
+                blocked,
+            })),
+        }
     }
 }
 
@@ -128,9 +138,18 @@ pub fn make_cut_with<C: Copper, M: Moves>(
     requires legal { SameMoves (M.graph legal.now) (legal_graph d.now lat.now (C.items c.now) island.now.net via_cost) }
     ensures { IfOk result (Cuts d.now lat.now (C.items c.now) via_cost island.now others.now) }
 {
+    legal_graph_sound();
+    c.in_order();
     let starts = starts_of(alloc, lat, d, c, island)?;
     let goals = goals_of(alloc, lat, d, c, others)?;
-    cut_between(alloc, lat, d, c, legal, island, via_cost, &starts, &goals)
+    let on = Ground { lat, d, c };
+    let from = FromIsland {
+        on,
+        island,
+        via_cost,
+    };
+    let legal = SoundMoves { moves: legal };
+    from.cut_between(alloc, &legal, &starts, &goals)
 }
 
 /// A cut between an island and the others, or None exactly where legal moves lead from a legal anchor of the island to
@@ -149,7 +168,9 @@ pub fn make_cut_among<C: Copper>(
     requires serves { C.serves c.now d.now }
     ensures { IfOk result (Cuts d.now lat.now (C.items c.now) via_cost island.now others.now) }
 {
-    let legal = LegalMoves::of(lat, d, c, island.net, via_cost);
+    c.in_order();
+    let on = Ground { lat, d, c };
+    let legal = on.moves(island.net, via_cost);
     make_cut_with(alloc, lat, d, c, &legal, island, others, via_cost)
 }
 

@@ -5,11 +5,12 @@ ghost use Rattle.std.specs.Prelude.{◌≡◌, ◌<◌, ◌+◌, ℕ, length, Al
 ghost use Rattle.std.specs.Bool.{OnTrue, OnFalse};
 ghost use Rattle.route_lattice.specs.Walks.{IsSound, IsReach, NoneLeads};
 ghost use Rattle.cut_certificate.specs.Backwards.{IsMutual};
-ghost use Rattle.cut_certificate.specs.Marks.{IsMarked, Gains, IsLedTo, IsNext, IsBlank, IsFlood, fill_of};
+ghost use Rattle.cut_certificate.specs.inner.Marks.{IsMarked, Gains, IsLedTo, IsNext, IsBlank, IsFlood, fill_of};
 
 use crate::backwards::Backwards;
 use crate::check::all_below;
 use crate::front::Front;
+use crate::sound::SoundMoves;
 use geo_kernel::List;
 use route_lattice::{Moves, Reach};
 use std::alloc::{AllocError, Global};
@@ -25,56 +26,89 @@ fn seed(front: &mut Front, starts: &[u32]) -> Result<(), AllocError>
     Ok(())
 }
 
-/// Follows move `i` of the node. Its price is asked for since each move of a walk has one.
-fn follow_one<M: Moves>(m: &M, front: &mut Front, node: u32, i: u32) -> Result<(), AllocError>
-    requires ready { M.ready m.now }
-    requires sound { IsSound (M.graph m.now) }
-    requires node { node < (M.graph m.now).count }
-    requires index { i < (M.graph m.now).arity }
-    requires size { length front.old.marks.items ≡ (M.graph m.now).count }
-    ensures { OnOk result (Gains (IsLedTo (M.graph m.now) node i (i + 1)) (fill_of front.old) (fill_of front.new)) }
-{
-    let Some((_, to)) = m.at(node, i) else {
-        return Ok(());
-    };
-    if front.has(to) {
-        return Ok(());
+impl<M: Moves> SoundMoves<'_, M> {
+    /// Follows move `i` of the node. Its price is asked for since each move of a walk has one.
+    fn follow_one(&self, front: &mut Front, node: u32, i: u32) -> Result<(), AllocError>
+        requires node { node < (M.graph self.now).count }
+        requires index { i < (M.graph self.now).arity }
+        requires size { length front.old.marks.items ≡ (M.graph self.now).count }
+        ensures { OnOk result (Gains (IsLedTo (M.graph self.now) node i (i + 1)) (fill_of front.old)
+            (fill_of front.new)) }
+    {
+        let Some((_, to)) = self.moves.at(node, i) else {
+            return Ok(());
+        };
+        if front.has(to) {
+            return Ok(());
+        }
+        if !self.moves.is_open(node, i) {
+            return Ok(());
+        }
+        let _price = self.moves.price(node, i);
+        front.mark(to)
     }
-    if !m.is_open(node, i) {
-        return Ok(());
-    }
-    let _price = m.price(node, i);
-    front.mark(to)
-}
 
-/// Follows all moves of the node.
-fn follow<M: Moves>(m: &M, front: &mut Front, node: u32) -> Result<(), AllocError>
-    requires ready { M.ready m.now }
-    requires sound { IsSound (M.graph m.now) }
-    requires node { node < (M.graph m.now).count }
-    requires size { length front.old.marks.items ≡ (M.graph m.now).count }
-    ensures { OnOk result (Gains (IsNext (M.graph m.now) node) (fill_of front.old) (fill_of front.new)) }
-{
-    for i in 0..m.arity() {
-        follow_one(m, front, node, i)?;
+    /// Follows all moves of the node.
+    fn follow(&self, front: &mut Front, node: u32) -> Result<(), AllocError>
+        requires node { node < (M.graph self.now).count }
+        requires size { length front.old.marks.items ≡ (M.graph self.now).count }
+        ensures { OnOk result (Gains (IsNext (M.graph self.now) node) (fill_of front.old) (fill_of front.new)) }
+    {
+        for i in 0..self.arity() {
+            self.follow_one(front, node, i)?;
+        }
+        Ok(())
     }
-    Ok(())
-}
 
-/// Marks all nodes that open moves reach from the starts.
-fn mark_reached<M: Moves>(m: &M, front: &mut Front, starts: &List<u32>) -> Result<(), AllocError>
-    requires ready { M.ready m.now }
-    requires sound { IsSound (M.graph m.now) }
-    requires starts { All (λ s. s < (M.graph m.now).count) starts.now }
-    requires blank { IsBlank (M.graph m.now).count (fill_of front.old) }
-    ensures flood { OnOk result (IsFlood (M.graph m.now) starts.now (fill_of front.new)) }
-    ensures done { OnOk result (length front.new.waiting.items ≡ 0) }
-{
-    seed(front, starts.as_slice())?;
-    'flood: while let Some(node) = front.waiting.pop() {
-        follow(m, front, node)?;
+    /// Marks all nodes that open moves reach from the starts.
+    fn mark_reached(&self, front: &mut Front, starts: &List<u32>) -> Result<(), AllocError>
+        requires starts { All (λ s. s < (M.graph self.now).count) starts.now }
+        requires blank { IsBlank (M.graph self.now).count (fill_of front.old) }
+        ensures flood { OnOk result (IsFlood (M.graph self.now) starts.now (fill_of front.new)) }
+        ensures done { OnOk result (length front.new.waiting.items ≡ 0) }
+    {
+        seed(front, starts.as_slice())?;
+        'flood: while let Some(node) = front.waiting.pop() {
+            self.follow(front, node)?;
+        }
+        Ok(())
     }
-    Ok(())
+
+    /// All nodes that open moves reach from the starts.
+    pub(crate) fn flood(&self, alloc: Global, starts: &List<u32>) -> Result<Reach, AllocError>
+        requires { All (λ s. s < (M.graph self.now).count) starts.now }
+        ensures { IfOk result (λ r. IsReach (M.graph self.now) starts.now r.nodes) }
+    {
+        let count = self.count();
+        let mut front = Front::new(alloc, count)?;
+        self.mark_reached(&mut front, starts)?;
+        let nodes = front.marked(alloc, count)?;
+        Ok(Reach { nodes })
+    }
+
+    /// Marks all nodes that open moves reach from the starts, or stops once more than `most` nodes have been followed.
+    fn mark_within(
+        &self,
+        front: &mut Front,
+        starts: &List<u32>,
+        most: u32,
+    ) -> Result<bool, AllocError>
+        requires starts { All (λ s. s < (M.graph self.now).count) starts.now }
+        requires blank { IsBlank (M.graph self.now).count (fill_of front.old) }
+        ensures flood { IfOk result (λ all. OnTrue all (IsFlood (M.graph self.now) starts.now (fill_of front.new))) }
+        ensures done { IfOk result (λ all. OnTrue all (length front.new.waiting.items ≡ 0)) }
+    {
+        seed(front, starts.as_slice())?;
+        let mut left = most;
+        'flood: while let Some(node) = front.waiting.pop() {
+            if left == 0 {
+                return Ok(false);
+            }
+            left -= 1;
+            self.follow(front, node)?;
+        }
+        Ok(true)
+    }
 }
 
 /// All nodes that open moves reach from the starts.
@@ -84,37 +118,7 @@ pub fn flood<M: Moves>(alloc: Global, m: &M, starts: &List<u32>) -> Result<Reach
     requires starts { All (λ s. s < (M.graph m.now).count) starts.now }
     ensures { IfOk result (λ r. IsReach (M.graph m.now) starts.now r.nodes) }
 {
-    let count = m.count();
-    let mut front = Front::new(alloc, count)?;
-    mark_reached(m, &mut front, starts)?;
-    let nodes = front.marked(alloc, count)?;
-    Ok(Reach { nodes })
-}
-
-/// Marks all nodes that open moves reach from the starts, or stops once more than `most` nodes have been followed.
-fn mark_within<M: Moves>(
-    m: &M,
-    front: &mut Front,
-    starts: &List<u32>,
-    most: u32,
-) -> Result<bool, AllocError>
-    requires ready { M.ready m.now }
-    requires sound { IsSound (M.graph m.now) }
-    requires starts { All (λ s. s < (M.graph m.now).count) starts.now }
-    requires blank { IsBlank (M.graph m.now).count (fill_of front.old) }
-    ensures flood { IfOk result (λ all. OnTrue all (IsFlood (M.graph m.now) starts.now (fill_of front.new))) }
-    ensures done { IfOk result (λ all. OnTrue all (length front.new.waiting.items ≡ 0)) }
-{
-    seed(front, starts.as_slice())?;
-    let mut left = most;
-    'flood: while let Some(node) = front.waiting.pop() {
-        if left == 0 {
-            return Ok(false);
-        }
-        left -= 1;
-        follow(m, front, node)?;
-    }
-    Ok(true)
+    SoundMoves { moves: m }.flood(alloc, starts)
 }
 
 /// Whether one of the nodes is marked.
@@ -150,7 +154,8 @@ pub fn are_shut_in<M: Moves>(
     }
     let turned = Backwards { m };
     let mut front = Front::new(alloc, count)?;
-    if !mark_within(&turned, &mut front, goals, most)? {
+    let turned = SoundMoves { moves: &turned };
+    if !turned.mark_within(&mut front, goals, most)? {
         return Ok(false);
     }
     Ok(!any_marked(&front, starts.as_slice()))

@@ -10,7 +10,8 @@ use Rattle.pcb_model.specs.declared.design.Design.{Design}
 use Rattle.pcb_model.specs.Pairs.{ProbeAgrees}
 use Rattle.pcb_model.specs.Sound.{IsSound, Serves}
 use Rattle.pcb_model.specs.Copper.{Ascends, Finds}
-use Rattle.ripup.specs.Rips.{IsInWay, CountsTo, IsPassed}
+use Rattle.ripup.specs.Rips.{IsInWay, CountsTo}
+use Rattle.ripup.specs.inner.Steps.{IsPassed}
 use Rattle.ripup.proofs.Counting.{goes_on, none_counted, none_of, adds_up}
 use Rattle.ripup.proofs.Passing.{splits, parted, later_rises}
 use Rattle.ripup.proofs.Fixed.{fixed_held, fixed_low, high_routed, low_fixed, routed_high}

@@ -13,7 +13,8 @@ use Rattle.pcb_model.specs.Board.{IsRouted}
 use Rattle.pcb_model.specs.Sound.{IsSound, Serves}
 use Rattle.pcb_model.specs.Copper.{Ascends, Finds, IsLookedAt}
 use Rattle.route_lattice.specs.Found.{AreSorted}
-use Rattle.ripup.specs.Rips.{HasIdInWay, AreIdsInWay, AreInWayBelow, AreInWayOfOne, AreInWayOfAll}
+use Rattle.ripup.specs.Rips.{HasIdInWay, AreIdsInWay}
+use Rattle.ripup.specs.inner.Steps.{AreInWayBelow, AreInWayOfOne, AreInWayOfAll}
 use Rattle.ripup.proofs.Passing.{low_or_high}
 use Rattle.ripup.proofs.Fixed.{high_routed, routed_high}
 
@@ -112,18 +113,6 @@ module _ (d : Design) (items : List Item) (a : Item) where
             ]
           ];
         }
-
-    -- no more
-    pub all_pushed : (from : ℕ) (old ids : List ℕ) → AreInWayBelow d items a from old ids → NextClash from None
-        → AreInWayOfOne d items a old ids
-    all_pushed from old ids h f = record {
-      kept = h.kept;
-      only = h.only;
-      whole = λ b there routed. elim (looked_at b from) [
-        | inl early ↦ h.below b there routed early
-        | inr looked ↦ inr (f b there looked)
-      ];
-    }
 
     pub last_pushed : (from : ℕ) (old ids : List ℕ) → AreInWayBelow d items a from old ids → 2 ^ 64 ≤ from
         → All (λ (b : Item). b.id < 2 ^ 64) items → AreInWayOfOne d items a old ids

@@ -71,34 +71,3 @@ rip_graph d m items net via_cost penalty = record {
 pub record CanRip (d : Design) (m : Mesh) (net via_cost penalty : ℕ) : Type 0 where
   pub can_move : CanMove d m net via_cost
   pub small_penalty : penalty ≤ 2 ^ 30
-
--- ---- what the private functions give
--- of the items before a place n are in the way; these have ids below `from`, which no fixed item has, and the others
--- haven't
-pub record IsPassed (d : Design) (items : List Item) (net : ℕ) (p : Probe) (from n : ℕ) : Type 0 where
-  pub before : List Item
-  pub rest : List Item
-  pub items_are : items ≡ before ++ rest
-  pub counted : Counts (IsInWay d net p) before n
-  pub below : All (λ (b : Item). b.id < from) before
-  pub above : All (λ (b : Item). from ≤ b.id) rest
-  pub behind : length d.fixed ≤ from
-
--- the ids are old, or of items in the way of `a`; of the routed items with ids below `from`, or with its own, all
--- others agree with it
-pub record AreInWayBelow (d : Design) (items : List Item) (a : Item) (from : ℕ) (old ids : List ℕ) : Type 0 where
-  pub kept : (id : ℕ) → Contains old id → Contains ids id
-  pub only : (id : ℕ) → Contains ids id → Contains old id ⊎ HasIdInWay d items (a ∷ []) id
-  pub below : (b : Item) → Contains items b → IsRouted b → (b.id < from) ⊎ (b.id ≡ a.id) → Contains ids b.id
-      ⊎ Agrees d a b
-
--- of all routed items all others agree with it
-pub record AreInWayOfOne (d : Design) (items : List Item) (a : Item) (old ids : List ℕ) : Type 0 where
-  pub kept : (id : ℕ) → Contains old id → Contains ids id
-  pub only : (id : ℕ) → Contains ids id → Contains old id ⊎ HasIdInWay d items (a ∷ []) id
-  pub whole : (b : Item) → Contains items b → IsRouted b → Contains ids b.id ⊎ Agrees d a b
-
--- the ids of all items that are in the way, in any order
-pub record AreInWayOfAll (d : Design) (items new : List Item) (ids : List ℕ) : Type 0 where
-  pub each : (id : ℕ) → Contains ids id → HasIdInWay d items new id
-  pub whole : (b : Item) → Contains items b → IsRouted b → Contains ids b.id ⊎ All (λ a. Agrees d a b) new

@@ -1,63 +1,124 @@
 //! The routed items that are in the way of new ones.
 //! They are found from id to id, behind the fixed items.
 
-ghost use Rattle.std.specs.Prelude.{◌≡◌, ◌<◌, [], All, IfOk, OnOk, length};
+ghost use Rattle.std.specs.Prelude.{◌≡◌, ◌↔◌, ◌<◌, ◌^◌, [], All, Contains, IfOk, IsTrue, MatchOption, OnOk, Some};
+ghost use Rattle.std.specs.Prelude.{length};
+ghost use Rattle.std.specs.Option.{option_copied};
 ghost use Rattle.pcb_model.specs.Bounds.{IsItemFit};
-ghost use Rattle.pcb_model.specs.Sound.{IsSound};
+ghost use Rattle.pcb_model.specs.Pairs.{Agrees};
+ghost use Rattle.pcb_model.specs.Sound.{IsSound, IsItemOf, Serves};
+ghost use Rattle.pcb_model.specs.Copper.{Ascends, Finds};
 ghost use Rattle.route_lattice.specs.Found.{AreSorted};
-ghost use Rattle.ripup.specs.Rips.{AreIdsInWay, AreInWayBelow, AreInWayOfOne, AreInWayOfAll};
+ghost use Rattle.ripup.specs.Rips.{AreIdsInWay};
+ghost use Rattle.ripup.specs.inner.Steps.{AreInWayBelow, AreInWayOfOne, AreInWayOfAll};
 
 use geo_kernel::List;
 use pcb_model::{Copper, Design, Item, Steps, pair_ok};
 use std::alloc::{AllocError, Global};
-use std::marker::Brand;
+use std::marker::{Brand, Model};
 use std::sync::ledger::{Blank, Ledger};
+
+/// A sound design, and copper that serves it. Nothing is asked of a lattice here.
+#[derive(Drop)]
+struct Served<'a, C: Copper> {
+    d: &'a Design,
+    copper: &'a C,
+}
+
+impl<'a, C: Copper> Model for Served<'a, C> {
+    ghost use Rattle.ripup.specs.inner.Served.{ServedOf, IsServed};
+
+    ghost Value = { ServedOf };
+
+    ghost view = { λ s. record { d = s.d.now; items = C.items s.copper.now } };
+
+    ghost invariant = { λ s. IsServed C.Copper s.d.now s.copper.now };
+}
+
+impl<C: Copper> Served<'_, C> {
+    /// What the two keep: a call that does nothing but say so.
+    fn keeps(&self)
+        ensures sound { IsSound self.now.d }
+        ensures serves { Serves self.now.items self.now.d }
+        ensures ascends { Ascends self.now.items }
+        ensures ids { All (λ b. b.id < 2 ^ 64) self.now.items }
+    {
+        self.copper.in_order();
+    }
+
+    /// How many fixed items the design has.
+    fn fixed_count(&self) -> u64
+        ensures { result ≡ length self.now.d.fixed }
+    {
+        self.d.fixed.len() as u64
+    }
+
+    /// The item of this id, which is one of the design, or None exactly where there is none.
+    fn item(&self, id: u64) -> Option<&Item>
+        ensures { MatchOption (option_copied result) (All (λ b. b.id ≡ id → ⊥) self.now.items)
+            (λ b. Contains self.now.items b × (b.id ≡ id) × IsItemOf self.now.d b) }
+    {
+        self.copper.item(id)
+    }
+
+    /// The least id at or above `from` of an item that disagrees with this one, other than the one with its id.
+    fn next_clash<L: Ledger>(&self, item: &Item, from: u64, steps: &mut Steps<L>) -> Option<u64>
+        requires { IsItemFit item.now }
+        ensures { Finds (λ b. Agrees self.now.d item.now b → ⊥) (Agrees self.now.d item.now) from (Some item.now.id)
+            self.now.items result }
+    {
+        self.copper.next_clash(self.d, item, from, steps)
+    }
+
+    /// Whether two items agree.
+    fn agree<L: Ledger>(&self, item: &Item, other: &Item, steps: &mut Steps<L>) -> bool
+        requires item_fits { IsItemFit item.now }
+        requires other_fits { IsItemFit other.now }
+        ensures { IsTrue result ↔ Agrees self.now.d item.now other.now }
+    {
+        pair_ok(self.d, item, other, steps)
+    }
+}
 
 /// Appends the id of an item that has the id of a new one, if it is in its way.
 fn push_namesake<C: Copper, L: Ledger>(
     found: &mut Vec<u64>,
-    d: &Design,
-    c: &C,
-    a: &Item,
+    on: &Served<'_, C>,
+    item: &Item,
     steps: &mut Steps<L>,
 ) -> Result<(), AllocError>
-    requires sound { IsSound d.now }
-    requires serves { C.serves c.now d.now }
-    requires a_fits { IsItemFit a.now }
-    ensures { OnOk result (AreInWayBelow d.now (C.items c.now) a.now
-        (length d.now.fixed) found.old.items found.new.items) }
+    requires { IsItemFit item.now }
+    ensures { OnOk result (AreInWayBelow on.now.d on.now.items item.now (length on.now.d.fixed) found.old.items
+        found.new.items) }
 {
-    c.in_order();
-    let Some(b) = c.item(a.id) else {
+    on.keeps();
+    let Some(other) = on.item(item.id) else {
         return Ok(());
     };
-    if b.fixed {
+    if other.fixed {
         return Ok(());
     }
-    if pair_ok(d, a, b, steps) {
+    if on.agree(item, other, steps) {
         return Ok(());
     }
-    found.push(b.id)?;
+    found.push(other.id)?;
     Ok(())
 }
 
 /// Appends the ids of the routed items that are in the way of a new one.
 fn push_in_way<C: Copper, L: Ledger>(
     found: &mut Vec<u64>,
-    d: &Design,
-    c: &C,
-    a: &Item,
+    on: &Served<'_, C>,
+    item: &Item,
     steps: &mut Steps<L>,
 ) -> Result<(), AllocError>
-    requires sound { IsSound d.now }
-    requires serves { C.serves c.now d.now }
-    requires a_fits { IsItemFit a.now }
-    ensures { OnOk result (AreInWayOfOne d.now (C.items c.now) a.now found.old.items found.new.items) }
+    requires { IsItemFit item.now }
+    ensures { OnOk result (AreInWayOfOne on.now.d on.now.items item.now found.old.items found.new.items) }
 {
-    c.in_order();
-    push_namesake(found, d, c, a, steps)?;
-    let mut from = d.fixed.len() as u64;
-    while let Some(id) = c.next_clash(d, a, from, steps) {
+    on.keeps();
+    push_namesake(found, on, item, steps)?;
+    let mut from = on.fixed_count();
+    while let Some(id) = on.next_clash(item, from, steps) {
         found.push(id)?;
         let Some(next) = id.checked_add(1) else {
             return Ok(());
@@ -70,23 +131,20 @@ fn push_in_way<C: Copper, L: Ledger>(
 /// The ids of the routed items that are in the way of new ones, in any order.
 fn gather_in_way<C: Copper, L: Ledger>(
     alloc: Global,
-    d: &Design,
-    c: &C,
+    on: &Served<'_, C>,
     new: &[Item],
     blank: Blank,
 ) -> Result<Vec<u64>, AllocError>
     requires name { blank.name ≡ L.name }
     requires parts { blank.parts ≡ L.parts }
     requires whole { 0 < blank.parts }
-    requires sound { IsSound d.now }
-    requires serves { C.serves c.now d.now }
     requires fit { All IsItemFit new.now }
-    ensures { IfOk result (λ found. AreInWayOfAll d.now (C.items c.now) new.now found.items) }
+    ensures { IfOk result (λ found. AreInWayOfAll on.now.d on.now.items new.now found.items) }
 {
     let mut steps: Steps<L> = Steps::new(blank);
     let mut found = Vec::new(alloc);
-    for a in new {
-        push_in_way(&mut found, d, c, a, &mut steps)?;
+    for item in new {
+        push_in_way(&mut found, on, item, &mut steps)?;
     }
     Ok(found)
 }
@@ -112,6 +170,7 @@ pub fn to_rip<C: Copper>(
     requires fit { All IsItemFit new.now }
     ensures { IfOk result (AreIdsInWay d.now (C.items c.now) new.now) }
 {
-    let found = gather_in_way::<C, Brand>(alloc, d, c, new.as_slice(), Blank::new(1))?;
+    let on = Served { d, copper: c };
+    let found = gather_in_way::<C, Brand>(alloc, &on, new.as_slice(), Blank::new(1))?;
     Ok(ascending(found))
 }

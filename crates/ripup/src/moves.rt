@@ -5,67 +5,52 @@ ghost use Rattle.std.specs.Prelude.{◌≡◌, ◌↔◌, ◌<◌, ◌≤◌, �
 ghost use Rattle.pcb_model.specs.declared.item.Item.{Item as OneItem};
 ghost use Rattle.pcb_model.specs.Bounds.{IsProbeFit};
 ghost use Rattle.pcb_model.specs.Pairs.{ProbeAgrees};
-ghost use Rattle.pcb_model.specs.Sound.{IsSound};
 ghost use Rattle.route_lattice.specs.Mesh.{node_count};
 ghost use Rattle.route_lattice.specs.Ways.{way_count};
 ghost use Rattle.route_lattice.specs.Legal.{IsLegalProbe, probe_at};
 ghost use Rattle.ripup.specs.Rips.{IsInWay, CountsTo, IsCharged, rip_graph, CanRip};
 
-use pcb_model::{Copper, Design, Probe, Steps, probe_inside};
-use route_lattice::{Lattice, LegalMoves, Move, Moves};
-use std::marker::Brand;
-use std::sync::ledger::{Blank, Ledger};
+use pcb_model::{Copper, Design, Probe};
+use route_lattice::{Ground, Lattice, LegalMoves, Move, Moves};
 
 /// Items that a move is charged for, where more are in its way.
 pub const MOST_CHARGED: u64 = 16;
 
 /// Whether all fixed items agree with what the probe stands for.
-fn fixed_agree<C: Copper, L: Ledger>(d: &Design, c: &C, net: u32, p: &Probe, blank: Blank) -> bool
-    requires name { blank.name ≡ L.name }
-    requires parts { blank.parts ≡ L.parts }
-    requires whole { 0 < blank.parts }
-    requires sound { IsSound d.now }
-    requires serves { C.serves c.now d.now }
-    requires p_fits { IsProbeFit d.now p.now }
-    ensures { IsTrue result ↔ ((b : OneItem) → Contains d.now.fixed b → ProbeAgrees d.now net p.now b) }
+fn fixed_agree<C: Copper>(on: &Ground<'_, C>, net: u32, probe: &Probe) -> bool
+    requires { IsProbeFit on.now.d probe.now }
+    ensures { IsTrue result ↔ ((b : OneItem) → Contains on.now.d.fixed b → ProbeAgrees on.now.d net probe.now b) }
 {
-    c.in_order();
-    let mut steps: Steps<L> = Steps::new(blank);
-    match c.next_block(d, net, p, 0, &mut steps) {
+    on.keeps();
+    on.in_order();
+    match on.block_from(net, probe, 0) {
         None => true,
-        Some(id) => d.fixed.len() as u64 <= id,
+        Some(id) => on.fixed_count() <= id,
     }
 }
 
 /// Whether what the probe stands for lies inside every boundary and agrees with all fixed items.
-fn is_legal_on_fixed<C: Copper>(d: &Design, c: &C, net: u32, p: &Probe) -> bool
-    requires sound { IsSound d.now }
-    requires serves { C.serves c.now d.now }
-    requires p_fits { IsProbeFit d.now p.now }
-    ensures { IsTrue result ↔ IsLegalProbe d.now d.now.fixed net p.now }
+fn is_legal_on_fixed<C: Copper>(on: &Ground<'_, C>, net: u32, probe: &Probe) -> bool
+    requires { IsProbeFit on.now.d probe.now }
+    ensures { IsTrue result ↔ IsLegalProbe on.now.d on.now.d.fixed net probe.now }
 {
-    if !probe_inside(d, p) {
+    if !on.is_probe_inside(probe) {
         return false;
     }
-    fixed_agree::<C, Brand>(d, c, net, p, Blank::new(1))
+    fixed_agree(on, net, probe)
 }
 
 /// How many routed items disagree with what the probe stands for, up to the limit.
-fn count_in_way<C: Copper, L: Ledger>(d: &Design, c: &C, net: u32, p: &Probe, blank: Blank) -> u64
-    requires name { blank.name ≡ L.name }
-    requires parts { blank.parts ≡ L.parts }
-    requires whole { 0 < blank.parts }
-    requires sound { IsSound d.now }
-    requires serves { C.serves c.now d.now }
-    requires p_fits { IsProbeFit d.now p.now }
-    ensures counted { CountsTo (IsInWay d.now net p.now) MOST_CHARGED (C.items c.now) result }
+fn count_in_way<C: Copper>(on: &Ground<'_, C>, net: u32, probe: &Probe) -> u64
+    requires { IsProbeFit on.now.d probe.now }
+    ensures counted { CountsTo (IsInWay on.now.d net probe.now) MOST_CHARGED on.now.items result }
     ensures few { result ≤ MOST_CHARGED }
 {
-    c.in_order();
-    let mut steps: Steps<L> = Steps::new(blank);
-    let mut from = d.fixed.len() as u64;
+    on.keeps();
+    on.in_order();
+    let mut from = on.fixed_count();
     for n in 0..MOST_CHARGED {
-        let Some(id) = c.next_block(d, net, p, from, &mut steps) else {
+        let Some(id) = on.block_from(net, probe, from) else {
             return n;
         };
         let Some(next) = id.checked_add(1) else {
@@ -118,14 +103,14 @@ impl<'a, C: Copper> RipMoves<'a, C> {
             (probe_at self.now.legal.d.now self.now.legal.lat.now self.now.legal.net node i) result }
         ensures few { result ≤ MOST_CHARGED }
     {
+        self.legal.c.in_order();
+        let on = Ground {
+            lat: self.legal.lat,
+            d: self.legal.d,
+            c: self.legal.c,
+        };
         match self.legal.probe(node, i) {
-            Some(p) => count_in_way::<C, Brand>(
-                self.legal.d,
-                self.legal.c,
-                self.legal.net,
-                &p,
-                Blank::new(1),
-            ),
+            Some(probe) => count_in_way(&on, self.legal.net, &probe),
             None => 0,
         }
     }
@@ -151,8 +136,14 @@ impl<C: Copper> Moves for RipMoves<'_, C> {
     }
 
     fn is_open(&self, node: u32, i: u32) -> bool {
+        self.legal.c.in_order();
+        let on = Ground {
+            lat: self.legal.lat,
+            d: self.legal.d,
+            c: self.legal.c,
+        };
         match self.legal.probe(node, i) {
-            Some(p) => is_legal_on_fixed(self.legal.d, self.legal.c, self.legal.net, &p),
+            Some(probe) => is_legal_on_fixed(&on, self.legal.net, &probe),
             None => false,
         }
     }

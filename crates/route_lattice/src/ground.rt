@@ -1,18 +1,24 @@
 //! The ground that calls about a lattice stand on: a sound design, a lattice of it, and copper that serves it.
 //! Who makes one proves that once, and passes it on as one value.
 
-ghost use Rattle.std.specs.Prelude.{◌≡◌, ◌↔◌, ◌<◌, ◌≤◌, ◌^◌, All, Contains, IsTrue, MatchOption, length};
+ghost use Rattle.std.specs.Prelude.{◌≡◌, ◌↔◌, ◌<◌, ◌≤◌, ◌^◌, All, Contains, IsTrue, MatchOption, None, Some, length};
 ghost use Rattle.std.specs.Option.{option_copied};
-ghost use Rattle.pcb_model.specs.Copper.{Ascends};
-ghost use Rattle.pcb_model.specs.Sound.{IsItemOf};
+ghost use Rattle.pcb_model.specs.Bounds.{IsItemFit, IsProbeFit};
+ghost use Rattle.pcb_model.specs.Pieces.{pieces_of, metal_of};
+ghost use Rattle.pcb_model.specs.Pairs.{Agrees, AreTouching, ProbeAgrees};
+ghost use Rattle.pcb_model.specs.Board.{AreInside};
+ghost use Rattle.pcb_model.specs.Copper.{Ascends, Finds};
+ghost use Rattle.pcb_model.specs.Sound.{IsSound, IsItemOf, Serves};
 ghost use Rattle.route_lattice.specs.Mesh.{node_count};
+ghost use Rattle.route_lattice.specs.Fits.{FitsDesign};
 ghost use Rattle.route_lattice.specs.Anchors.{Anchors};
 ghost use Rattle.route_lattice.specs.Legal.{IsLegalNode, CanMove};
 
 use crate::legal::{LegalMoves, legal_node};
 use crate::mesh::Lattice;
-use pcb_model::{Copper, Design, Item};
-use std::marker::Model;
+use pcb_model::{Copper, Design, Item, Probe, Steps, inside_board, probe_inside};
+use std::marker::{Brand, Model};
+use std::sync::ledger::{Blank, Ledger};
 
 /// A lattice, the sound design that it is one of, and copper that serves the design.
 #[derive(Drop)]
@@ -66,11 +72,110 @@ impl<'a, C: Copper> Ground<'a, C> {
         self.c.item(id)
     }
 
-    /// The items stand in order of id: a call that does nothing but say so.
-    pub fn in_order(&self)
-        ensures { Ascends self.now.items }
+    /// What the ground keeps: a call that does nothing but say so.
+    pub fn keeps(&self)
+        ensures sound { IsSound self.now.d }
+        ensures fits { FitsDesign self.now.d self.now.lat }
+        ensures serves { Serves self.now.items self.now.d }
     {
         let _ = &self.c;
+    }
+
+    /// How many fixed items the design has. Theirs are the lowest ids.
+    pub fn fixed_count(&self) -> u64
+        ensures { result ≡ length self.now.d.fixed }
+    {
+        self.d.fixed.len() as u64
+    }
+
+    /// The items stand in order of id: a call that does nothing but say so.
+    pub fn in_order(&self)
+        ensures ascends { Ascends self.now.items }
+        ensures ids { All (λ b. b.id < 2 ^ 64) self.now.items }
+    {
+        self.c.in_order();
+    }
+
+    fn block_by<L: Ledger>(&self, net: u32, probe: &Probe, from: u64, blank: Blank) -> Option<u64>
+        requires name { blank.name ≡ L.name }
+        requires parts { blank.parts ≡ L.parts }
+        requires whole { 0 < blank.parts }
+        requires fits { IsProbeFit self.now.d probe.now }
+        ensures { Finds (λ b. ProbeAgrees self.now.d net probe.now b → ⊥) (ProbeAgrees self.now.d net probe.now) from
+            None self.now.items result }
+    {
+        let mut steps: Steps<L> = Steps::new(blank);
+        self.c.next_block(self.d, net, probe, from, &mut steps)
+    }
+
+    /// The least id at or above `from` of an item that disagrees with what the probe of the net stands for, or None
+    /// exactly where there is none. No step is counted.
+    pub fn block_from(&self, net: u32, probe: &Probe, from: u64) -> Option<u64>
+        requires { IsProbeFit self.now.d probe.now }
+        ensures { Finds (λ b. ProbeAgrees self.now.d net probe.now b → ⊥) (ProbeAgrees self.now.d net probe.now) from
+            None self.now.items result }
+    {
+        self.block_by::<Brand>(net, probe, from, Blank::new(1))
+    }
+
+    fn clash_by<L: Ledger>(&self, item: &Item, from: u64, blank: Blank) -> Option<u64>
+        requires name { blank.name ≡ L.name }
+        requires parts { blank.parts ≡ L.parts }
+        requires whole { 0 < blank.parts }
+        requires fits { IsItemFit item.now }
+        ensures { Finds (λ b. Agrees self.now.d item.now b → ⊥) (Agrees self.now.d item.now) from (Some item.now.id)
+            self.now.items result }
+    {
+        let mut steps: Steps<L> = Steps::new(blank);
+        self.c.next_clash(self.d, item, from, &mut steps)
+    }
+
+    /// The least id at or above `from` of an item that disagrees with this one, other than the one with its id, or
+    /// None exactly where there is none. No step is counted.
+    pub fn clash_from(&self, item: &Item, from: u64) -> Option<u64>
+        requires { IsItemFit item.now }
+        ensures { Finds (λ b. Agrees self.now.d item.now b → ⊥) (Agrees self.now.d item.now) from (Some item.now.id)
+            self.now.items result }
+    {
+        self.clash_by::<Brand>(item, from, Blank::new(1))
+    }
+
+    fn touch_by<L: Ledger>(&self, item: &Item, from: u64, blank: Blank) -> Option<u64>
+        requires name { blank.name ≡ L.name }
+        requires parts { blank.parts ≡ L.parts }
+        requires whole { 0 < blank.parts }
+        requires fits { IsItemFit item.now }
+        ensures { Finds (AreTouching item.now) (λ b. AreTouching item.now b → ⊥) from (Some item.now.id)
+            self.now.items result }
+    {
+        let mut steps: Steps<L> = Steps::new(blank);
+        self.c.next_touch(item, from, &mut steps)
+    }
+
+    /// The least id at or above `from` of an item of this one's net that touches it, other than the one with its id,
+    /// or None exactly where there is none. No step is counted.
+    pub fn touch_from(&self, item: &Item, from: u64) -> Option<u64>
+        requires { IsItemFit item.now }
+        ensures { Finds (AreTouching item.now) (λ b. AreTouching item.now b → ⊥) from (Some item.now.id)
+            self.now.items result }
+    {
+        self.touch_by::<Brand>(item, from, Blank::new(1))
+    }
+
+    /// Whether the first vertex of each of the item's spines lies inside every boundary.
+    pub fn is_item_inside(&self, item: &Item) -> bool
+        requires { IsItemFit item.now }
+        ensures { IsTrue result ↔ AreInside self.now.d.bounds item.now.pieces }
+    {
+        inside_board(self.d, item)
+    }
+
+    /// Whether the first vertex of each spine of what the probe stands for lies inside every boundary.
+    pub fn is_probe_inside(&self, probe: &Probe) -> bool
+        requires { IsProbeFit self.now.d probe.now }
+        ensures { IsTrue result ↔ AreInside self.now.d.bounds (pieces_of self.now.d (metal_of probe.now)) }
+    {
+        probe_inside(self.d, probe)
     }
 
     /// The legal moves of a net.

@@ -11,7 +11,8 @@ use Rattle.std.proofs.lemmas.List.Elements.{Contains-get_or}
 use Rattle.geo_kernel.specs.declared.point.Point.{Point}
 use Rattle.route_lattice.specs.Mesh.{Mesh}
 use Rattle.route_lattice.proofs.Between.{lines_rise}
-use Rattle.shove.specs.Shoves.{IsNextAbove, IsNextBelow, IsNextLine, FindsLine, FindsRun}
+use Rattle.shove.specs.Shoves.{IsNextAbove, IsNextBelow, IsNextLine}
+use Rattle.shove.specs.inner.Steps.{FindsLine, FindsRun}
 
 low_or_high : (n m : ℕ) → (n < m) ⊎ (m ≤ n)
 low_or_high n zero = inr (omega arith)

@@ -9,7 +9,8 @@ use Rattle.pcb_model.specs.declared.design.Design.{Design}
 use Rattle.pcb_model.specs.Pairs.{Agrees, AreTouching, PiecesTouch, is_same_net}
 use Rattle.pcb_model.specs.Board.{AreInside}
 use Rattle.pcb_model.specs.Copper.{Ascends, Finds, IsOther}
-use Rattle.shove.specs.Shoves.{CanReplace, TouchesBelow, TouchesAll}
+use Rattle.shove.specs.Shoves.{CanReplace}
+use Rattle.shove.specs.inner.Steps.{TouchesBelow, TouchesAll}
 
 low_or_high : (n m : ℕ) → (n < m) ⊎ (m ≤ n)
 low_or_high n zero = inr (omega arith)
@@ -83,9 +84,6 @@ module _ (items : List Item) (old new : Item) where
 module _ (d : Design) (items : List Item) (old new : Item) (one_id : new.id ≡ old.id) where
   abbrev pub NextClash : Option ℕ → Type 0
   NextClash found = Finds (λ b. Agrees d new b → ⊥) (Agrees d new) 0 (Some new.id) items found
-
-  pub clashes_not : (id : ℕ) → NextClash (Some id) → ¬ (CanReplace d items old new)
-  clashes_not id f h = f.holds (h.agrees f.item f.there (λ e. apart_of new f.item f.looked_at.1 (e ∙ sym one_id)))
 
   pub replaced : (r : Bool) → AreInside d.bounds new.pieces → NextClash None → (IsTrue r ↔ TouchesAll items old new)
       → IsTrue r ↔ CanReplace d items old new

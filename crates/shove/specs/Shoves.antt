@@ -118,22 +118,3 @@ pub record IsShove (d : Design) (m : Mesh) (items : List Item) (a : Item) (r : �
 abbrev pub Shoves : Design → Mesh → List Item → Item → ℕ → Bool → Option Reshape → Type 0
 Shoves d m items a r up (Some s) = IsShove d m items a r up s.chain
 Shoves d m items a r up None = (chain : List Point) → ¬ (IsShove d m items a r up chain)
-
--- ---- what the private functions give
--- the next line, or none where there is none
-abbrev pub FindsLine : Bool → List ℤ → ℤ → Option ℤ → Type 0
-FindsLine up lines at (Some line) = IsNextLine up lines at line
-FindsLine up lines at None = (line : ℤ) → ¬ (IsNextLine up lines at line)
-
--- the moved points of a run, or none where it doesn't move
-abbrev pub FindsRun : Mesh → Bool → Point → Point → Option (Point × Point) → Type 0
-FindsRun m up a b (Some to) = MovesRun m up a b to.0 to.1
-FindsRun m up a b None = (p q : Point) → ¬ (MovesRun m up a b p q)
-
--- the new item touches all items with ids below `from` that the old one touched
-pub record TouchesBelow (items : List Item) (old new : Item) (from : ℕ) : Type 0 where
-  pub each : (b : Item) → Contains items b → b.id ≢ old.id → AreTouching old b → b.id < from → AreTouching new b
-
--- the new item touches all items that the old one touched
-pub record TouchesAll (items : List Item) (old new : Item) : Type 0 where
-  pub each : (b : Item) → Contains items b → b.id ≢ old.id → AreTouching old b → AreTouching new b

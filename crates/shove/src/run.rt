@@ -7,10 +7,10 @@ ghost use Rattle.route_lattice.specs.Fits.{FitsDesign};
 ghost use Rattle.shove.specs.Shoves.{chain_of, IsWire, reshaped, Shoves};
 
 use crate::line::{moved_run, shoved_chain};
-use crate::replace::can_replace;
+use crate::replace::Replacement;
 use geo_kernel::{List, Point};
 use pcb_model::{Copper, Design, Item, Metal, make_item};
-use route_lattice::Lattice;
+use route_lattice::{Ground, Lattice};
 use std::alloc::{AllocError, Global};
 
 /// A wire's new chain.
@@ -62,6 +62,8 @@ pub fn shove_at<C: Copper>(
     requires run { run + 1 < length (chain_of item.now.metal) }
     ensures { IfOk result (Shoves d.now lat.now (C.items c.now) item.now run up) }
 {
+    c.in_order();
+    let on = Ground { lat, d, c };
     let Metal::Wire {
         layer,
         width,
@@ -71,7 +73,7 @@ pub fn shove_at<C: Copper>(
         unreachable!();
     };
     let points = chain.as_slice();
-    let Some((to_a, to_b)) = moved_run(lat, points[run], points[run + 1], up) else {
+    let Some((to_a, to_b)) = moved_run(&on, points[run], points[run + 1], up) else {
         return Ok(None);
     };
     let shoved = shoved_chain(alloc, points, run, to_a, to_b)?;
@@ -81,7 +83,12 @@ pub fn shove_at<C: Copper>(
         chain: shoved,
     };
     let new = make_item(alloc, d, item.id, item.net, false, metal)?;
-    if !can_replace(d, c, item, &new) {
+    let change = Replacement {
+        on,
+        old: item,
+        new: &new,
+    };
+    if !change.can_replace() {
         return Ok(None);
     }
     let Item { metal, .. } = new;

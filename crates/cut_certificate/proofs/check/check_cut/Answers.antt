@@ -7,7 +7,8 @@ use Rattle.route_lattice.specs.Ground.{ground_of}
 use Rattle.route_lattice.specs.Ways.{way, way_count}
 use Rattle.cut_certificate.specs.declared.cut.Block.{Block}
 use Rattle.cut_certificate.specs.Border.{AreBlocks}
-use Rattle.cut_certificate.specs.Cuts.{IsCut, IsShutBy, HoldsStartsOf, HoldsNoneOfIsland}
+use Rattle.cut_certificate.specs.Cuts.{IsCut, IsShutBy}
+use Rattle.cut_certificate.specs.inner.Checks.{HoldsStartsOf, HoldsNoneOfIsland}
 use Rattle.cut_certificate.proofs.Each.{unless, refused}
 use Rattle.cut_certificate.proofs.Checking.{starts_say, goals_say}
 use Rattle.cut_certificate.proofs.check.check_cut.Goals as goal

@@ -2,7 +2,7 @@ use Rattle.std.proofs.Common.{ℕ, List, subst}
 use Rattle.std.proofs.lemmas.Result.{IfOk-weaker}
 use Rattle.pcb_islands.specs.declared.net.Island.{Island}
 use Rattle.route_lattice.specs.Anchors.{AreAnchorsAmong}
-use Rattle.cut_certificate.specs.Cuts.{AreIdsOf}
+use Rattle.cut_certificate.specs.inner.Checks.{AreIdsOf}
 use Rattle.cut_certificate.proofs.Making.{goals_exact}
 use Rattle.cut_certificate.proofs.make.goals_of.Goals as goal
 

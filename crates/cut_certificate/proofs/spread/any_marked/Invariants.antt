@@ -1,5 +1,5 @@
 use Rattle.std.proofs.Common.{All, take}
-use Rattle.cut_certificate.specs.Marks.{IsMarked}
+use Rattle.cut_certificate.specs.inner.Marks.{IsMarked}
 use Rattle.cut_certificate.proofs.spread.any_marked.Given as goal
 
 abbrev pub invariant-loop-s : goal.invariant-loop-s

@@ -1,7 +1,7 @@
 use Rattle.std.proofs.Common.{subst, ℕ, List, All}
 use Rattle.std.specs.Bool.{OnTrue, OnFalse}
 use Rattle.cut_certificate.specs.Backwards.{backwards}
-use Rattle.cut_certificate.specs.Marks.{Fill, IsFlood, IsMarked, fill_of}
+use Rattle.cut_certificate.specs.inner.Marks.{Fill, IsFlood, IsMarked, fill_of}
 use Rattle.std.proofs.Common.{◌≡◌, length}
 use Rattle.cut_certificate.proofs.Backing.{on_not, shut_in}
 use Rattle.cut_certificate.proofs.spread.are_shut_in.Goals as goal

@@ -1,4 +1,4 @@
-use Rattle.cut_certificate.specs.Marks.{fill_of}
+use Rattle.cut_certificate.specs.inner.Marks.{fill_of}
 use Rattle.cut_certificate.proofs.Gaining.{seeds_more}
 use Rattle.cut_certificate.proofs.spread.seed.Goals as goal
 

@@ -43,9 +43,19 @@ can_replace-requires-clause-new_fits g c =
     (g.C.Copper.items c.args.c.now) c.args.item.now c.args.run c.args.up c.in-Wire.layer c.in-Wire.width points metal_is
     origin c.in-Some.to_a c.in-Some.to_b c.in_ok-shoved.shoved run c.in-Some.ensures c.in_ok-shoved.ensures in
     new_fits c.args.d.now c.args.lat.now
-    (g.C.Copper.items c.args.c.now) c.args.item.now c.args.run c.args.up c.in-Wire.layer c.in-Wire.width points metal_is
+    (g.C.Copper.items c.args.c.now) c.args.item.now c.args.run c.args.up c.in-Wire.layer c.in-Wire.width points
+    metal_is
     origin c.in_ok-shoved.shoved shoved c.requires.fits c.requires.item.metal_fits c.in_ok-new.new
     c.in_ok-new.ensures
+
+pub can_replace-requires-clause-old_fits : goal.can_replace-requires-clause-old_fits
+can_replace-requires-clause-old_fits g c = c.requires.item.fits
+
+pub invariant_of-change : goal.invariant_of-change
+invariant_of-change g c = record {
+  one_net = ap (λ (a : Item). a.net) c.in_ok-new.ensures;
+  one_id = ap (λ (a : Item). a.id) c.in_ok-new.ensures;
+}
 
 pub returns-then-not-can_replace : goal.returns-then-not-can_replace
 returns-then-not-can_replace g c =
@@ -79,12 +89,6 @@ returns g c =
     c.in-Wire-metal.chain c.in-Wire-metal.layer c.in-Wire-metal.width c.in_ok-new.ensures c.in-Wire-metal.is
     (c.can_replace.ensures.0 c.if-not-can_replace.false)
 
-pub moved_run-requires-clause-xs : goal.moved_run-requires-clause-xs
-moved_run-requires-clause-xs g c = c.requires.fits.xs_ascend
-
-pub moved_run-requires-clause-ys : goal.moved_run-requires-clause-ys
-moved_run-requires-clause-ys g c = c.requires.fits.ys_ascend
-
 pub shoved_chain-requires : goal.shoved_chain-requires
 shoved_chain-requires g c =
     let points = c.as_slice-points.result.now in
@@ -97,17 +101,10 @@ shoved_chain-requires g c =
 pub make_item-requires-clause-padstacks : goal.make_item-requires-clause-padstacks
 make_item-requires-clause-padstacks g c = c.requires.sound.fits.padstacks_fit
 
-pub can_replace-requires-clause-sound : goal.can_replace-requires-clause-sound
-can_replace-requires-clause-sound g c = c.requires.sound
-
-pub can_replace-requires-clause-serves : goal.can_replace-requires-clause-serves
-can_replace-requires-clause-serves g c = c.requires.serves
-
-pub can_replace-requires-clause-old_fits : goal.can_replace-requires-clause-old_fits
-can_replace-requires-clause-old_fits g c = c.requires.item.fits
-
-pub can_replace-requires-clause-one_net : goal.can_replace-requires-clause-one_net
-can_replace-requires-clause-one_net g c = ap (λ (a : Item). a.net) c.in_ok-new.ensures
-
-pub can_replace-requires-clause-one_id : goal.can_replace-requires-clause-one_id
-can_replace-requires-clause-one_id g c = ap (λ (a : Item). a.id) c.in_ok-new.ensures
+pub invariant_of-on : goal.invariant_of-on
+invariant_of-on g c = record {
+  sound = c.requires.sound;
+  fits = c.requires.fits;
+  serves = c.requires.serves;
+  in_order = c.in_order.ensures.ascends;
+}

@@ -1,5 +1,5 @@
 use Rattle.std.proofs.Common.{get_or}
-use Rattle.cut_certificate.specs.Cuts.{HoldsStartsOf}
+use Rattle.cut_certificate.specs.inner.Checks.{HoldsStartsOf}
 use Rattle.cut_certificate.proofs.Each.{each_more, each_true, each_false, unless}
 use Rattle.cut_certificate.proofs.check.CutNodes.all_starts_in.Goals as goal
 

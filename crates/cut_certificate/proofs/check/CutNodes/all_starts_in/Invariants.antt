@@ -1,5 +1,5 @@
 use Rattle.std.proofs.Common.{take, All}
-use Rattle.cut_certificate.specs.Cuts.{HoldsStartsOf}
+use Rattle.cut_certificate.specs.inner.Checks.{HoldsStartsOf}
 use Rattle.cut_certificate.proofs.check.CutNodes.all_starts_in.Given as goal
 
 abbrev pub invariant-loop-id : goal.invariant-loop-id

@@ -2,11 +2,17 @@ use Rattle.std.proofs.Common.{◌<◌, All, sym, subst}
 use Rattle.route_lattice.specs.Mesh.{Mesh, node_count}
 use Rattle.cut_certificate.proofs.check.CutNodes.has_border.Goals as goal
 
-pub are_blocks-requires-clause-ready : goal.are_blocks-requires-clause-ready
-are_blocks-requires-clause-ready g c = c.moves-moves.ensures.ready
+pub invariant_of-on : goal.invariant_of-on
+invariant_of-on g c =
+    let moves = c.moves-moves.result in
+    let ready = c.moves-moves.ensures.ready in (
+      ready,
+      c.legal_graph_sound.ensures moves.d.now moves.lat.now (g.C.Copper.items moves.c.now) moves.net
+          moves.via_cost ready.0,
+    )
 
-pub are_blocks-requires-clause-nodes : goal.are_blocks-requires-clause-nodes
-are_blocks-requires-clause-nodes g c =
+pub are_blocks-requires-clause-there : goal.are_blocks-requires-clause-there
+are_blocks-requires-clause-there g c =
     subst (λ (m : Mesh). All (λ v. v < node_count m) c.args.self.now.nodes.now) (sym c.moves-moves.ensures.lat)
     c.args.self.now.there
 

@@ -1,7 +1,7 @@
 use Rattle.std.proofs.Common.{ℕ, List, All, get_or, subst}
 use Rattle.std.specs.Prelude.{IsTrue, ◌↔◌}
 use Rattle.pcb_islands.specs.declared.net.Island.{Island}
-use Rattle.cut_certificate.specs.Cuts.{HoldsNoneOf, HoldsNoneOfIsland}
+use Rattle.cut_certificate.specs.inner.Checks.{HoldsNoneOf, HoldsNoneOfIsland}
 use Rattle.cut_certificate.proofs.Each.{each_more, each_true, each_false, unless}
 use Rattle.cut_certificate.proofs.check.CutNodes.islands_out.Goals as goal
 

@@ -1,5 +1,5 @@
 use Rattle.std.proofs.Common.{take, All}
-use Rattle.cut_certificate.specs.Cuts.{HoldsNoneOfIsland}
+use Rattle.cut_certificate.specs.inner.Checks.{HoldsNoneOfIsland}
 use Rattle.cut_certificate.proofs.check.CutNodes.islands_out.Given as goal
 
 abbrev pub invariant-loop-other : goal.invariant-loop-other

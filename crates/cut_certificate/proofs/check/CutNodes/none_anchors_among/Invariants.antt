@@ -1,5 +1,5 @@
 use Rattle.std.proofs.Common.{take, All}
-use Rattle.cut_certificate.specs.Cuts.{HoldsNoneOf}
+use Rattle.cut_certificate.specs.inner.Checks.{HoldsNoneOf}
 use Rattle.cut_certificate.proofs.check.CutNodes.none_anchors_among.Given as goal
 
 abbrev pub invariant-loop-id : goal.invariant-loop-id

@@ -3,7 +3,7 @@ use Rattle.std.specs.Prelude.{Contains}
 use Rattle.route_lattice.specs.Mesh.{node_count}
 use Rattle.route_lattice.specs.Anchors.{Anchors}
 use Rattle.route_lattice.specs.Legal.{IsLegalNode}
-use Rattle.cut_certificate.specs.Cuts.{HoldsStarts}
+use Rattle.cut_certificate.specs.inner.Checks.{HoldsStarts}
 use Rattle.cut_certificate.proofs.Each.{unless, refused}
 use Rattle.cut_certificate.proofs.check.CutNodes.starts_in.Goals as goal
 

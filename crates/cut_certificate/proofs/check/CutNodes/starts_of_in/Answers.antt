@@ -1,15 +1,15 @@
-use Rattle.cut_certificate.specs.Cuts.{HoldsStarts}
+use Rattle.cut_certificate.specs.inner.Checks.{HoldsStarts}
 use Rattle.cut_certificate.proofs.Checking.{of_one, of_none}
 use Rattle.cut_certificate.proofs.check.CutNodes.starts_of_in.Goals as goal
 
 pub returns-in-None : goal.returns-in-None
 returns-in-None g c =
-    of_none c.args.self.now.on.items c.in_order.ensures
+    of_none c.args.self.now.on.items c.in_order.ensures.ascends
     (HoldsStarts c.args.self.now.on c.args.self.now.net c.args.self.now.nodes.now) c.args.id
     c.in-None.ensures
 
 pub returns-in-Some : goal.returns-in-Some
 returns-in-Some g c =
-    of_one c.args.self.now.on.items c.in_order.ensures
+    of_one c.args.self.now.on.items c.in_order.ensures.ascends
     (HoldsStarts c.args.self.now.on c.args.self.now.net c.args.self.now.nodes.now) c.args.id
     c.in-Some.item.now c.in-Some.ensures.0 c.in-Some.ensures.1 c.starts_in.result c.starts_in.ensures

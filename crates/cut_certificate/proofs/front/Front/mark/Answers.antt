@@ -1,6 +1,6 @@
 use Rattle.std.proofs.Common.{◌≡◌, ℕ, List, true, true≢false, sym, subst, ◌∙◌}
 use Rattle.std.proofs.Math.ListN.{set}
-use Rattle.cut_certificate.specs.Marks.{Gains, fill_of}
+use Rattle.cut_certificate.specs.inner.Marks.{Gains, fill_of}
 use Rattle.cut_certificate.proofs.Gaining.{gains_one}
 use Rattle.cut_certificate.proofs.front.Front.mark.Goals as goal
 

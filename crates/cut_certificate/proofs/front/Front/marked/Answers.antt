@@ -1,5 +1,5 @@
 use Rattle.std.proofs.Common.{◌+◌, true≢false, sym, subst, ◌∙◌}
-use Rattle.cut_certificate.specs.Marks.{AreListed}
+use Rattle.cut_certificate.specs.inner.Marks.{AreListed}
 use Rattle.cut_certificate.proofs.Marking.{listed_more, listed_same}
 use Rattle.cut_certificate.proofs.front.Front.marked.Goals as goal
 use Rattle.cut_certificate.proofs.front.Front.marked.Goals.{then-has+in_ok-push, else-has}

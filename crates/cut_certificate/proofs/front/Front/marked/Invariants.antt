@@ -1,4 +1,4 @@
-use Rattle.cut_certificate.specs.Marks.{AreListed}
+use Rattle.cut_certificate.specs.inner.Marks.{AreListed}
 use Rattle.cut_certificate.proofs.front.Front.marked.Given as goal
 
 abbrev pub invariant-loop-node : goal.invariant-loop-node

@@ -13,4 +13,12 @@ returns-in-Some-clause-shut g c =
     let s = c.args.self.now in
     let F : Option Probe → Type 0 = λ o. IsOpen s.legal.d.now s.legal.d.now.fixed s.legal.net o in
     off c.is_legal_on_fixed.result _ (λ h. c.is_legal_on_fixed.ensures.1
-    (subst F {x = _} {y = Some c.in-Some.p} (sym c.in-Some.ensures.value) h))
+    (subst F {x = _} {y = Some c.in-Some.probe} (sym c.in-Some.ensures.value) h))
+
+pub invariant_of-on : goal.invariant_of-on
+invariant_of-on g c = record {
+  sound = c.requires.ready.0.can_move.sound;
+  fits = c.requires.ready.0.can_move.fits;
+  serves = c.requires.ready.1;
+  in_order = c.in_order.ensures.ascends;
+}

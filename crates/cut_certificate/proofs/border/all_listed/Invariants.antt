@@ -1,7 +1,0 @@
-use Rattle.std.proofs.Common.{ℕ, ◌<◌}
-use Rattle.cut_certificate.specs.Border.{LeadsOut, IsListed}
-use Rattle.cut_certificate.proofs.border.all_listed.Given as goal
-
-abbrev pub invariant-loop-i : goal.invariant-loop-i
-invariant-loop-i g l = (index : ℕ) → index < l.i → LeadsOut (g.M.Moves.graph l.m).at l.nodes l.node index
-    → IsListed l.blocked l.node index

@@ -1,5 +1,0 @@
-use Rattle.cut_certificate.specs.Marks.{fill_of, Gains, IsLedTo}
-use Rattle.cut_certificate.proofs.spread.follow.Given as goal
-
-abbrev pub invariant-loop-i : goal.invariant-loop-i
-invariant-loop-i g l = Gains (IsLedTo (g.M.Moves.graph l.m) l.node 0 l.i) (fill_of l.fn.front) (fill_of l.front)

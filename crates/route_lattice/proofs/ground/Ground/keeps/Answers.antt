@@ -1,0 +1,9 @@
+use Rattle.std.proofs.Common.{subst}
+use Rattle.pcb_model.specs.Sound.{Serves}
+use Rattle.route_lattice.specs.Ground.{GroundOf}
+use Rattle.route_lattice.proofs.ground.Ground.keeps.Goals as goal
+
+pub returns-clause-serves : goal.returns-clause-serves
+returns-clause-serves g c =
+    subst (λ (s : GroundOf). Serves s.items s.d) c.self.view_is
+    (g.met.C.Copper.serving _ _ c.self.invariant.serves)

@@ -1,4 +1,5 @@
-use Rattle.std.proofs.Common.{◌≡◌, ℤ, List, None, true, false, ◌≤ℤ◌, ◌<ℤ◌, pos, arith, get_or, sym, subst, w64, to_z, of_z, rules}
+use Rattle.std.proofs.Common.{◌≡◌, ℤ, List, None, true, false, ◌≤ℤ◌, ◌<ℤ◌, pos, arith, get_or, sym}
+use Rattle.std.proofs.Common.{subst, w64, to_z, of_z, rules}
 use Rattle.std.specs.Prelude.{slice_index_or}
 use Rattle.std.proofs.lemmas.Int.{to_z-of_z}
 use Rattle.shove.specs.Shoves.{IsNextAbove}

@@ -43,8 +43,8 @@ abbrev pub move_total : Design → Mesh → List ℕ → ℕ
 move_total d m [] = 0
 move_total d m (g ∷ gs) = node_count m * way_count d m g + move_total d m gs
 
--- gs are the first groups, in order; they are at most 16, their maps have at most 2^28 moves together, and one more would
--- be too many or too large
+-- gs are the first groups, in order; they are at most 16, their maps have at most 2^28 moves together, and one more
+-- would be too many or too large
 pub record AreMapped (d : Design) (m : Mesh) (gs : List ℕ) : Type 0 where
   pub ascend : IsStrictlyIncreasing gs
   pub each_first : (g : ℕ) → Contains gs g → IsFirst d g

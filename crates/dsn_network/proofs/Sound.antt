@@ -1,13 +1,14 @@
 -- Where no refusal of a network stands, it is sound.
 use Rattle.std.proofs.Common.{◌≡◌, ◌≢◌, ◌<◌, ◌≤◌, ◌+◌, ◌++◌, ◌^◌, ◌∙◌, ap, sym, subst, ℕ, zero, suc, cond, Bool, true}
 use Rattle.std.proofs.Common.{false, List, [], ◌∷◌, Option, Some, None, length, get_or, map, fold, refl, arith}
-use Rattle.std.specs.Prelude.{◌==◌, All, AllPairs, Contains, IfSome, is_some, slice_get}
+use Rattle.std.specs.Prelude.{◌==◌, All, AllPairs, Contains, IfSome, filter, is_some, slice_get}
 use Rattle.std.specs.List.{flat_map}
 use Rattle.std.specs.Option.{IsSomeAnd, option_map, option_map_or, option_or, option_to_list}
 use Rattle.std.proofs.lemmas.Bool.{and_from, eq-eqb, eqb-true, false≢true}
 use Rattle.std.proofs.lemmas.List.{length-map}
-use Rattle.std.proofs.lemmas.List.Elements.{All-append, All-cons, All-contains, All-head, All-nil, All-push, All-tail}
-use Rattle.std.proofs.lemmas.List.Elements.{All-weaker}
+use Rattle.std.specs.Str.{bytes_eq}
+use Rattle.std.proofs.lemmas.List.Elements.{All-append, All-cons, All-contains, All-head, All-map, All-nil, All-push}
+use Rattle.std.proofs.lemmas.List.Elements.{All-tail, All-weaker}
 use Rattle.std.proofs.lemmas.List.Folds.{list_any_at}
 use Rattle.std.proofs.lemmas.List.Quantifiers.{all_pairs_push}
 use Rattle.std.proofs.lemmas.Option.{same_Some, slice_get_within}
@@ -27,10 +28,11 @@ use Rattle.dsn_shapes.specs.declared.refusal.What.TheVariants.{Nets}
 use Rattle.dsn_shapes.specs.Limits.{too_many}
 use Rattle.dsn_shapes.specs.Lists.{at_of, name_of, quoted_name, text_of}
 use Rattle.dsn_shapes.proofs.Few.{few_kept}
-use Rattle.dsn_shapes.specs.Names.{first_place, is_at, place_index, same_names, stack_names}
-use Rattle.dsn_shapes.specs.Rules.{rule_refusals}
+use Rattle.dsn_shapes.specs.Fits.{IsRuleSetFit}
+use Rattle.dsn_shapes.specs.Names.{first_place, is_at, names_at, place_index, same_names, stack_names}
+use Rattle.dsn_shapes.specs.Rules.{pair_rule_set, rule_refusals}
 use Rattle.dsn_shapes.proofs.Fits.{back_nil, each_fit, each_nil, first_below, front_nil, name_printable, named_differ}
-use Rattle.dsn_shapes.proofs.Fits.{none_left, pairs_to_map, rules_fit, test_holds}
+use Rattle.dsn_shapes.proofs.Fits.{none_left, pair_rules_fit, pairs_to_map, rules_fit, test_holds}
 use Rattle.dsn_network.specs.Words.{rules_in, words_in}
 use Rattle.dsn_network.specs.Splits.{fits_from, pin_among, pin_at, pin_names, pin_named, pin_of_image, pin_of_place}
 use Rattle.dsn_network.specs.Splits.{pin_ref, place_names, split_by, split_of, split_with}
@@ -39,10 +41,12 @@ use Rattle.dsn_network.specs.Classes.{unknown_via, via_lists, via_refusals, via_
 use Rattle.dsn_network.specs.Nets.{each_once, first_net, has_pin, is_pin, is_placed, net_of, net_pins}
 use Rattle.dsn_network.specs.Nets.{net_refusals, nets_refusals, pins_taken, ref_pins, ref_refusals, ref_taken, refs_of}
 use Rattle.dsn_network.specs.Nets.{split_pins, split_refusals, split_taken, taken_from, with_pin}
+use Rattle.dsn_network.specs.Pairs.{counts_with, couples, couples_of, couples_with, name_refusals, pair_by, pair_names}
+use Rattle.dsn_network.specs.Pairs.{pair_refusals, pairs_of, places_from, places_named}
 use Rattle.dsn_network.specs.Whole.{class_lists, net_lists, network_left_out, network_of, network_refusals, networks}
-use Rattle.dsn_network.specs.Whole.{refusals_of, value_of}
+use Rattle.dsn_network.specs.Whole.{pair_lists, refusals_of, value_of}
 use Rattle.dsn_network.specs.Sound.{HasFewPlaces, IsImagePin, IsNetworkSound, IsPlacedPin, IsReadClassSound}
-use Rattle.dsn_network.specs.Sound.{IsReadNetSound}
+use Rattle.dsn_network.specs.Sound.{IsReadNetSound, IsReadPairSound}
 
 -- ---- pins that are named once
 push_if : (b : Bool) (P : PinRef → Type 0) (ps : List PinRef) (p : PinRef) → All P ps → P p
@@ -297,6 +301,65 @@ class_sound nm stacks t e =
       rules = rules_fit nm (rules_in (t ∷ [])) (back_nil (flat_map (unknown_via stacks) (words_in 1 vias)) _ e);
     }
 
+-- ---- class pairs
+places_below : (k m : ℕ) (name : List ℕ) (names : List (List ℕ)) → k + length names ≤ m
+    → All (λ p. p < m) (places_from k name names)
+places_below k m name [] h = All-nil (λ p. p < m)
+places_below k m name (n ∷ ns) h =
+    All-append (λ p. p < m) (cond (bytes_eq n name) (place_index k ∷ []) []) (places_from (k + 1) name ns)
+    (here (bytes_eq n name)) (places_below (k + 1) m name ns (omega arith))
+  where
+    here : (b : Bool) → All (λ p. p < m) (cond b (place_index k ∷ []) [])
+    here true = All-cons (λ p. p < m) (place_index k) [] (omega arith) (All-nil (λ p. p < m))
+    here false = All-nil (λ p. p < m)
+
+named_below : (name : List ℕ) (names : List (List ℕ)) → All (λ p. p < length names) (places_named name names)
+unfolding places_named
+named_below name names = places_below 0 (length names) name names (omega arith)
+
+abbrev IsCoupleBelow : ℕ → ℕ × ℕ → Type 0
+IsCoupleBelow m c = (c.0 < m) × (c.1 < m)
+
+those_with : (same : Bool) (m a : ℕ) (ys : List ℕ) → a < m → All (λ p. p < m) ys
+    → All (IsCoupleBelow m) (couples_with same ys a)
+those_with same m a [] l h = All-nil (IsCoupleBelow m)
+those_with same m a (b ∷ ys) l h =
+    kept (counts_with same a b) (All-head (λ p. p < m) b ys h) (those_with same m a ys l (All-tail (λ p. p < m) b ys h))
+  where
+    kept : (t : Bool) → b < m → All (IsCoupleBelow m) (couples_with same ys a)
+        → All (IsCoupleBelow m) (map (λ b. (a, b)) (cond t (b ∷ filter (counts_with same a) ys)
+        (filter (counts_with same a) ys)))
+    kept true k r = All-cons (IsCoupleBelow m) (a, b) (couples_with same ys a) (l, k) r
+    kept false k r = r
+
+couples_below : (same : Bool) (m : ℕ) (xs ys : List ℕ) → All (λ p. p < m) xs → All (λ p. p < m) ys
+    → All (IsCoupleBelow m) (couples same xs ys)
+unfolding couples
+couples_below same m [] ys h k = All-nil (IsCoupleBelow m)
+couples_below same m (x ∷ xs) ys h k =
+    All-append (IsCoupleBelow m) (couples_with same ys x) (flat_map (couples_with same ys) xs)
+    (those_with same m x ys (All-head (λ p. p < m) x xs h) k)
+    (couples_below same m xs ys (All-tail (λ p. p < m) x xs h) k)
+
+named_couples : (names : List (List ℕ)) (ws : List Tree) → All (IsCoupleBelow (length names)) (couples_of names ws)
+named_couples names [] = All-nil (IsCoupleBelow (length names))
+named_couples names (v ∷ []) = All-nil (IsCoupleBelow (length names))
+named_couples names (v ∷ (w ∷ [])) =
+    couples_below (bytes_eq (text_of v) (text_of w)) (length names) (places_named (text_of v) names)
+    (places_named (text_of w) names) (named_below (text_of v) names) (named_below (text_of w) names)
+named_couples names (v ∷ (w ∷ (u ∷ ws))) = All-nil (IsCoupleBelow (length names))
+
+pairs_sound : (nm : ℕ) (names : List (List ℕ)) (t : Tree) → pair_refusals nm names t ≡ []
+    → All (IsReadPairSound (length names)) (pairs_of nm names t)
+unfolding pair_refusals pairs_of
+pairs_sound nm names t e =
+    let rules = pair_rule_set nm (rules_in (t ∷ [])) in
+    let fit : IsRuleSetFit rules = pair_rules_fit nm (rules_in (t ∷ [])) (back_nil (name_refusals names t) _ e) in
+    All-map (IsReadPairSound (length names)) (pair_by rules) (couples_of names (pair_names t))
+    (All-weaker (IsCoupleBelow (length names)) (λ c. IsReadPairSound (length names) (pair_by rules c))
+    (λ c h. record { a_in_range = h.0; b_in_range = h.1; rules = fit }) (couples_of names (pair_names t))
+    (named_couples names (pair_names t)))
+
 -- ---- nets
 net_sound : (nm : ℕ) (lib : Library) (placing : Placing) (classes : List Tree) → HasFewPlaces placing → (t : Tree)
     → net_refusals nm lib placing t ≡ [] → IsReadNetSound lib placing (length classes) (net_of nm lib placing classes t)
@@ -334,8 +397,9 @@ network_sound nm lib placing pcb few h =
     let cs = class_lists pcb in
     let names = stack_names lib.stacks in
     let all = none_left (network_refusals nm lib placing pcb) h in
-    let parts : nets_refusals nm lib placing ts ++ flat_map (class_refusals nm names) cs ≡ [] =
-    back_nil (network_left_out (networks pcb) ts cs) _ all in
+    let parts : nets_refusals nm lib placing ts
+    ++ (flat_map (class_refusals nm names) cs ++ flat_map (pair_refusals nm (names_at 1 cs)) (pair_lists pcb)) ≡ [] =
+    back_nil (network_left_out (networks pcb) ts cs (pair_lists pcb)) _ all in
     let in_nets : same_names 1 ts
     ++ (too_many Nets 0 ts
     ++ (flat_map (net_refusals nm lib placing) ts ++ pins_taken lib placing ts)) ≡ [] =
@@ -345,6 +409,9 @@ network_sound nm lib placing pcb few h =
     back_nil (same_names 1 ts) _ in_nets in
     let each : flat_map (net_refusals nm lib placing) ts ++ pins_taken lib placing ts ≡ [] =
     back_nil (too_many Nets 0 ts) _ more in
+    let of_classes : flat_map (class_refusals nm names) cs
+    ++ flat_map (pair_refusals nm (names_at 1 cs)) (pair_lists pcb) ≡ [] =
+    back_nil (nets_refusals nm lib placing ts) _ parts in
     let class_count : length cs ≡ length (map (read_class_of nm names) cs) =
     sym (length-map cs (read_class_of nm names)) in
     let stack_count : length names ≡ length lib.stacks = length-map lib.stacks (λ (s : Stack). s.name) in
@@ -362,5 +429,13 @@ network_sound nm lib placing pcb few h =
       apart = nets_apart nm lib placing cs ts (back_nil (flat_map (net_refusals nm lib placing) ts) _ each);
       classes = subst (λ n. All (IsReadClassSound n) (map (read_class_of nm names) cs)) stack_count
           (each_fit (IsReadClassSound (length names)) (class_refusals nm names) (read_class_of nm names)
-          (class_sound nm names) cs (back_nil (nets_refusals nm lib placing ts) _ parts));
+          (class_sound nm names) cs (front_nil (flat_map (class_refusals nm names) cs) _ of_classes));
+      pairs = subst (λ n. All (IsReadPairSound n) (flat_map (pairs_of nm (names_at 1 cs)) (pair_lists pcb)))
+          (length-map cs (λ t. name_of t 1) ∙ class_count)
+          (all_joined (IsReadPairSound (length (names_at 1 cs))) (pairs_of nm (names_at 1 cs)) (pair_lists pcb)
+          (All-weaker (λ t. pair_refusals nm (names_at 1 cs) t ≡ [])
+          (λ t. All (IsReadPairSound (length (names_at 1 cs))) (pairs_of nm (names_at 1 cs) t))
+          (pairs_sound nm (names_at 1 cs)) (pair_lists pcb)
+          (each_nil (pair_refusals nm (names_at 1 cs)) (pair_lists pcb)
+          (back_nil (flat_map (class_refusals nm names) cs) _ of_classes))));
     }

@@ -3,6 +3,7 @@ pub mod Splits
 pub mod Classes
 pub mod Nets
 pub mod Pairs
+pub mod Places
 pub mod Owners
 pub mod Whole
 pub mod Sound

@@ -1,4 +1,5 @@
--- Sound networks: nets whose names and pins differ, and classes whose vias have their padstacks.
+-- Sound networks: nets whose names and pins differ, classes whose vias have their padstacks, and pairs of classes
+-- that are there.
 use Rattle.std.specs.Prelude.{◌≡◌, ◌≢◌, ◌<◌, ◌≤◌, ◌^◌, ℕ, true, All, AllPairs, Contains, IfSome, is_some, length}
 use Rattle.std.specs.Prelude.{slice_get}
 use Rattle.std.specs.Option.{IsSomeAnd}

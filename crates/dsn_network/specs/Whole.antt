@@ -1,4 +1,4 @@
--- The network: the nets and the classes of all its sections together.
+-- The network: the nets, the classes and the class pairs of all its sections together.
 use Rattle.std.specs.Prelude.{◌+◌, ℕ, List, [], ◌∷◌, ◌++◌, codes, map, sum_by}
 use Rattle.std.specs.List.{flat_map}
 use Rattle.dsn_tree.specs.declared.tree.Tree.{Tree}

@@ -1,4 +1,4 @@
-//! The reader of a design's network: its nets with their pins, and its classes, in nm.
+//! The reader of a design's network: its nets with their pins, its classes, and the clearances between classes, in nm.
 //! It answers the network, or the refusal whose place comes first in it.
 #![tactic(auto)]
 
@@ -7,6 +7,7 @@ mod classes;
 mod net;
 mod network;
 mod owners;
+mod pairs;
 mod pins;
 mod refs;
 mod split;
@@ -14,4 +15,5 @@ mod words;
 
 pub use network::read_network;
 pub use owners::Owners;
+pub use pairs::MOST_PAIRS;
 pub use split::split_pin;

@@ -1,42 +1,46 @@
-//! The network of a design: the nets and the classes of all its sections together.
-//! Source: SPECCTRA reference, network descriptor. Classes may name nets that stand behind them.
+//! The network of a design: the nets, the classes and the class pairs of all its sections together.
+//! Classes may name nets, and class pairs classes, that stand behind them.
+//! Source: SPECCTRA reference, network descriptor.
 
-ghost use Rattle.std.specs.Prelude.{◌≡◌, map, IfOk, OnOk};
+ghost use Rattle.std.specs.Prelude.{◌≡◌, ◌≤◌, length, map, IfOk, OnOk};
 ghost use Rattle.std.specs.List.{flat_map};
 ghost use Rattle.dsn_shapes.specs.Lists.{capped};
 ghost use Rattle.dsn_shapes.specs.Names.{names_at, stack_names};
 ghost use Rattle.dsn_shapes.specs.Refusals.{Reads, noted};
 ghost use Rattle.dsn_network.specs.Classes.{class_refusals, read_class_of};
 ghost use Rattle.dsn_network.specs.Nets.{net_of, nets_refusals};
+ghost use Rattle.dsn_network.specs.Pairs.{pair_refusals, pairs_of};
 ghost use Rattle.dsn_network.specs.Sound.{HasFewPlaces, IsNetworkSound};
 ghost use Rattle.dsn_network.specs.Whole.{class_lists, classes_left_out, classes_passed, net_lists};
-ghost use Rattle.dsn_network.specs.Whole.{network_left_out, network_of, network_passed};
-ghost use Rattle.dsn_network.specs.Whole.{network_refusals, networks, refusals_of, rules_passed, value_of};
+ghost use Rattle.dsn_network.specs.Whole.{network_left_out, network_of, network_passed, network_refusals};
+ghost use Rattle.dsn_network.specs.Whole.{networks, pair_lists, refusals_of, rules_passed, value_of};
 
 use crate::class::{Classes, read_classes};
 use crate::classes::{ClassIndex, stray_names};
 use crate::net::{Nets, read_nets};
+use crate::pairs::{MOST_PAIRS, Pairs, read_pairs};
 use crate::pins::PinIndex;
 use dsn_shapes::{
     Library, ListKind, NameIndex, Network, Placing, ReadFault, Refusal, Trees, names_of, pass_over,
 };
 use dsn_tree::Tree;
-use geo_kernel::List;
 use dsn_units::Scale;
 use std::alloc::{AllocError, Global};
 
-// The sections of a network, and the nets and classes in them.
+// The sections of a network, and the nets, classes and class pairs in them.
 #[derive(Drop)]
 struct Sections<'a> {
     networks: Trees<'a>,
     nets: Trees<'a>,
     classes: Trees<'a>,
+    pairs: Trees<'a>,
 }
 
 fn sections_of<'a>(alloc: Global, pcb: &'a Tree) -> Result<Sections<'a>, AllocError>
     ensures networks { IfOk result (λ s. s.networks ≡ networks pcb.now) }
     ensures nets { IfOk result (λ s. s.nets ≡ net_lists pcb.now) }
     ensures classes { IfOk result (λ s. s.classes ≡ class_lists pcb.now) }
+    ensures pairs { IfOk result (λ s. s.pairs ≡ pair_lists pcb.now) }
 {
     let networks = Trees::in_list(alloc, pcb, b"network")?;
     let nets = match networks.headed(alloc, b"net") {
@@ -53,10 +57,18 @@ fn sections_of<'a>(alloc: Global, pcb: &'a Tree) -> Result<Sections<'a>, AllocEr
             return Err(error);
         }
     };
+    let pairs = match networks.headed(alloc, b"class_class") {
+        Ok(pairs) => pairs,
+        Err(error) => {
+            drop((networks, nets, classes));
+            return Err(error);
+        }
+    };
     Ok(Sections {
         networks,
         nets,
         classes,
+        pairs,
     })
 }
 
@@ -86,15 +98,20 @@ fn pass_over_network(
 ) -> Result<u64, AllocError>
     requires { names.now ≡ names_at 1 parts.now.nets }
     ensures noted { OnOk result
-        (first.new ≡ noted first.old (network_left_out parts.now.networks parts.now.nets parts.now.classes)) }
-    ensures value { IfOk result (λ n. n ≡ capped (network_passed parts.now.networks parts.now.nets parts.now.classes)) }
+        (first.new
+        ≡ noted first.old
+        (network_left_out parts.now.networks parts.now.nets parts.now.classes parts.now.pairs)) }
+    ensures value { IfOk result
+        (λ n. n ≡ capped (network_passed parts.now.networks parts.now.nets parts.now.classes parts.now.pairs)) }
 {
     let in_sections = pass_over(first, &parts.networks, ListKind::Network);
     let in_nets = pass_over(first, &parts.nets, ListKind::Net);
     let in_classes = pass_over_classes(alloc, first, &parts.classes)?;
+    let in_pairs = pass_over(first, &parts.pairs, ListKind::Pair);
     let strays = stray_names(alloc, names, &parts.classes)?;
     let in_lists = in_sections.saturating_add(in_nets);
-    Ok(in_lists.saturating_add(in_classes.saturating_add(strays)))
+    let beside_nets = in_classes.saturating_add(strays).saturating_add(in_pairs);
+    Ok(in_lists.saturating_add(beside_nets))
 }
 
 fn nets_of(
@@ -145,7 +162,7 @@ fn classes_of(
     classes
 }
 
-// The nets and classes of a network, where `names` are those of its nets.
+// The nets, classes and class pairs of a network, where `names` are those of its nets.
 #[tactic(auto, unfolding(crate::specs::Whole::refusals_of, crate::specs::Whole::value_of))]
 fn parts_of(
     alloc: Global,
@@ -159,9 +176,12 @@ fn parts_of(
     requires { names.now ≡ names_at 1 parts.now.nets }
     ensures noted { OnOk result
         (first.new ≡ noted first.old
-        (refusals_of scale.nm lib.now placing.now parts.now.networks parts.now.nets parts.now.classes)) }
+        (refusals_of scale.nm lib.now placing.now parts.now.networks parts.now.nets parts.now.classes
+        parts.now.pairs)) }
     ensures value { IfOk result
-        (λ v. v ≡ value_of scale.nm lib.now placing.now parts.now.networks parts.now.nets parts.now.classes) }
+        (λ v. v ≡ value_of scale.nm lib.now placing.now parts.now.networks parts.now.nets parts.now.classes
+        parts.now.pairs) }
+    ensures few { IfOk result (λ v. length v.pairs ≤ MOST_PAIRS) }
 {
     let beside = pass_over_network(alloc, first, parts, names)?;
     let Nets { nets, notes } = nets_of(alloc, first, parts, names, scale, lib, placing)?;
@@ -175,11 +195,22 @@ fn parts_of(
             return Err(error);
         }
     };
+    let Pairs {
+        pairs,
+        notes: in_pairs,
+    } = match read_pairs(alloc, first, &parts.pairs, &parts.classes, scale) {
+        Ok(pairs) => pairs,
+        Err(error) => {
+            drop((nets, classes));
+            return Err(error);
+        }
+    };
+    let in_rules = notes.saturating_add(in_classes).saturating_add(in_pairs);
     Ok(Network {
         nets,
         classes,
-        pairs: List::new(alloc),
-        notes: beside.saturating_add(notes.saturating_add(in_classes)),
+        pairs,
+        notes: beside.saturating_add(in_rules),
     })
 }
 
@@ -193,6 +224,7 @@ fn note_network(
 ) -> Result<Network, AllocError>
     ensures noted { OnOk result (first.new ≡ noted first.old (network_refusals scale.nm lib.now placing.now pcb.now)) }
     ensures value { IfOk result (λ v. v ≡ network_of scale.nm lib.now placing.now pcb.now) }
+    ensures few { IfOk result (λ v. length v.pairs ≤ MOST_PAIRS) }
 {
     let parts = sections_of(alloc, pcb)?;
     let names = match NameIndex::new(alloc, &parts.nets, 1) {
@@ -207,13 +239,13 @@ fn note_network(
     network
 }
 
-/// The nets and classes of all `network` sections of a design together.
+/// The nets, classes and class pairs of all `network` sections of a design together.
 /// Lengths are in nm; components, pins, padstacks and classes are indices that count from 0.
 ///
 /// # Errors
 ///
-/// The first of the refusals 9, 10, 13, 14, 16, 17, 18, 19, 21 and 23 (nets) in these sections,
-/// or want of memory.
+/// The first of the refusals 9, 10, 13, 14, 16, 17, 18, 19, 21, 23 (nets), 25 and 26 in these sections,
+/// or want of memory; that is the answer, too, where the class pairs are more than `MOST_PAIRS`.
 pub fn read_network(
     alloc: Global,
     pcb: &Tree,
@@ -224,6 +256,7 @@ pub fn read_network(
     ensures reads { Reads (network_refusals s.nm lib.now placing.now pcb.now)
         (λ v. v ≡ network_of s.nm lib.now placing.now pcb.now) result }
     ensures sound { HasFewPlaces placing.now → IfOk result (IsNetworkSound lib.now placing.now) }
+    ensures few_pairs { IfOk result (λ v. length v.pairs ≤ MOST_PAIRS) }
 {
     let mut first = None;
     let network = match note_network(alloc, &mut first, pcb, s, lib, placing) {

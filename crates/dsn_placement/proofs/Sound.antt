@@ -8,6 +8,7 @@ use Rattle.std.proofs.lemmas.Bool.{ltb-false}
 use Rattle.std.proofs.lemmas.List.{append-nil, length-map, map-append}
 use Rattle.std.proofs.lemmas.List.Elements.{All-append, All-head, All-map, All-nil, All-tail, All-weaker}
 use Rattle.pcb_model.specs.Sound.{IsPrintable}
+use Rattle.pcb_model.specs.declared.limits.TheConstants.{MOST_PINS}
 use Rattle.dsn_tree.specs.declared.tree.Tree.{Tree}
 use Rattle.dsn_units.specs.declared.angle.Angle.{Angle}
 use Rattle.dsn_units.specs.declared.number.Decimal.{Decimal}
@@ -288,16 +289,16 @@ sums_agree f p g n (x ∷ xs) h = sums_agree f p g (n + g x) xs (All-tail (λ x.
     ∙ ap (λ k. fold (λ a y. a + f y) (n + k) (map p xs)) (sym (All-head (λ x. f (p x) ≡ g x) x xs h))
 
 pins_within : (lib : Library) (before : ℕ) (flip_last : Bool) (ls : List Laid) → All (IsLaidSound flip_last lib) ls
-    → limit_refusals before ls ≡ [] → sum_by (placed_pins lib) (map place_in ls) ≤ 262144
+    → limit_refusals before ls ≡ [] → sum_by (placed_pins lib) (map place_in ls) ≤ MOST_PINS
 unfolding limit_refusals
 pins_within lib before flip_last ls h e =
-    let s : sum_by (λ (l : Laid). l.pins) ls ≤ 262144 =
+    let s : sum_by (λ (l : Laid). l.pins) ls ≤ MOST_PINS =
     sum_within Pins 0 ls (omega arith) (front_nil (first_past Pins 0 ls) _ e) in
     let same : sum_by (λ (l : Laid). l.pins) ls ≡ sum_by (placed_pins lib) (map place_in ls) =
     sums_agree (placed_pins lib) place_in (λ (l : Laid). l.pins) 0 ls
     (All-weaker (IsLaidSound flip_last lib) (λ (l : Laid). placed_pins lib l.place ≡ l.pins) (λ l k. k.pins) ls
     h) in
-    subst (λ n. n ≤ 262144) same s
+    subst (λ n. n ≤ MOST_PINS) same s
 
 -- ---- the whole
 pub placing_sound : (nm : ℕ) (st : Structure) (lib : Library) (pcb : Tree) → HasFewImages lib

@@ -35,7 +35,7 @@ pub record IsPlaceSound (flip_last : Bool) (lib : Library) (p : Place) : Type 0 
 abbrev pub placed_pins : Library → Place → ℕ
 placed_pins lib p = counted_by (is_some p.at) (pins_of (slice_get lib.images p.image))
 
--- the names of components differ, and their placed pins are together at most 262,144
+-- the names of components differ, and their placed pins are together at most as many as a design may have
 pub record IsPlacingSound (st : Structure) (lib : Library) (placing : Placing) : Type 0 where
   pub places : All (IsPlaceSound st.flip_last lib) placing.places
   pub names : AllPairs (λ (a b : Place). a.name ≢ b.name) placing.places

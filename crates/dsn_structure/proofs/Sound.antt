@@ -7,6 +7,7 @@ use Rattle.std.specs.Option.{option_map, option_map_or}
 use Rattle.std.proofs.lemmas.Bool.{eqb-false, ltb-false, or_parts}
 use Rattle.std.proofs.lemmas.List.{length-append, length-map}
 use Rattle.pcb_model.specs.Sound.{IsPrintable}
+use Rattle.pcb_model.specs.declared.limits.TheConstants.{MOST_ITEMS}
 use Rattle.dsn_tree.specs.declared.tree.Tree.{Tree}
 use Rattle.dsn_units.specs.declared.number.Decimal.{Decimal}
 use Rattle.dsn_units.specs.Length.{bottom, is_below_zero, top, whole_of}
@@ -166,7 +167,7 @@ frame_sound pcb structs bounds e =
 
 -- ---- boundaries and keepouts
 record AreAreasFit (nm : ℕ) (layers : List Layer) (bounds bans : List Tree) : Type 0 where
-  few : length bounds + length bans ≤ 1048576
+  few : length bounds + length bans ≤ MOST_ITEMS
   bounds_fit : All IsBoundShape (map (bound_of nm layers) bounds)
   bans_fit : All (λ (ban : BanShape). IsShapeFit ban.shape) (map (ban_of nm layers) bans)
 
@@ -175,7 +176,7 @@ areas_fit : (nm : ℕ) (layers : List Layer) (bounds bans : List Tree) → area_
 unfolding area_refusals
 areas_fit nm layers bounds bans e =
     let rest = back_nil (flat_map (bound_refusals nm layers) bounds) _ e in
-    let few : length (bounds ++ bans) ≤ 1048576 =
+    let few : length (bounds ++ bans) ≤ MOST_ITEMS =
     few_kept Items 0 (bounds ++ bans) (back_nil (flat_map (ban_refusals nm layers) bans) _ rest) in
     record {
       few = omega (arith, length-append bounds bans);
@@ -197,7 +198,7 @@ parts_sound nm pcb structs bounds bans rules e =
     let areas = areas_fit nm layers bounds bans (front_nil (area_refusals nm layers bounds bans) _ behind) in
     let rest = back_nil (area_refusals nm layers bounds bans) _ behind in
     let some : 1 ≤ length bounds = frame.1 in
-    let few : length bounds + length bans ≤ 1048576 = areas.few in
+    let few : length bounds + length bans ≤ MOST_ITEMS = areas.few in
     let l : length (map (bound_of nm layers) bounds) ≡ length bounds = length-map bounds (bound_of nm layers) in
     let k : length (map (ban_of nm layers) bans) ≡ length bans = length-map bans (ban_of nm layers) in
     record {

@@ -1,7 +1,7 @@
 //! What stands before the sections: the design's name, its resolution and unit, and what wrote it.
 //! Source: SPECCTRA reference, pcb, parser, resolution and unit descriptors.
 
-ghost use Rattle.std.specs.Prelude.{◌≡◌, IfOk, OnOk};
+ghost use Rattle.std.specs.Prelude.{◌≡◌, ◌≤◌, IfOk, IfSome, OnOk};
 ghost use Rattle.dsn_shapes.specs.Refusals.{Reads, noted};
 ghost use Rattle.dsn_structure.specs.Header.{count_of, first_of, head_of, head_refusals};
 ghost use Rattle.dsn_structure.specs.Header.{header_left_out, header_notes, host_of, host_refusal, hosts};
@@ -31,7 +31,8 @@ fn refuse_no_pcb(first: &mut Option<Refusal>, pcb: &Tree)
     }
 }
 
-fn unit_of(text: &[u8]) -> Option<Unit>
+/// The unit that a word names: `inch`, `mil`, `cm`, `mm` or `um`, in any case of letters.
+pub fn unit_of(text: &[u8]) -> Option<Unit>
     ensures { result ≡ unit_of text.now }
 {
     if text.eq_ignore_ascii_case(b"inch") {
@@ -57,9 +58,10 @@ fn refuse_unit(first: &mut Option<Refusal>, tree: &Tree)
     }
 }
 
-// How many units of a resolution are one of its unit, from 1 to 1,000,000.
-fn count_of(tree: &Tree) -> Option<u32>
-    ensures { result ≡ count_of tree.now }
+/// How many units of a resolution are one of its unit, from 1 to 1,000,000, as 10 in `(resolution um 10)`.
+pub fn count_of(tree: &Tree) -> Option<u32>
+    ensures value { result ≡ count_of tree.now }
+    ensures some { IfSome result (λ n. 1 ≤ n) }
 {
     match read_decimal(name_of(tree, 2)) {
         Some(decimal) => match whole_number(&decimal, MOST_PER) {

@@ -8,5 +8,5 @@ mod layers;
 mod layout;
 mod vias;
 
-pub use header::read_head;
+pub use header::{count_of, read_head, unit_of};
 pub use layout::read_structure;

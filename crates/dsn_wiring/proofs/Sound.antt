@@ -24,6 +24,7 @@ use Rattle.pcb_model.specs.declared.item.Metal.{Metal}
 use Rattle.pcb_model.specs.declared.item.Metal.TheVariants.{Wire, Via, Pad, Ban}
 use Rattle.pcb_model.specs.Bounds.{IsMetalFit}
 use Rattle.pcb_model.specs.Sound.{origin}
+use Rattle.pcb_model.specs.declared.limits.TheConstants.{MOST_ITEMS}
 use Rattle.dsn_shapes.specs.declared.refusal.Refusal.{Refusal}
 use Rattle.dsn_shapes.specs.declared.refusal.What.TheVariants.{Items}
 use Rattle.dsn_shapes.specs.declared.parts.ReadNet.{ReadNet}
@@ -346,7 +347,7 @@ one_sound nm st lib network t few left e =
           (back_nil (net_refusals nets t) _ e) (via_sound nm st lib t few) (wire_sound nm st lib t left);
     }
 
-few_wires : (before : ℕ) (ts : List Tree) → too_many Items before ts ≡ [] → length ts ≤ 1048576
+few_wires : (before : ℕ) (ts : List Tree) → too_many Items before ts ≡ [] → length ts ≤ MOST_ITEMS
 few_wires before ts e = let h = few_kept Items before ts e in omega arith
 
 pub wiring_sound : (nm : ℕ) (st : Structure) (lib : Library) (placing : Placing) (network : Network) (pcb : Tree)
@@ -366,7 +367,7 @@ wiring_sound nm st lib placing network pcb few none =
     each_nil (refusals_of nm st.layers lib.stacks names nets) ts
     (back_nil (too_many Items (items_before st lib placing) ts) _ rest) in
     let l : length (map make ts) ≡ length ts = length-map ts make in
-    let m : length ts ≤ 1048576 =
+    let m : length ts ≤ MOST_ITEMS =
     few_wires (items_before st lib placing) ts (front_nil (too_many Items (items_before st lib placing) ts) _ rest) in
     record {
       few = omega arith;

@@ -34,7 +34,7 @@ pub record IsWireSound (st : Structure) (lib : Library) (network : Network) (w :
   pub net_there : w.fixed ≡ false → IsSome w.net
   pub copper : IsCopperSound st lib w.metal
 
--- at most 1,048,576 such wires and vias
+-- such wires and vias, together at most as many as a design may have items
 pub record IsWiringSound (st : Structure) (lib : Library) (network : Network) (wiring : Wiring) : Type 0 where
   pub few : length wiring.wires ≤ MOST_ITEMS
   pub wires : All (IsWireSound st lib network) wiring.wires

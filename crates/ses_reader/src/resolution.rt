@@ -1,7 +1,7 @@
 //! The resolution of a session's routes, such as `(resolution um 10)`: ten of its units are one micrometre.
 //! Source: SPECCTRA reference, unit and resolution descriptors.
 
-ghost use Rattle.std.specs.Prelude.{◌≡◌, ◌≤◌, IfSome, unwrap_or};
+ghost use Rattle.std.specs.Prelude.{◌≡◌, ◌≤◌, unwrap_or};
 ghost use Rattle.dsn_shapes.specs.Refusals.{noted};
 ghost use Rattle.dsn_structure.specs.Header.{count_of, unit_of};
 ghost use Rattle.ses_reader.specs.Measures.{measure_in, resolution_refusals};
@@ -10,42 +10,9 @@ use crate::measure::Measure;
 use crate::numbers::note_unless;
 use crate::table::{NO_MEASURE, NO_SESSION};
 use dsn_shapes::{Refusal, at_of, name_of, note, place_of, refused};
+use dsn_structure::{count_of, unit_of};
 use dsn_tree::{Tree, child};
-use dsn_units::{read_decimal, whole_number};
 use geo_kernel::Unit;
-use pcb_model::limits::MOST_PER;
-
-fn unit_of(text: &[u8]) -> Option<Unit>
-    ensures { result ≡ unit_of text.now }
-{
-    if text.eq_ignore_ascii_case(b"inch") {
-        Some(Unit::Inch)
-    } else if text.eq_ignore_ascii_case(b"mil") {
-        Some(Unit::Mil)
-    } else if text.eq_ignore_ascii_case(b"cm") {
-        Some(Unit::Cm)
-    } else if text.eq_ignore_ascii_case(b"mm") {
-        Some(Unit::Mm)
-    } else if text.eq_ignore_ascii_case(b"um") {
-        Some(Unit::Um)
-    } else {
-        None
-    }
-}
-
-// How many units of a resolution are one of its unit, from 1 to 1,000,000.
-fn count_of(tree: &Tree) -> Option<u32>
-    ensures value { result ≡ count_of tree.now }
-    ensures some { IfSome result (λ n. 1 ≤ n) }
-{
-    match read_decimal(name_of(tree, 2)) {
-        Some(decimal) => match whole_number(&decimal, MOST_PER) {
-            Some(n) => { if n == 0 { None } else { Some(n) } }
-            None => None,
-        },
-        None => None,
-    }
-}
 
 fn per_in(tree: &Tree) -> u32
     ensures value { result ≡ unwrap_or (count_of tree.now) 1 }

@@ -4,7 +4,6 @@
 ghost use Rattle.std.specs.Prelude.{◌≡◌, ◌≤◌, ◌++◌, drop, map, unwrap_or, IfOk, OnOk};
 ghost use Rattle.std.specs.Option.{option_copied};
 ghost use Rattle.std.specs.List.{flat_map};
-ghost use Rattle.dsn_shapes.specs.Forms.{points_of};
 ghost use Rattle.dsn_shapes.specs.Lists.{trees_of};
 ghost use Rattle.dsn_shapes.specs.Refusals.{noted};
 ghost use Rattle.dsn_wiring.specs.Wires.{no_wire};
@@ -17,7 +16,7 @@ use crate::index::DesignIndex;
 use crate::measure::Measure;
 use crate::numbers::{note_extent, note_unless, note_word};
 use crate::table::{NO_LAYER, NO_PATH};
-use dsn_shapes::{Refusal, Trees, at_of, name_of, note, place_of, refused};
+use dsn_shapes::{Refusal, Trees, at_of, name_of, note, place_of, points_of, refused};
 use dsn_tree::Tree;
 use geo_kernel::{List, Point};
 use pcb_model::Metal;
@@ -49,22 +48,6 @@ fn read_coords(
         coords.push(coord)?;
     }
     Ok(coords)
-}
-
-// The points of coordinates that are taken two by two.
-fn points_of(alloc: Global, coords: &[Option<i64>]) -> Result<List<Point>, AllocError>
-    ensures { IfOk result (λ ps. ps ≡ points_of coords.now) }
-{
-    let mut points = List::new(alloc);
-    let mut rest = coords;
-    while let [x, y, tail @ ..] = rest {
-        points.push(Point {
-            x: x.unwrap_or(0),
-            y: y.unwrap_or(0),
-        })?;
-        rest = tail;
-    }
-    Ok(points)
 }
 
 // The words of a list from a place on.

@@ -1,4 +1,4 @@
-use Rattle.std.proofs.Common.{◌≡◌, ◌∙◌, ◌++◌, ap, ℕ, List, [], ◌∷◌, cond, arith, rules}
+use Rattle.std.proofs.Common.{◌∙◌, ◌++◌, ap, ℕ, List, [], ◌∷◌, cond, arith, rules}
 use Rattle.std.specs.Str.{bytes_eq}
 use Rattle.dsn_shapes.specs.Names.{place_index}
 use Rattle.dsn_network.specs.Pairs.{places_named}

@@ -42,7 +42,9 @@ const BOARD: &str = "(pcb b
     (padstack P (shape (circle F.Cu 0.01 1 0) (z)) (attach off) (z)))
   (network (net GND (pins R1-1 R2-2) (rule (width 0.3)) (pins R1-1) (z))
     (class one \"\" GND NO VCC (rule (clearance 0.2)) (circuit (use_via W V) (z))))
-  (network (class two VCC (rule (width 400))) (z) (net VCC (pins J-1-1)) (class three) (net \"\"))
+  (network (class two VCC (rule (width 400))) (z) (net VCC (pins J-1-1)) (class three) (net \"\")
+    (class_class (classes one two) (rule (clearance 0.4) (z)) (z)) (class two))
+  (network (class_class (classes two (z) two) (rule (clearance 6 (type via_smd)) (clearance 7 (type hole_via)))))
   (wiring (wire (path F.Cu 200 0 0 1 1) (net GND) (type fix)) (via V 3 4 (net VCC) (x)) (z))
   (wiring (via V 5 6 9) (wire (type route) (net VCC) (path B.Cu 0.25 0 0 2 0 (q) 2 2) (net GND) (type fix))
     (Via P 0 0 (net \"\") (type Protect))))";
@@ -66,10 +68,45 @@ fn is_placing(placing: &Placing) -> bool {
     (placing.places.len(), placing.notes) == (6, 2)
 }
 
-/// Whether there are so many nets and classes, and notes of two (z) in lists, of a net that a class names and that
-/// isn't there, and of a (z) in a section.
+/// Whether there are so many nets, classes and class pairs, and notes of two (z) in lists, of a net that a class names
+/// and that isn't there, of a (z) in a section, of one in a class pair and one in its rule, and of a clearance for a
+/// pair of kinds that isn't known.
 fn is_network(network: &Network) -> bool {
-    (network.nets.len(), network.classes.len(), network.notes) == (3, 3, 4)
+    (network.nets.len(), network.classes.len()) == (3, 4)
+        && (network.pairs.len(), network.notes) == (5, 7)
+}
+
+/// The classes of each pair, its plain clearance, and how many it has for pairs of kinds: two class lists have the name
+/// `two`, so that a pair of it with `one` is two pairs, and with itself three.
+static PAIRS: [(u32, u32, Option<u64>, usize); 5] = [
+    (0, 1, Some(400), 0),
+    (0, 3, Some(400), 0),
+    (1, 1, None, 1),
+    (1, 3, None, 1),
+    (3, 3, None, 1),
+];
+
+/// Whether pair `i` is so.
+fn is_pair(network: &Network, i: usize, wanted: (u32, u32, Option<u64>, usize)) -> bool {
+    let (a, b, plain, typed) = wanted;
+    match network.pairs.get(i) {
+        Some(pair) => {
+            (pair.a, pair.b) == (a, b)
+                && pair.rules.plain == plain
+                && pair.rules.typed.len() == typed
+        }
+        None => false,
+    }
+}
+
+/// Whether the class pairs are those of the table.
+fn are_pairs(network: &Network) -> bool {
+    for (i, wanted) in PAIRS.iter().enumerate() {
+        if !is_pair(network, i, *wanted) {
+            return false;
+        }
+    }
+    true
 }
 
 /// Whether there are so many wires and vias, and each list in a via and in a section.
@@ -131,6 +168,7 @@ fn holds_the_rest<R: Abort>(
     is_placing(&placing)
         && are_split(alloc, library, &placing)
         && is_network(&network)
+        && are_pairs(&network)
         && is_wiring(&wiring)
 }
 

@@ -1,5 +1,5 @@
 -- Of a tree of at most 2^26 tokens no section's count comes to 2^64 - 1, so each is the plain sum.
--- The bounds of the sums are those of `Sections`: at most eleven times the tree's weight.
+-- The bounds of the sums are those of `Sections`: at most fifteen times the tree's weight.
 use Rattle.std.proofs.Common.{◌≡◌, ◌≤◌, ◌+◌, ◌^◌, ℕ, List, [], ◌∷◌, length, arith}
 use Rattle.std.specs.Prelude.{All}
 use Rattle.std.proofs.lemmas.List.Elements.{All-map, All-weaker}

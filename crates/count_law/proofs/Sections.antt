@@ -23,7 +23,7 @@ use Rattle.dsn_placement.specs.Placing.{components, lists_passed as places_passe
 use Rattle.dsn_network.specs.Words.{rules_in, words_in}
 use Rattle.dsn_network.specs.Classes.{circuits_in, is_stray, stray_names}
 use Rattle.dsn_network.specs.Whole.{class_lists, classes_passed, net_lists, network_passed, networks}
-use Rattle.dsn_network.specs.Whole.{rules_passed}
+use Rattle.dsn_network.specs.Whole.{pair_lists, rules_passed}
 use Rattle.dsn_wiring.specs.Whole.{lists_passed as wires_passed, wire_lists, wirings}
 use Rattle.dsn_design.specs.Sound.{weight}
 use Rattle.dsn_design.proofs.Counted.{lists_weight, words_weight}
@@ -173,31 +173,34 @@ unfolding stray_names
 stray_weight nets classes =
     omega (arith, counted_weight (is_stray nets) (words_in 2 classes), words_weight 2 classes)
 
--- its sections, nets, classes and circuits
-network_within : (sections nets classes : List Tree)
-    → network_passed sections nets classes ≤ weight sections + (weight nets + 3 * weight classes)
+-- its sections, nets, classes, circuits and class pairs
+network_within : (sections nets classes pairs : List Tree)
+    → network_passed sections nets classes pairs ≤ weight sections + (weight nets + (3 * weight classes + weight pairs))
 unfolding network_passed classes_passed
-network_within sections nets classes = omega (
+network_within sections nets classes pairs = omega (
   arith,
   notes_weight list.Network sections,
   notes_weight list.Net nets,
   notes_weight list.Class classes,
   notes_weight list.Class (circuits_in classes),
+  notes_weight list.Pair pairs,
   lists_weight (codes "circuit" ∷ []) classes,
   stray_weight (names_at 1 nets) classes,
 )
 
 -- in the tree
-pub network_weight : (pcb : Tree) → network_sum pcb ≤ 11 * weight (pcb ∷ [])
+pub network_weight : (pcb : Tree) → network_sum pcb ≤ 15 * weight (pcb ∷ [])
 network_weight pcb =
     let sections = networks pcb in
     omega (
       arith,
-      network_within sections (net_lists pcb) (class_lists pcb),
+      network_within sections (net_lists pcb) (class_lists pcb) (pair_lists pcb),
       rules_weight (net_lists pcb),
       rules_weight (class_lists pcb),
+      rules_weight (pair_lists pcb),
       lists_weight (codes "net" ∷ []) sections,
       lists_weight (codes "class" ∷ []) sections,
+      lists_weight (codes "class_class" ∷ []) sections,
       lists_weight (codes "network" ∷ []) (pcb ∷ []),
     )
 
@@ -217,8 +220,8 @@ wiring_weight pcb = omega (
 )
 
 -- ---- all sections
--- 2, 8, 7, 3, 11 and 2 times the weight
-pub sections_weight : (pcb : Tree) → sections_sum pcb ≤ 33 * weight (pcb ∷ [])
+-- 2, 8, 7, 3, 15 and 2 times the weight
+pub sections_weight : (pcb : Tree) → sections_sum pcb ≤ 37 * weight (pcb ∷ [])
 sections_weight pcb = omega (
   arith,
   head_weight pcb,

@@ -20,7 +20,8 @@ use Rattle.dsn_structure.specs.Layout.{frame_notes, keepouts, rule_lists, struct
 use Rattle.dsn_library.specs.Whole.{images, libraries, library_notes, library_of, padstacks}
 use Rattle.dsn_placement.specs.Places.{items_of, places_in}
 use Rattle.dsn_placement.specs.Placing.{components, items_before, lists_passed as places_passed, placements, placing_of}
-use Rattle.dsn_network.specs.Whole.{class_lists, net_lists, network_of, network_passed, networks, rules_passed}
+use Rattle.dsn_network.specs.Whole.{class_lists, net_lists, network_of, network_passed, networks, pair_lists}
+use Rattle.dsn_network.specs.Whole.{rules_passed}
 use Rattle.dsn_wiring.specs.Whole.{lists_passed as wires_passed, wire_lists, wiring_of, wirings}
 use Rattle.dsn_design.specs.declared.parts.Parts.{Parts}
 use Rattle.dsn_design.specs.Made.{notes_of, structure_vias}
@@ -45,10 +46,10 @@ library_sum pcb = library_notes (libraries pcb) (images pcb) (padstacks pcb)
 abbrev pub placement_sum : Tree → ℕ
 placement_sum pcb = places_passed (placements pcb) (components pcb) (places_in (components pcb))
 
--- in the network, and in the rules of its nets and classes
+-- in the network, and in the rules of its nets, classes and class pairs
 abbrev pub network_sum : Tree → ℕ
-network_sum pcb = network_passed (networks pcb) (net_lists pcb) (class_lists pcb)
-    + (rules_passed (net_lists pcb) + rules_passed (class_lists pcb))
+network_sum pcb = network_passed (networks pcb) (net_lists pcb) (class_lists pcb) (pair_lists pcb)
+    + (rules_passed (net_lists pcb) + rules_passed (class_lists pcb) + rules_passed (pair_lists pcb))
 
 -- in the wiring
 abbrev pub wiring_sum : Tree → ℕ

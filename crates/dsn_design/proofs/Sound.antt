@@ -4,7 +4,7 @@ use Rattle.std.proofs.Common.{arith}
 use Rattle.std.specs.Prelude.{All, AllPairs, IfSome, slice_get, unwrap_or}
 use Rattle.std.specs.Option.{IsSomeAnd, option_map_or}
 use Rattle.std.proofs.lemmas.List.{length-map}
-use Rattle.std.proofs.lemmas.List.Elements.{All-map, All-nil, All-weaker}
+use Rattle.std.proofs.lemmas.List.Elements.{All-map, All-weaker}
 use Rattle.std.proofs.lemmas.Option.{slice_get-map}
 use Rattle.geo_kernel.specs.declared.spine.Spine.{Spine}
 use Rattle.geo_kernel.specs.declared.spine.Spine.TheVariants.{Chain, Area}
@@ -33,7 +33,7 @@ use Rattle.dsn_shapes.specs.declared.parts.Stack.{Stack}
 use Rattle.dsn_shapes.specs.Fits.{IsArea, IsBoundShape}
 use Rattle.dsn_shapes.proofs.Fits.{pairs_to_map}
 use Rattle.dsn_library.specs.Sound.{IsImageSound, IsStackSound}
-use Rattle.dsn_network.specs.Sound.{IsReadClassSound, IsReadNetSound}
+use Rattle.dsn_network.specs.Sound.{IsReadClassSound, IsReadNetSound, IsReadPairSound}
 use Rattle.dsn_shapes.specs.Names.{stack_names}
 use Rattle.dsn_design.specs.declared.parts.Parts.{Parts}
 use Rattle.dsn_design.specs.Fit.{IsStackFit}
@@ -242,6 +242,19 @@ pins_sound p stacks fixed free =
     })
     (counted_pins p stacks) (pins_are_of p stacks)
 
+-- ---- class pairs
+pairs_sound : (p : Parts) (stacks : List Padstack) (fixed : List Item) (free : List FreeWire) → ArePartsSound p
+    → All (IsPairSound (counted_with p stacks fixed free)) p.network.pairs
+unfolding design_with
+pairs_sound p stacks fixed free s =
+    let l : length (map class_rules p.network.classes) ≡ length p.network.classes =
+    length-map p.network.classes class_rules in
+    All-weaker (IsReadPairSound (length p.network.classes)) (IsPairSound (counted_with p stacks fixed free))
+    (λ q h. record {
+      a_in_range = subst (λ n. q.a < n) (sym l) h.a_in_range;
+      b_in_range = subst (λ n. q.b < n) (sym l) h.b_in_range;
+    }) p.network.pairs s.network.pairs
+
 -- ---- the whole design
 few_parts : (p : Parts) (stacks : List Padstack) (fixed : List Item) (free : List FreeWire) → ArePartsSound p
     → ArePadstacksOf p stacks → HasFewParts (counted_with p stacks fixed free)
@@ -266,7 +279,9 @@ design_fit p stacks fixed free s h =
       structure = s.structure.rules_fit.clearances_within;
       classes_within = classes_within (length p.library.stacks) p.network.classes s.network.classes;
       nets_within = nets_within p stacks s;
-      pairs_within = All-nil (λ (q : ClassPair). AreRulesWithin (2 ^ 28) q.rules);
+      pairs_within = All-weaker (IsReadPairSound (length p.network.classes))
+          (λ (q : ClassPair). AreRulesWithin (2 ^ 28) q.rules) (λ q h. h.rules.clearances_within) p.network.pairs
+          s.network.pairs;
     } in
     record {
       rules_within = rules;
@@ -325,7 +340,7 @@ sound_from p stacks s h =
       few_per = s.head.few_per;
       width_within = width_small p.structure.rules.width s.structure.rules_fit.width_within;
       class_widths_within = class_widths (length p.library.stacks) p.network.classes s.network.classes;
-      pairs = All-nil (IsPairSound (counted_from p stacks));
+      pairs = pairs_sound p stacks fixed free s;
       padstack_layers = stacks_in_range p stacks h;
       components = components_sound p.structure.flip_last p.library p.placing.places s.placing.places;
       pins = pins_sound p stacks fixed free;

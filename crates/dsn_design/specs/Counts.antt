@@ -154,6 +154,7 @@ abbrev pub connected : Parts → Design → Design
 connected p d = record d {
   nets = counted_nets p d.padstacks;
   classes = map class_rules p.network.classes;
+  pairs = p.network.pairs;
   notes = notes_of p d.padstacks;
 }
 

@@ -15,13 +15,13 @@ ghost use Rattle.dsn_design.specs.Made.{structure_vias};
 
 use crate::edges::loops_of;
 use crate::items::{numbered, push_bans, push_edges, push_places};
-use crate::nets::{Lists, classes_of, copy_rules, nets_of, stack_numbers, via_notes};
+use crate::nets::{Lists, classes_of, nets_of, pairs_of, stack_numbers, via_notes};
 use crate::parts::{Parts, layer_count};
 use crate::pins::{Board, all_pins, components_of, first_pins};
 use crate::stacks::padstacks_of;
 use crate::wiring::{free_wiring, push_fixed};
 use dsn_network::Owners;
-use dsn_shapes::{Head, Layer, LayerShape, Structure};
+use dsn_shapes::{Head, Layer, LayerShape, Structure, copy_rules};
 use geo_kernel::{List, Name, Point};
 use pcb_model::{BoardLayer, Design, FreeWire, Item, Net, Padstack, Pin, RuleSet};
 use std::alloc::{AllocError, Global};
@@ -91,7 +91,7 @@ fn counted_nets(
     nets_of(alloc, &lists, parts.network.nets.as_slice())
 }
 
-// The nets and classes of a design, and how many lists were passed over.
+// The nets, classes and class pairs of a design, and how many lists were passed over.
 fn connect(alloc: Global, parts: &Parts, design: &mut Design) -> Result<(), AllocError>
     ensures { OnOk result (design.new ≡ connected parts.now design.old) }
 {
@@ -103,6 +103,7 @@ fn connect(alloc: Global, parts: &Parts, design: &mut Design) -> Result<(), Allo
     design.notes = notes_of(parts, &design.padstacks, &vias);
     design.nets = counted_nets(alloc, parts, &design.padstacks, &vias)?;
     design.classes = classes_of(alloc, parts.network.classes.as_slice())?;
+    design.pairs = pairs_of(alloc, parts.network.pairs.as_slice())?;
     Ok(())
 }
 

@@ -8,9 +8,9 @@ ghost use Rattle.dsn_design.specs.Nets.{class_rules, class_vias, is_usable_at, n
 ghost use Rattle.dsn_design.specs.Nets.{unusable_in, unusable_of_class, usable_of, via_list, via_notes};
 ghost use Rattle.dsn_design.specs.Counts.{counted_number};
 
-use dsn_shapes::{PinRef, ReadClass, ReadNet, Stack, names_of, place_index};
+use dsn_shapes::{PinRef, ReadClass, ReadNet, Stack, copy_rules, names_of, place_index};
 use geo_kernel::{List, Name};
-use pcb_model::{Net, Padstack, RuleSet};
+use pcb_model::{ClassPair, Net, Padstack, RuleSet};
 use std::alloc::{AllocError, Global};
 
 /// The indices of the padstacks of these names.
@@ -82,17 +82,6 @@ fn via_list<'a>(structure_vias: &'a [u32], classes: &'a [ReadClass], net: &ReadN
     }
 }
 
-/// An equal rule set.
-pub(crate) fn copy_rules(alloc: Global, rules: &RuleSet) -> Result<RuleSet, AllocError>
-    ensures { IfOk result (λ r. r ≡ rules.now) }
-{
-    Ok(RuleSet {
-        width: rules.width,
-        plain: rules.plain,
-        typed: List::from_slice(alloc, rules.typed.as_slice())?,
-    })
-}
-
 #[tactic(auto, unfolding(crate::specs::Counts::counted_number))]
 fn pin_numbers(alloc: Global, firsts: &List<u32>, pins: &[PinRef]) -> Result<List<u32>, AllocError>
     ensures { IfOk result (λ ns. ns ≡ map (counted_number firsts.now) pins.now) }
@@ -161,6 +150,22 @@ pub(crate) fn classes_of(alloc: Global, classes: &[ReadClass]) -> Result<List<Ru
         rules.push(copy_rules(alloc, &class.rules)?)?;
     }
     Ok(rules)
+}
+
+/// The class pairs, in the order of the network.
+pub(crate) fn pairs_of(alloc: Global, pairs: &[ClassPair]) -> Result<List<ClassPair>, AllocError>
+    ensures { IfOk result (λ ps. ps ≡ pairs.now) }
+{
+    let mut all = List::new(alloc);
+    for pair in pairs {
+        let rules = copy_rules(alloc, &pair.rules)?;
+        all.push(ClassPair {
+            a: pair.a,
+            b: pair.b,
+            rules,
+        })?;
+    }
+    Ok(all)
 }
 
 fn unusable_of_class(stacks: &List<Padstack>, class: &ReadClass) -> u64

@@ -25,7 +25,7 @@ use Rattle.dsn_route.specs.Lines.{max_bytes, number_of, usage_line, refused_line
 use Rattle.dsn_route.specs.Lines.{over_line, nodes_line}
 use Rattle.dsn_route.specs.Texts.{IsRefused, IsOverLimit}
 use Rattle.dsn_route.specs.Commands.{mesh_of, run_of, IsText, is_short}
-use Rattle.dsn_shapes.specs.declared.table.TheConstants.{NO_BOUNDARY}
+use Rattle.dsn_shapes.specs.declared.table.TheConstants.{BAD_PAIR}
 use Rattle.route_lattice.specs.declared.limits.TheConstants.{MOST_NODES}
 
 -- ---- calls that stop before they route
@@ -35,7 +35,7 @@ pub record IsMisworded (fault : WordFault) (line : List ℕ) : Type 0 where
   pub number_is : number_of fault ≡ Some number
   pub line_is : line ≡ usage_line number
 
--- a text that is refused, with a number from 1 to 24, and the line that says so
+-- a text that is refused, with a number from 1 to 26, and the line that says so
 pub record IsRefusal (command : Command) (desk : DeskState) (line : List ℕ) : Type 0 where
   pub text : List ℕ
   pub number : ℕ
@@ -43,7 +43,7 @@ pub record IsRefusal (command : Command) (desk : DeskState) (line : List ℕ) : 
   pub is_text : IsText command desk text
   pub refused : IsRefused text number place
   pub from : 1 ≤ number
-  pub to : number ≤ NO_BOUNDARY
+  pub to : number ≤ BAD_PAIR
   pub line_is : line ≡ refused_line number place
 
 -- a text that passes the limit on what it counts, which is something, and the line that says so

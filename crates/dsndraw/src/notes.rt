@@ -17,8 +17,9 @@ dsndraw: two or three names are wanted
 dsndraw DESIGN [SESSION] OUT
 ";
 
-/// What is said where memory was wanting.
-pub(crate) const WANTING_NOTE: &str = "dsndraw: memory was wanting\n";
+/// What is said where memory was wanting; that is the answer, too, to a design with too many class pairs.
+pub(crate) const WANTING_NOTE: &str =
+    "dsndraw: memory was wanting, or the design has more than 16777216 class pairs\n";
 
 // What is wrong with a session, by the numbers of its refusals.
 fn session_words(number: u8) -> &'static str {

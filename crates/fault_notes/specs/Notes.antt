@@ -47,4 +47,5 @@ IsNote usage (Told (Limit counted number)) input output text note =
 IsNote usage (Told Other) input output text note = note ≡ []
 IsNote usage Session input output text note = note ≡ output ++ codes ": the file can't be written\n"
 IsNote usage Report input output text note = note ≡ codes "dsnroute: standard output can't be written\n"
-IsNote usage Memory input output text note = note ≡ codes "dsnroute: memory was wanting\n"
+IsNote usage Memory input output text note =
+    note ≡ codes "dsnroute: memory was wanting, or the design has more than 16777216 class pairs\n"

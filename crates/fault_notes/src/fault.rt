@@ -11,6 +11,6 @@ pub enum Fault {
     Session,
     /// Standard output can't be written.
     Report,
-    /// Memory was wanting.
+    /// Memory was wanting; that is the answer, too, to a design with too many class pairs.
     Memory,
 }

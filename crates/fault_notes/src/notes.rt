@@ -176,6 +176,9 @@ pub fn note_text(
             ],
         ),
         Fault::Report => String::from_str(alloc, "dsnroute: standard output can't be written\n"),
-        Fault::Memory => String::from_str(alloc, "dsnroute: memory was wanting\n"),
+        Fault::Memory => String::from_str(
+            alloc,
+            "dsnroute: memory was wanting, or the design has more than 16777216 class pairs\n",
+        ),
     }
 }

@@ -5,9 +5,10 @@ ghost use Rattle.fault_notes.specs.Notes.{IsPlain};
 
 use crate::Counted;
 use dsn_shapes::table::{
-    BAD_FORM, BAD_QUOTE_BYTE, LEFT_OUT, NAMED_TWICE, NO_BOARD, NO_BOUNDARY, NO_IMAGE, NO_LAYER,
-    NO_LIST, NO_NET, NO_NUMBER, NO_PADSTACK, NO_PIN, NO_SECTION, NO_UNIT, OUT_OF_RANGE, PAST_LIMIT,
-    QUOTE_OPEN, SURPLUS, TAKEN_PIN, TOO_DEEP, TWO_PINS, UNCLOSED, UNPLACED_PIN,
+    BAD_FORM, BAD_PAIR, BAD_QUOTE_BYTE, LEFT_OUT, NAMED_TWICE, NO_BOARD, NO_BOUNDARY, NO_CLASS,
+    NO_IMAGE, NO_LAYER, NO_LIST, NO_NET, NO_NUMBER, NO_PADSTACK, NO_PIN, NO_SECTION, NO_UNIT,
+    OUT_OF_RANGE, PAST_LIMIT, QUOTE_OPEN, SURPLUS, TAKEN_PIN, TOO_DEEP, TWO_PINS, UNCLOSED,
+    UNPLACED_PIN,
 };
 
 /// What is wrong with refused words.
@@ -21,7 +22,7 @@ pub(crate) fn usage_words(number: u64) -> &'static str
     }
 }
 
-/// What a refusal of a design means, by the numbers from 1 to 24 of the table of refusals.
+/// What a refusal of a design means, by the numbers from 1 to 26 of the table of refusals.
 pub fn refusal_words(number: u8) -> &'static str
     ensures { IsPlain result.now }
 {
@@ -50,6 +51,8 @@ pub fn refusal_words(number: u8) -> &'static str
         TAKEN_PIN => "a second net names this pin",
         UNPLACED_PIN => "this reference names a component without coordinates",
         NO_NET => "no net has this name",
+        NO_CLASS => "no class has this name",
+        BAD_PAIR => "the list hasn't just one `classes` list with two names",
         _ => "the design isn't as it should be",
     }
 }

@@ -5,7 +5,8 @@ use Rattle.std.specs.Prelude.{Err, IfOk, Ok, Result, filter, sum_by}
 use Rattle.std.specs.Borrow.{Bor}
 use Rattle.std.specs.List.{flat_map}
 use Rattle.std.specs.Str.{bytes_eq}
-use Rattle.std.proofs.lemmas.List.{append-nil, flat_map_more, length-append, length-map, map-append, map_more, take_more}
+use Rattle.std.proofs.lemmas.List.{append-nil, flat_map_more, length-append, length-map, map-append, map_more}
+use Rattle.std.proofs.lemmas.List.{take_more}
 use Rattle.std.proofs.lemmas.List.Elements.{filter-append}
 use Rattle.std.proofs.lemmas.List.Sums.{sum_by-cons, sum_by_push}
 use Rattle.dsn_tree.specs.declared.tree.Tree.{Tree}
@@ -37,7 +38,8 @@ found_more same a ys i y old now new h e t p q =
     let one : couples_with same (y ∷ []) a ≡ (a, y) ∷ [] =
     ap (λ b. map (λ b. (a, b)) (cond b (y ∷ []) [])) t in
     q ∙ ap (λ cs. cs ++ (a, y) ∷ []) p ∙ append_assoc old (couples_with same (take i ys) a) ((a, y) ∷ [])
-    ∙ ap (λ cs. old ++ cs) (ap (λ cs. couples_with same (take i ys) a ++ cs) (sym one) ∙ sym (with_more same a ys i y h e))
+    ∙ ap (λ cs. old ++ cs)
+    (ap (λ cs. couples_with same (take i ys) a ++ cs) (sym one) ∙ sym (with_more same a ys i y h e))
 
 pub passed_more : (same : Bool) (a : ℕ) (ys : List ℕ) (i y : ℕ) (old now : List (ℕ × ℕ)) → i < length ys
     → y ≡ get_or ys i y → counts_with same a y ≡ false → now ≡ old ++ couples_with same (take i ys) a

@@ -76,8 +76,8 @@ static OF_RULES: [Rule; 34] = [
     // counts, in whichever list of the two classes it stands, and in whichever order these are named.
     Rule::Clearance(Some(7), Kind::Wire, Some(8), Kind::Wire, 210_000),
     Rule::Clearance(Some(8), Kind::Wire, Some(7), Kind::Wire, 210_000),
-    // One for the very pair of kinds comes before one for any kind, and both before the plain one; of like ones the last
-    // counts.
+    // One for the very pair of kinds comes before one for any kind, and both before the plain one; of like ones the
+    // last counts.
     Rule::Clearance(Some(7), Kind::Smd, Some(8), Kind::Smd, 80_000),
     Rule::Clearance(Some(8), Kind::Pin, Some(7), Kind::Smd, 500_000),
     Rule::Clearance(Some(7), Kind::Wire, Some(8), Kind::Via, 70_000),

@@ -90,7 +90,7 @@ same_clearance d g net ka b kb h =
     ∙ (ap (λ x. first_present (max x (value_of d b ka kb)) (levels ka kb (pair_rules d (Some g) b)))
     (same_value d g net ka kb h)
     ∙ (ap (λ c. first_present (max (value_of d (Some net) ka kb) (value_of d b ka kb))
-        (levels ka kb (joint_rules (pairs_of d c (class_of d b))))) (same_class d g net h)
+    (levels ka kb (joint_rules (pairs_of d c (class_of d b))))) (same_class d g net h)
     ∙ clearance_is d (Some net) ka b kb))
 
 -- ---- moves

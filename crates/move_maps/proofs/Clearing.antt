@@ -15,7 +15,7 @@ use Rattle.pcb_model.specs.declared.item.Metal.TheVariants.{Wire, Via, Pad, Ban}
 use Rattle.pcb_model.specs.declared.item.Piece.{Piece}
 use Rattle.pcb_model.specs.declared.item.Probe.TheVariants as probe
 use Rattle.pcb_model.specs.declared.design.Design.{Design}
-use Rattle.pcb_model.specs.Inner.{meets_wires}
+use Rattle.pcb_model.specs.Pairs.{meets_wires}
 use Rattle.pcb_model.specs.Pairs.{PieceKeeps, KeepsFrom, PiecesKeep, is_compared}
 use Rattle.pcb_model.specs.Pieces.{wire_piece, moved_piece, padstack_pieces}
 use Rattle.pcb_model.specs.Rules.{clearance_of}

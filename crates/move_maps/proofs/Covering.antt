@@ -264,13 +264,10 @@ vias_at (x ∷ nets) zero n h = refl
 vias_at (x ∷ nets) (suc g) n h = vias_at nets g n (omega (arith, h))
 
 -- at last all padstacks are
-pub so_far_all : (d : Design) (m : Mesh) (g : ℕ) (f : Extent) (nets : List Net) (n : Net) (vias : List ℕ) (k : ℕ)
-    (w u : Window) → nets ≡ d.nets → g < length d.nets → vias ≡ (slice_index_or nets g n).vias
-    → length vias ≤ k → IsSoFar d m g f (take k vias) w → IsHeld w u
+pub so_far_all : (d : Design) (m : Mesh) (g : ℕ) (f : Extent) (vias : List ℕ) (k : ℕ) (w u : Window)
+    → vias ≡ vias_of d g → length vias ≤ k → IsSoFar d m g f (take k vias) w → IsHeld w u
     → (b : Item) → IsExtentOf b.pieces f → Covers d m g b u
-so_far_all d m g f nets n vias k w u e h v last s hw b of_b =
-    let is : vias ≡ vias_of d g = v
-    ∙ (ap (λ (ns : List Net). (slice_index_or ns g n).vias) e ∙ sym (vias_at d.nets g n h)) in
+so_far_all d m g f vias k w u is last s hw b of_b =
     let c = s.covered b of_b in
     let all = subst (All (λ p. CoversVia d m g b p w)) (take_all k vias last ∙ is) c.vias in
     all_covered d m g b u (steps_wider d m g b w u hw c.steps) (vias_wider d m g b w u (vias_of d g) hw all)

@@ -20,7 +20,7 @@ use Rattle.pcb_model.specs.declared.item.Item.{Item}
 use Rattle.pcb_model.specs.declared.item.Probe.{Probe}
 use Rattle.pcb_model.specs.declared.item.Probe.TheVariants as probe
 use Rattle.pcb_model.specs.declared.design.Design.{Design}
-use Rattle.pcb_model.specs.Inner.{meets_vias}
+use Rattle.pcb_model.specs.Pairs.{meets_vias}
 use Rattle.pcb_model.specs.Rules.{clearance_of}
 use Rattle.pcb_model.specs.Pieces.{pieces_of, metal_of, kind_of, padstack_pieces}
 use Rattle.pcb_model.specs.Pairs.{PieceKeeps, KeepsFrom, PiecesKeep, PieceTouches, TouchesSome, PiecesTouch}

@@ -17,7 +17,6 @@ pub mod Centring
 pub mod Plains
 pub mod Stringing
 pub mod Shutting
-pub mod Listing
 pub mod Grouping
 pub mod Mapped
 pub mod Following

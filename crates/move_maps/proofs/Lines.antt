@@ -10,7 +10,7 @@ use Rattle.route_lattice.specs.Ways.{way_count}
 use Rattle.route_lattice.specs.Legal.{probe_at}
 use Rattle.route_lattice.proofs.Places.{width_positive}
 use Rattle.move_maps.specs.declared.window.Window.{Window}
-use Rattle.move_maps.specs.declared.paint.Stroke.{Stroke}
+use Rattle.move_maps.specs.declared.brush.Stroke.{Stroke}
 use Rattle.move_maps.specs.Paint.{IsClearAt, Covers, IsWindowIn, Paints}
 use Rattle.move_maps.proofs.Painting.{from_node, to_node, off, goes_on}
 

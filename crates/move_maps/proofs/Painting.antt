@@ -13,7 +13,7 @@ use Rattle.route_lattice.specs.Mesh.{Mesh}
 use Rattle.route_lattice.specs.Ways.{vias_of, way_count}
 use Rattle.route_lattice.specs.Legal.{probe_at}
 use Rattle.move_maps.specs.Maps.{place_at}
-use Rattle.move_maps.specs.declared.paint.Stroke.{Stroke}
+use Rattle.move_maps.specs.declared.brush.Stroke.{Stroke}
 use Rattle.move_maps.specs.Paint.{IsClearAt, turned, IsRepainted, Paints}
 
 -- ---- places and nodes

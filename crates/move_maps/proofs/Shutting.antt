@@ -11,7 +11,7 @@ use Rattle.pcb_model.specs.declared.design.Design.{Design}
 use Rattle.route_lattice.specs.Mesh.{Mesh, node_count}
 use Rattle.route_lattice.specs.Ways.{way_count}
 use Rattle.route_lattice.specs.Legal.{probe_at}
-use Rattle.move_maps.specs.declared.paint.Stroke.TheVariants.{Stays}
+use Rattle.move_maps.specs.declared.brush.Stroke.TheVariants.{Stays}
 use Rattle.move_maps.specs.Maps.{IsTally, place_at}
 use Rattle.move_maps.specs.Paint.{IsClearAt, IsRepainted, Paints, Shuts, AreTallied}
 use Rattle.move_maps.specs.Parts.{IsStrung, parts}

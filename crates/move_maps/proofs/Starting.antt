@@ -13,7 +13,7 @@ use Rattle.move_maps.specs.Maps.{place_at}
 use Rattle.move_maps.specs.Paint.{AreTallied, IsFilled}
 use Rattle.move_maps.proofs.Merging.{moved_in}
 use Rattle.move_maps.proofs.Tallied.{weaker}
-use Rattle.move_maps.proofs.Listing.{AreBelow, none_below, one_below, all_below, all_by}
+use Rattle.copper_change.proofs.Listing.{AreBelow, none_below, one_below, all_below, all_by}
 
 -- ---- place by place
 -- no place is filled at first

@@ -1,6 +1,6 @@
 -- Where a step leads that is there, and the gap that it crosses.
 use Rattle.std.proofs.Common.{◌≡◌, ℕ, ℤ, pos, ◌+◌, ◌-◌, ◌*◌, ◌/◌, ◌%◌, ◌<◌, ◌≤◌, ◌^◌, ◌-ℤ◌, Bool, true, false, cond}
-use Rattle.std.proofs.Common.{zero, suc, ltb-true, List, length, Some, None, refl, sym, ap, ◌∙◌, subst, arith}
+use Rattle.std.proofs.Common.{ltb-true, List, length, Some, None, refl, sym, ap, ◌∙◌, subst, arith}
 use Rattle.std.proofs.Common.{slice_index_or}
 use Rattle.std.specs.Prelude.{nat_lt, unsigned_abs}
 use Rattle.std.proofs.lemmas.Int.{ints}
@@ -12,21 +12,6 @@ use Rattle.route_lattice.specs.Ways.{step_at}
 use Rattle.route_lattice.specs.Legal.{way_between, way_price}
 use Rattle.route_lattice.proofs.Places.{right, left, above, below, row_below}
 use Rattle.route_lattice.proofs.Windows.{column_below}
-
--- a lattice that has nodes has at most as many x lines
-pub few_columns : (m : Mesh) (v : ℕ) → v < node_count m → node_count m ≤ 2 ^ 24 → length m.xs < 2 ^ 32
-few_columns m v h few = at (length m.layers * length m.ys) (length m.xs) v (2 ^ 24) h few refl
-  where
-    times : (a w : ℕ) → 0 < a → w ≤ a * w
-    times zero w k = absurd (omega (arith, k))
-    times (suc a) w k = omega arith
-
-    some : (a w v : ℕ) → v < a * w → 0 < a
-    some zero w v k = absurd (omega (arith, k))
-    some (suc a) w v k = omega arith
-
-    at : (a w v n : ℕ) → v < a * w → a * w ≤ n → n ≡ 2 ^ 24 → w < 2 ^ 32
-    at a w v n k l e = let t = times a w (some a w v k) in omega (arith, t, l, e)
 
 -- a choice that gives something took its first branch
 taken : (b : Bool) (x w : Move × ℕ) → cond b (Some x) None ≡ Some w → (b ≡ true) × (x ≡ w)

@@ -1,7 +1,7 @@
 -- An item of chains and its parts: a move that is clear of each part is clear of the item.
 use Rattle.std.proofs.Common.{◌≡◌, ℕ, ◌+◌, ◌*◌, ◌<◌, ◌≤◌, ◌^◌, List, [], ◌∷◌, ◌++◌, map, flat_map, length}
 use Rattle.std.proofs.Common.{max, All, IfSome, Option, Some, None, refl, sym}
-use Rattle.std.proofs.Common.{ap, ◌∙◌, subst, arith, take, drop, get_or, append_assoc}
+use Rattle.std.proofs.Common.{ap, ◌∙◌, subst, arith, take, get_or}
 use Rattle.std.proofs.lemmas.List.{flat_map_more, take_more}
 use Rattle.std.proofs.lemmas.List.Elements.{All-nil, All-cons, All-head, All-tail, All-append, All-weaker}
 use Rattle.geo_kernel.specs.declared.point.Point.{Point}
@@ -19,7 +19,7 @@ use Rattle.pcb_model.specs.declared.item.Probe.{Probe}
 use Rattle.pcb_model.specs.declared.item.Probe.TheVariants as probe
 use Rattle.pcb_model.specs.declared.design.Design.{Design}
 use Rattle.pcb_model.specs.Bounds.{IsFit}
-use Rattle.pcb_model.specs.Inner.{meets_wires, meets_vias}
+use Rattle.pcb_model.specs.Pairs.{meets_wires, meets_vias}
 use Rattle.pcb_model.specs.Rules.{clearance_of}
 use Rattle.pcb_model.specs.Pieces.{metal_of, kind_of, wire_piece}
 use Rattle.pcb_model.specs.Pairs.{PieceKeeps, is_compared}
@@ -185,22 +185,6 @@ parts_fit d b s f = part_all (IsItemOf d) b b.pieces (λ j q hj.
         (chain_within k.first k.second k.rest (subst (IsSpineWithin (2 ^ 29)) k.is fit.within)))
 
 -- ---- link by link
--- the links of a chain lead from its first point through the others
-pub links_of : (points : List Point) (d : Point) → 2 ≤ length points
-    → links (get_or points 0 d) (drop 1 points) ≡ chain_segments points
-links_of [] d h = absurd (omega (arith, h))
-links_of (p ∷ []) d h = absurd (omega (arith, h))
-links_of (p ∷ q ∷ qs) d h = refl
-
--- one part more, and the links that are left
-pub link_next : (b : Item) (q : Piece) (from to : Point) (rest : List Point) (xs ys all : List Item) (a : Item)
-    → a ≡ part b q (record { from = from; to = to }) → ys ≡ xs ++ a ∷ []
-    → xs ++ map (part b q) (links from (to ∷ rest)) ≡ all → ys ++ map (part b q) (links to rest) ≡ all
-link_next b q from to rest xs ys all a e h k =
-    ap (λ (zs : List Item). zs ++ map (part b q) (links to rest)) h
-    ∙ (append_assoc xs (a ∷ []) (map (part b q) (links to rest))
-    ∙ (ap (λ (x : Item). xs ++ x ∷ map (part b q) (links to rest)) e ∙ k))
-
 -- the parts of the pieces so far, and of one more
 pub parts_next : (b : Item) (k : ℕ) (q : Piece) (xs ys : List Item) → k < length b.pieces
     → q ≡ get_or b.pieces k q → xs ≡ flat_map (parts_by b) (take k b.pieces) → ys ≡ xs ++ parts_by b q

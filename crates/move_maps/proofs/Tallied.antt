@@ -13,8 +13,7 @@ use Rattle.route_lattice.specs.Ways.{way_count}
 use Rattle.route_lattice.specs.Legal.{probe_at}
 use Rattle.copper_change.specs.Changes.{IsChange}
 use Rattle.move_maps.specs.Maps.{IsTally, place_at}
-use Rattle.move_maps.specs.declared.paint.Stroke.{Stroke}
-use Rattle.move_maps.specs.declared.paint.Stroke.TheVariants.{Comes, Goes}
+use Rattle.move_maps.specs.declared.brush.Stroke.TheVariants.{Comes, Goes}
 use Rattle.move_maps.specs.Paint.{IsRepainted, Paints, AreTallied}
 use Rattle.move_maps.proofs.Changing.{changes}
 use Rattle.move_maps.proofs.Merging.{merges, moved_in}
@@ -130,24 +129,3 @@ module _ (d : Design) (m : Mesh) (g : ℕ) where
       let a = weaker old (gone ++ h.kept) xs (λ o n s. merges.apart d g gone h.kept old o n h.before s) t in
       weaker (come ++ h.kept) new zs (λ o n s. merges.together d g come h.kept new o n h.after s)
       (in_ h.kept (out h.kept a))
-
--- painting for equal parts
-pub as_given : (stroke k : Stroke) (d e : Design) (m n : Mesh) (g h : ℕ) (b a : Item) (xs ys : List ℕ) → k ≡ stroke
-    → e ≡ d
-    → n ≡ m → h ≡ g → a ≡ b
-    → Paints k e n h a 0 (node_count n * way_count e n h) xs ys
-    → Paints stroke d m g b 0 (node_count m * way_count d m g) xs ys
-as_given stroke k d e m n g h b a xs ys p q r s t z =
-    subst (λ (x : Stroke). Paints x d m g b 0 (node_count m * way_count d m g) xs ys) p
-    (subst (λ (x : Design). Paints k x m g b 0 (node_count m * way_count x m g) xs ys) q
-    (subst (λ (x : Mesh). Paints k e x g b 0 (node_count x * way_count e x g) xs ys) r
-    (subst (λ x. Paints k e n x b 0 (node_count n * way_count e n x) xs ys) s
-    (subst (λ (x : Item). Paints k e n h x 0 (node_count n * way_count e n h) xs ys) t z))))
-
--- the number of places for equal parts
-pub size_given : (d e : Design) (m n : Mesh) (g h k : ℕ) → e ≡ d → n ≡ m → h ≡ g → k ≡ node_count m * way_count d m g
-    → k ≡ node_count n * way_count e n h
-size_given d e m n g h k q r s z =
-    subst (λ (x : Design). k ≡ node_count n * way_count x n h) (sym q)
-    (subst (λ (x : Mesh). k ≡ node_count x * way_count d x h) (sym r)
-    (subst (λ x. k ≡ node_count m * way_count d m x) (sym s) z))

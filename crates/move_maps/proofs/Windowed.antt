@@ -79,13 +79,6 @@ module _ (d : Design) (m : Mesh) (g net : ℕ) where
     taken = inl (record { each = λ v i hv hi out. h.each v i hv hi (wide.each m v out).1 });
   }
 
-  -- a foreign item needs no window
-  pub passed_by : (b : Item) (old new : List Window) → new ≡ old → IsForeign d g net b → TakesOwn d m g net b old new
-  passed_by b old new e foreign = record {
-    kept = λ a k. subst (λ (us : List Window). CoverTogether d m g a us) (sym e) k;
-    taken = inr foreign;
-  }
-
   -- at first no item has to be covered
   pub own_first : (items : List Item) (ws : List Window) → IsOwnBelow d m items g net 0 ws
   own_first items ws = record { each = λ b there low. absurd (omega (arith, low)) }

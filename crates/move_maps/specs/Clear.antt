@@ -7,7 +7,7 @@ use Rattle.pcb_model.specs.declared.item.Metal.{Metal}
 use Rattle.pcb_model.specs.declared.item.Probe.{Probe}
 use Rattle.pcb_model.specs.declared.design.Design.{Design}
 use Rattle.pcb_model.specs.Rules.{clearance_of}
-use Rattle.pcb_model.specs.Inner.{meets_wires, meets_vias}
+use Rattle.pcb_model.specs.Pairs.{meets_wires, meets_vias}
 use Rattle.pcb_model.specs.Pieces.{pieces_of, metal_of, kind_of, moved_piece, padstack_pieces, wire_piece}
 use Rattle.pcb_model.specs.Pairs.{KeepsFrom, PiecesKeep, PiecesTouch, is_compared}
 use Rattle.move_maps.specs.Groups.{AreAlike}

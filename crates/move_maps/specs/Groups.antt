@@ -1,5 +1,5 @@
 -- Nets whose copper obeys the same rules, and the groups of them that have maps.
-use Rattle.std.specs.Prelude.{◌≡◌, ℕ, ◌+◌, ◌*◌, ◌<◌, ◌≤◌, ◌⊎◌, List, [], ◌∷◌, length, Some, None, Any}
+use Rattle.std.specs.Prelude.{◌≡◌, ℕ, ◌+◌, ◌*◌, ◌^◌, ◌<◌, ◌≤◌, ◌⊎◌, List, [], ◌∷◌, length, Some, None, Any}
 use Rattle.std.specs.Prelude.{Contains, slice_get}
 use Rattle.std.specs.Option.{IsSomeAnd}
 use Rattle.std.specs.List.Sorted.{IsStrictlyIncreasing}
@@ -9,7 +9,6 @@ use Rattle.pcb_model.specs.declared.design.Design.{Design}
 use Rattle.pcb_model.specs.Rules.{width_for}
 use Rattle.route_lattice.specs.Mesh.{Mesh, node_count}
 use Rattle.route_lattice.specs.Ways.{way_count}
-use Rattle.move_maps.specs.declared.firsts.TheConstants.{MOST_GROUPS, MOST_MOVES}
 
 -- no width and no clearance
 pub record IsEmptyRules (rs : RuleSet) : Type 0 where
@@ -26,7 +25,8 @@ pub record AreNetsAlike (a b : Net) : Type 0 where
   pub class_is : a.class ≡ b.class
   pub vias_are : a.vias ≡ b.vias
 
--- two nets without a rule of their own, of equal width, class and vias
+-- two nets without a rule of their own, of equal width, class and vias. So a group is never split by a rule between two
+-- classes: its nets are of one class, or all of none, and such a rule says the same of each of them
 pub record AreAlike (d : Design) (g net : ℕ) : Type 0 where
   pub g_unruled : IsUnruled d g
   pub net_unruled : IsUnruled d net
@@ -43,16 +43,16 @@ abbrev pub move_total : Design → Mesh → List ℕ → ℕ
 move_total d m [] = 0
 move_total d m (g ∷ gs) = node_count m * way_count d m g + move_total d m gs
 
--- gs are the first groups, in order; they are few, their maps have few moves together, and one more would be too many
--- or too large
+-- gs are the first groups, in order; they are at most 16, their maps have at most 2^28 moves together, and one more would
+-- be too many or too large
 pub record AreMapped (d : Design) (m : Mesh) (gs : List ℕ) : Type 0 where
   pub ascend : IsStrictlyIncreasing gs
   pub each_first : (g : ℕ) → Contains gs g → IsFirst d g
   pub none_left_out : (g h : ℕ) → Contains gs g → h < g → IsFirst d h → Contains gs h
-  pub few : length gs ≤ MOST_GROUPS
-  pub small : move_total d m gs ≤ MOST_MOVES
+  pub few : length gs ≤ 16
+  pub small : move_total d m gs ≤ 2 ^ 28
   pub no_more : (h : ℕ) → IsFirst d h → (Contains gs h → ⊥) → ((k : ℕ) → k < h → IsFirst d k → Contains gs k)
-      → (length gs ≡ MOST_GROUPS) ⊎ (MOST_MOVES < move_total d m gs + node_count m * way_count d m h)
+      → (length gs ≡ 16) ⊎ (2 ^ 28 < move_total d m gs + node_count m * way_count d m h)
 
 -- the net has a map: it is like the first net of one of these groups
 abbrev pub HasMap : Design → Mesh → ℕ → Type 0

@@ -1,4 +1,5 @@
 pub mod Groups
+pub mod Settings
 pub mod Clear
 pub mod Maps
 pub mod Windows

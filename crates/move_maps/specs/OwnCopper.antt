@@ -3,13 +3,17 @@ use Rattle.std.specs.Prelude.{◌≡◌, ℕ, ◌<◌, ◌≤◌, ◌⊎◌, Lis
 use Rattle.pcb_model.specs.declared.item.Kind.TheVariants as kind
 use Rattle.pcb_model.specs.declared.item.Item.{Item}
 use Rattle.pcb_model.specs.declared.design.Design.{Design}
-use Rattle.pcb_model.specs.Inner.{meets_vias}
+use Rattle.pcb_model.specs.Pairs.{meets_vias}
 use Rattle.pcb_model.specs.Rules.{clearance_of}
 use Rattle.route_lattice.specs.Mesh.{Mesh}
 use Rattle.route_lattice.specs.Ways.{step_at, way}
 use Rattle.route_lattice.specs.declared.moves.Move.{Move}
 use Rattle.route_lattice.specs.declared.moves.Move.TheVariants.{Via}
 use Rattle.move_maps.specs.declared.window.Window.{Window}
+use Rattle.route_lattice.specs.Legal.{CanMove}
+use Rattle.move_maps.specs.declared.map.GroupMap.{GroupMap}
+use Rattle.move_maps.specs.Groups.{AreAlike}
+use Rattle.move_maps.specs.Maps.{IsMapOf}
 use Rattle.move_maps.specs.Paint.{CoverTogether}
 
 -- an item of another net; if it is an smd pad, vias keep a clearance from it, so that none of them touches it
@@ -30,6 +34,12 @@ pub record IsOwnBelow (d : Design) (m : Mesh) (items : List Item) (g net from : 
 pub record TakesOwn (d : Design) (m : Mesh) (g net : ℕ) (b : Item) (old new : List Window) : Type 0 where
   pub kept : (a : Item) → CoverTogether d m g a old → CoverTogether d m g a new
   pub taken : CoverTogether d m g b new ⊎ IsForeign d g net b
+
+-- what the moves of a net by a map rest on: they can be made, and the map is that of the net's group, for the copper
+pub record IsReadyMap (d : Design) (m : Mesh) (items : List Item) (net via_cost : ℕ) (g : GroupMap) : Type 0 where
+  pub can_move : CanMove d m net via_cost
+  pub map : IsMapOf d m items g
+  pub alike : AreAlike d g.first net
 
 -- move i of a node is a step, and it is there
 pub record IsStepThere (d : Design) (m : Mesh) (net v i : ℕ) : Type 0 where

@@ -1,19 +1,23 @@
 -- What an item that comes or goes does to the tallies of a group.
-use Rattle.std.specs.Prelude.{◌≡◌, ℕ, ◌*◌, ◌<◌, ◌≤◌, ◌⊎◌, List, [], Option, Some, None, All}
+use Rattle.std.specs.Prelude.{◌≡◌, ℕ, ◌*◌, ◌<◌, ◌≤◌, ◌⊎◌, List, [], Option, Some, None, All, true}
 use Rattle.std.specs.Prelude.{length, slice_index}
 use Rattle.pcb_model.specs.declared.item.Item.{Item}
 use Rattle.pcb_model.specs.declared.item.Probe.{Probe}
 use Rattle.pcb_model.specs.declared.item.Probe.TheVariants as probe
 use Rattle.pcb_model.specs.declared.design.Design.{Design}
 use Rattle.route_lattice.specs.Mesh.{Mesh, node_count, level, point_of}
+use Rattle.pcb_model.specs.Pieces.{padstack_pieces}
 use Rattle.pcb_model.specs.Sound.{IsItemOf}
+use Rattle.route_lattice.specs.Near.{are_near_at}
+use Rattle.geo_kernel.specs.declared.point.Point.{Point}
 use Rattle.route_lattice.specs.Ways.{way_count}
 use Rattle.route_lattice.specs.Legal.{probe_at, CanMove}
 use Rattle.move_maps.specs.declared.margins.Margins.{Margins}
 use Rattle.move_maps.specs.declared.window.Window.{Window}
-use Rattle.move_maps.specs.declared.paint.Stroke.{Stroke}
-use Rattle.move_maps.specs.declared.paint.Stroke.TheVariants.{Comes, Goes, Stays}
+use Rattle.move_maps.specs.declared.brush.Stroke.{Stroke}
+use Rattle.move_maps.specs.declared.brush.Stroke.TheVariants.{Comes, Goes, Stays}
 use Rattle.move_maps.specs.Clear.{IsClearOf}
+use Rattle.move_maps.specs.Settings.{GroupOf}
 use Rattle.move_maps.specs.Margins.{AreMargins}
 use Rattle.move_maps.specs.Maps.{more, fewer, place_at, IsTally}
 use Rattle.move_maps.specs.Windows.{IsOutOf, IsOutOfAll}
@@ -99,16 +103,51 @@ pub record AreFirstClear (d : Design) (m : Mesh) (g : ℕ) (b : Item) (l first :
   pub within : first ≤ way_count d m g
   pub each : (v i : ℕ) → v < node_count m → level m v ≡ l → i < first → IsClearAt d g b (probe_at d m g v i)
 
--- what is needed to paint an item into the counts of a group: the moves of its first net, what was looked up once of
--- the group and the item, and the windows of the nodes whose moves it may shut: one of all, and those of its parts
-pub record IsBrush (d : Design) (m : Mesh) (g via_cost : ℕ) (b : Item) (s : Margins)
-    (w : Window) (ws : List Window) : Type 0 where
-  pub can_move : CanMove d m g via_cost
-  pub item : IsItemOf d b
-  pub margins : AreMargins d g b s
-  pub covers : Covers d m g b w
-  pub window : IsWindowIn m w
-  pub together : CoverTogether d m g b ws
+-- what a brush is to a caller: a group, an item and what it does, what was looked up once of both, and the windows of
+-- the nodes whose moves the item may shut: one of all, and those of its parts
+pub record BrushOf : Type 0 where
+  pub group : GroupOf
+  pub item : Item
+  pub stroke : Stroke
+  pub margins : Margins
+  pub window : Window
+  pub windows : List Window
+
+abbrev pub brush_of : GroupOf → Item → Stroke → Margins → Window → List Window → BrushOf
+brush_of group item stroke margins window windows = record {
+  group = group;
+  item = item;
+  stroke = stroke;
+  margins = margins;
+  window = window;
+  windows = windows;
+}
+
+-- the item is one of the design, and all of this is of the group and the item
+pub record IsBrush (s : BrushOf) : Type 0 where
+  pub can_move : CanMove s.group.d s.group.lat s.group.first 0
+  pub item : IsItemOf s.group.d s.item
+  pub margins : AreMargins s.group.d s.group.first s.item s.margins
+  pub covers : Covers s.group.d s.group.lat s.group.first s.item s.window
+  pub window : IsWindowIn s.group.lat s.window
+  pub together : CoverTogether s.group.d s.group.lat s.group.first s.item s.windows
+
+-- new is old with the brush's item painted at the places from one to below another
+abbrev pub IsPainted : BrushOf → ℕ → ℕ → List ℕ → List ℕ → Type 0
+IsPainted s from to old new = Paints s.stroke s.group.d s.group.lat s.group.first s.item from to old new
+
+-- the move of the brush's group is clear of its item
+abbrev pub IsClearAtMove : BrushOf → ℕ → ℕ → Type 0
+IsClearAtMove s node i = IsClearAt s.group.d s.group.first s.item (probe_at s.group.d s.group.lat s.group.first node i)
+
+-- the via of the padstack, where it fits at the point, is clear of the item
+abbrev pub IsStackClear : BrushOf → ℕ → Point → Type 0
+IsStackClear s padstack at = are_near_at at (padstack_pieces s.group.d padstack) ≡ true
+    → IsClearOf s.group.d s.group.first (probe.Via padstack at) s.item
+
+-- how many moves a node has for the brush's group
+abbrev pub arity_of : BrushOf → ℕ
+arity_of s = way_count s.group.d s.group.lat s.group.first
 
 -- the counts of the first places of the table, where there is no item
 pub record IsFilled (d : Design) (m : Mesh) (g to : ℕ) (counts : List ℕ) : Type 0 where

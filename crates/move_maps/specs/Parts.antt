@@ -7,7 +7,7 @@ use Rattle.pcb_model.specs.declared.item.Item.{Item}
 use Rattle.pcb_model.specs.declared.item.Kind.TheVariants as kind
 use Rattle.pcb_model.specs.declared.item.Metal.TheVariants.{Ban}
 use Rattle.pcb_model.specs.declared.item.Piece.{Piece}
-use Rattle.pcb_model.specs.Inner.{meets_wires, meets_vias}
+use Rattle.pcb_model.specs.Pairs.{meets_wires, meets_vias}
 use Rattle.pcb_model.specs.Pieces.{wire_piece}
 
 -- a chain of two points or more

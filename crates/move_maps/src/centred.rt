@@ -8,10 +8,10 @@ ghost use Rattle.pcb_model.specs.Sound.{IsSound, origin};
 ghost use Rattle.route_lattice.specs.Fits.{FitsDesign};
 ghost use Rattle.move_maps.specs.Starts.{IsCentred, StaysNear};
 
-use crate::clear::padstack_pieces;
 use crate::cover::padstack_extent;
 use geo_kernel::limits::FURTHEST;
 use geo_kernel::{Point, first_point};
+use pcb_model::pieces::padstack_pieces;
 use pcb_model::{Design, Piece};
 use route_lattice::Lattice;
 

@@ -2,17 +2,15 @@
 
 ghost use Rattle.std.specs.Prelude.{◌≡◌, ℕ, ◌+◌, ◌-◌, ◌*◌, ◌≤◌, ◌<◌, ◌^◌, ◌-ℤ◌, min, max, length};
 ghost use Rattle.pcb_model.specs.declared.item.Item.{Item as OneItem};
-ghost use Rattle.pcb_model.specs.Bounds.{HasRulesWithin};
 ghost use Rattle.pcb_model.specs.Near.{IsBoxWithin, IsExtentOf};
 ghost use Rattle.pcb_model.specs.Pieces.{padstack_pieces};
 ghost use Rattle.pcb_model.specs.Sound.{IsSound};
-ghost use Rattle.route_lattice.specs.Fits.{FitsDesign};
 ghost use Rattle.move_maps.specs.Paint.{Covers, CoversSteps, CoversVia, IsWindowIn, IsHeld};
 
+use crate::group::Group;
 use crate::window::{Window, window_for};
 use geo_kernel::{Point, Rect4};
 use pcb_model::{Design, Extent, Probe, width_of};
-use route_lattice::Lattice;
 
 /// How far a box has to be grown for copper of these widths beyond it to keep each clearance up to `reach`.
 pub(crate) fn grow_for(reach: u64, one: u64, other: u64) -> u64
@@ -26,19 +24,19 @@ pub(crate) fn grow_for(reach: u64, one: u64, other: u64) -> u64
 }
 
 // The window with the lines beside it.
-fn widened(w: Window, columns: usize, rows: usize) -> Window
-    requires right { w.right ≤ columns }
-    requires top { w.top ≤ rows }
-    ensures left { result.left ≡ w.left - 1 }
-    ensures right { result.right ≡ min columns (w.right + 1) }
-    ensures bottom { result.bottom ≡ w.bottom - 1 }
-    ensures top { result.top ≡ min rows (w.top + 1) }
+fn widened(window: Window, columns: usize, rows: usize) -> Window
+    requires right { window.right ≤ columns }
+    requires top { window.top ≤ rows }
+    ensures left { result.left ≡ window.left - 1 }
+    ensures right { result.right ≡ min columns (window.right + 1) }
+    ensures bottom { result.bottom ≡ window.bottom - 1 }
+    ensures top { result.top ≡ min rows (window.top + 1) }
 {
     Window {
-        left: w.left.saturating_sub(1),
-        right: columns.min(w.right.saturating_add(1)),
-        bottom: w.bottom.saturating_sub(1),
-        top: rows.min(w.top.saturating_add(1)),
+        left: window.left.saturating_sub(1),
+        right: columns.min(window.right.saturating_add(1)),
+        bottom: window.bottom.saturating_sub(1),
+        top: rows.min(window.top.saturating_add(1)),
     }
 }
 
@@ -60,38 +58,37 @@ pub(crate) fn joined(a: Window, b: Window) -> Window
 }
 
 /// The nodes out of the window have steps that are clear of each item of the extent.
-pub(crate) fn step_window(lat: &Lattice, d: &Design, g: u32, f: Extent, reach: u64) -> Window
-    requires sound { IsSound d.now }
-    requires fits { FitsDesign d.now lat.now }
-    requires bounds { IsBoxWithin (2 ^ 29) f.bounds }
-    requires width { f.width ≤ 2 ^ 28 }
-    requires rules { HasRulesWithin reach d.now }
-    requires reach { reach ≤ 2 ^ 28 }
-    ensures covers { (b : OneItem) → IsExtentOf b.pieces f → CoversSteps d.now lat.now g b result }
-    ensures left { result.left ≤ length lat.now.xs }
-    ensures right { result.right ≤ length lat.now.xs }
-    ensures bottom { result.bottom ≤ length lat.now.ys }
-    ensures top { result.top ≤ length lat.now.ys }
+pub(crate) fn step_window(group: &Group<'_>, extent: Extent) -> Window
+    requires bounds { IsBoxWithin (2 ^ 29) extent.bounds }
+    requires width { extent.width ≤ 2 ^ 28 }
+    ensures covers { let s = group.now in
+        (b : OneItem) → IsExtentOf b.pieces extent → CoversSteps s.d s.lat s.first b result }
+    ensures left { result.left ≤ length group.now.lat.xs }
+    ensures right { result.right ≤ length group.now.lat.xs }
+    ensures bottom { result.bottom ≤ length group.now.lat.ys }
+    ensures top { result.top ≤ length group.now.lat.ys }
 {
-    let w = window_for(lat, f.bounds, grow_for(reach, width_of(d, g), f.width));
-    widened(w, lat.xs().len(), lat.ys().len())
+    let lat = group.lat;
+    let grow = grow_for(group.reach, width_of(group.d, group.first), extent.width);
+    let window = window_for(group, extent.bounds, grow);
+    widened(window, lat.xs().len(), lat.ys().len())
 }
 
-// Where a point may be for copper in `e` about it to meet the box `r`.
-fn around(r: Rect4, e: Rect4) -> Rect4
-    requires r { IsBoxWithin (2 ^ 29) r }
-    requires e { IsBoxWithin (2 ^ 29) e }
-    ensures x0 { result.x0 ≡ r.x0 -ℤ e.x1 }
-    ensures y0 { result.y0 ≡ r.y0 -ℤ e.y1 }
-    ensures x1 { result.x1 ≡ r.x1 -ℤ e.x0 }
-    ensures y1 { result.y1 ≡ r.y1 -ℤ e.y0 }
+// Where a point may be for copper in the box of a padstack about it to meet an item's box.
+fn around(item: Rect4, stack: Rect4) -> Rect4
+    requires item { IsBoxWithin (2 ^ 29) item }
+    requires stack { IsBoxWithin (2 ^ 29) stack }
+    ensures x0 { result.x0 ≡ item.x0 -ℤ stack.x1 }
+    ensures y0 { result.y0 ≡ item.y0 -ℤ stack.y1 }
+    ensures x1 { result.x1 ≡ item.x1 -ℤ stack.x0 }
+    ensures y1 { result.y1 ≡ item.y1 -ℤ stack.y0 }
     ensures within { IsBoxWithin (2 ^ 30) result }
 {
     Rect4 {
-        x0: r.x0 - e.x1,
-        y0: r.y0 - e.y1,
-        x1: r.x1 - e.x0,
-        y1: r.y1 - e.y0,
+        x0: item.x0 - stack.x1,
+        y0: item.y0 - stack.y1,
+        x1: item.x1 - stack.x0,
+        y1: item.y1 - stack.y0,
     }
 }
 
@@ -111,56 +108,49 @@ pub(crate) fn padstack_extent(d: &Design, padstack: u32) -> Extent
     )
 }
 
-// The vias of the padstack at the nodes out of the window are clear of each item of the extent, for each group.
-fn via_window(lat: &Lattice, d: &Design, padstack: u32, f: Extent, reach: u64) -> Window
-    requires sound { IsSound d.now }
-    requires fits { FitsDesign d.now lat.now }
-    requires bounds { IsBoxWithin (2 ^ 29) f.bounds }
-    requires width { f.width ≤ 2 ^ 28 }
-    requires rules { HasRulesWithin reach d.now }
-    requires reach { reach ≤ 2 ^ 28 }
-    ensures covers { (g : ℕ) (b : OneItem) → IsExtentOf b.pieces f → CoversVia d.now lat.now g b padstack result }
-    ensures left { result.left ≤ length lat.now.xs }
-    ensures right { result.right ≤ length lat.now.xs }
-    ensures bottom { result.bottom ≤ length lat.now.ys }
-    ensures top { result.top ≤ length lat.now.ys }
+// The vias of the padstack at the nodes out of the window are clear of each item of the extent.
+fn via_window(group: &Group<'_>, padstack: u32, extent: Extent) -> Window
+    requires bounds { IsBoxWithin (2 ^ 29) extent.bounds }
+    requires width { extent.width ≤ 2 ^ 28 }
+    ensures covers { let s = group.now in
+        (b : OneItem) → IsExtentOf b.pieces extent → CoversVia s.d s.lat s.first b padstack result }
+    ensures left { result.left ≤ length group.now.lat.xs }
+    ensures right { result.right ≤ length group.now.lat.xs }
+    ensures bottom { result.bottom ≤ length group.now.lat.ys }
+    ensures top { result.top ≤ length group.now.lat.ys }
 {
-    let e = padstack_extent(d, padstack);
-    let grow = grow_for(reach, e.width, f.width);
-    window_for(lat, around(f.bounds, e.bounds), grow)
+    let stack = padstack_extent(group.d, padstack);
+    let grow = grow_for(group.reach, stack.width, extent.width);
+    window_for(group, around(extent.bounds, stack.bounds), grow)
 }
 
 // The window whose right isn't before its left, nor its top below its bottom.
-fn ordered(w: Window) -> Window
-    ensures held { IsHeld w result }
-    ensures left { result.left ≡ w.left }
-    ensures right { result.right ≡ max w.left w.right }
-    ensures bottom { result.bottom ≡ w.bottom }
-    ensures top { result.top ≡ max w.bottom w.top }
+fn ordered(window: Window) -> Window
+    ensures held { IsHeld window result }
+    ensures left { result.left ≡ window.left }
+    ensures right { result.right ≡ max window.left window.right }
+    ensures bottom { result.bottom ≡ window.bottom }
+    ensures top { result.top ≡ max window.bottom window.top }
 {
     Window {
-        left: w.left,
-        right: w.left.max(w.right),
-        bottom: w.bottom,
-        top: w.bottom.max(w.top),
+        left: window.left,
+        right: window.left.max(window.right),
+        bottom: window.bottom,
+        top: window.bottom.max(window.top),
     }
 }
 
-/// The window of the nodes whose moves for the group of net `g` an item of the extent may shut.
-pub(crate) fn cover(lat: &Lattice, d: &Design, g: u32, f: Extent, reach: u64) -> Window
-    requires sound { IsSound d.now }
-    requires fits { FitsDesign d.now lat.now }
-    requires g { g < length d.now.nets }
-    requires bounds { IsBoxWithin (2 ^ 29) f.bounds }
-    requires width { f.width ≤ 2 ^ 28 }
-    requires rules { HasRulesWithin reach d.now }
-    requires reach { reach ≤ 2 ^ 28 }
-    ensures covers { (b : OneItem) → IsExtentOf b.pieces f → Covers d.now lat.now g b result }
-    ensures within { IsWindowIn lat.now result }
+/// The window of the nodes whose moves for the group an item of the extent may shut.
+pub(crate) fn cover(group: &Group<'_>, extent: Extent) -> Window
+    requires bounds { IsBoxWithin (2 ^ 29) extent.bounds }
+    requires width { extent.width ≤ 2 ^ 28 }
+    ensures covers { let s = group.now in
+        (b : OneItem) → IsExtentOf b.pieces extent → Covers s.d s.lat s.first b result }
+    ensures within { IsWindowIn group.now.lat result }
 {
-    let mut w = step_window(lat, d, g, f, reach);
-    for padstack in d.nets.as_slice()[g as usize].vias.as_slice() {
-        w = joined(w, via_window(lat, d, *padstack, f, reach));
+    let mut window = step_window(group, extent);
+    for padstack in group.vias() {
+        window = joined(window, via_window(group, *padstack, extent));
     }
-    ordered(w)
+    ordered(window)
 }

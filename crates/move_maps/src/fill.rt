@@ -1,77 +1,60 @@
 //! The counts of a group for some copper: each item is painted in, one after another.
 
-ghost use Rattle.std.specs.Prelude.{◌≡◌, ℕ, ◌+◌, ◌*◌, ◌<◌, ◌≤◌, ◌^◌, [], ◌∷◌, List as Seq, length, IfOk, OnOk};
+ghost use Rattle.std.specs.Prelude.{◌*◌, ◌<◌, [], ◌∷◌, List as Seq, length, IfOk, OnOk};
 ghost use Rattle.pcb_model.specs.declared.item.Item.{Item as OneItem};
-ghost use Rattle.pcb_model.specs.Bounds.{HasRulesWithin};
-ghost use Rattle.pcb_model.specs.Sound.{IsSound, IsItemOf};
-ghost use Rattle.route_lattice.specs.Fits.{FitsDesign};
-ghost use Rattle.route_lattice.specs.Mesh.{node_count};
-ghost use Rattle.route_lattice.specs.Ways.{way_count};
+ghost use Rattle.pcb_model.specs.Sound.{IsItemOf};
 ghost use Rattle.move_maps.specs.Paint.{AreTallied};
+ghost use Rattle.move_maps.specs.Settings.{IsTable};
 ghost use Rattle.move_maps.specs.Starts.{AreInner};
 
+use crate::brush::Stroke;
 use crate::counts::Counts;
-use crate::paint::Stroke;
+use crate::group::Group;
 use crate::parts::{is_edge, parts_of};
 use crate::start::start_counts;
 use crate::tally::{paint_item, shut_by_each};
-use pcb_model::{Copper, Design, Item};
-use route_lattice::{Lattice, LegalMoves};
+use pcb_model::{Copper, Item};
+use route_lattice::Ground;
 use std::alloc::{AllocError, Global};
 
-// Brings an item into the counts of the group of net `g`: a fixed ban of chains link by link, for good.
-fn bring<C: Copper>(
+// Brings an item into the counts of the group: a fixed ban of chains link by link, for good.
+fn bring(
     alloc: Global,
-    lat: &Lattice,
-    d: &Design,
-    c: &C,
-    g: u32,
-    reach: u64,
+    group: &Group<'_>,
     counts: &mut Counts,
     item: &Item,
 ) -> Result<(), AllocError>
-    requires sound { IsSound d.now }
-    requires fits { FitsDesign d.now lat.now }
-    requires g { g < length d.now.nets }
-    requires item { IsItemOf d.now item.now }
-    requires rules { HasRulesWithin reach d.now }
-    requires reach { reach ≤ 2 ^ 28 }
-    requires size { length counts.old ≡ node_count lat.now * way_count d.now lat.now g }
-    ensures { OnOk result ((items : Seq OneItem) → AreTallied d.now lat.now g items counts.old
-        → AreTallied d.now lat.now g (item.now ∷ items) counts.new) }
+    requires item { IsItemOf group.now.d item.now }
+    requires size { IsTable group.now counts.old }
+    ensures { let s = group.now in OnOk result ((items : Seq OneItem) → AreTallied s.d s.lat s.first items counts.old
+        → AreTallied s.d s.lat s.first (item.now ∷ items) counts.new) }
 {
     if !is_edge(item) {
-        paint_item(lat, d, c, g, reach, counts, item, Stroke::Comes);
+        paint_item(group, counts, item, Stroke::Comes);
         return Ok(());
     }
     let parts = parts_of(alloc, item)?;
-    shut_by_each(lat, d, c, g, reach, counts, parts.as_slice());
+    shut_by_each(group, counts, parts.as_slice());
     Ok(())
 }
 
-// Brings each item of the copper into the counts of the group of net `g`.
+// Brings each item of the copper into the counts of the group of a net.
 fn bring_all<C: Copper>(
     alloc: Global,
-    lat: &Lattice,
-    d: &Design,
-    c: &C,
-    g: u32,
-    reach: u64,
+    on: &Ground<'_, C>,
+    first: u32,
     counts: &mut Counts,
 ) -> Result<(), AllocError>
-    requires sound { IsSound d.now }
-    requires fits { FitsDesign d.now lat.now }
-    requires serves { C.serves c.now d.now }
-    requires g { g < length d.now.nets }
-    requires rules { HasRulesWithin reach d.now }
-    requires reach { reach ≤ 2 ^ 28 }
-    requires tallied { AreTallied d.now lat.now g [] counts.old }
-    ensures { OnOk result (AreTallied d.now lat.now g (C.items c.now) counts.new) }
+    requires first { first < length on.now.d.nets }
+    requires tallied { AreTallied on.now.d on.now.lat first [] counts.old }
+    ensures { OnOk result (AreTallied on.now.d on.now.lat first on.now.items counts.new) }
 {
-    c.in_order();
+    let copper = on.c;
+    copper.in_order();
+    let group = Group::of(on, first);
     let mut from = 0;
-    while let Some(item) = c.next_item(from) {
-        bring(alloc, lat, d, c, g, reach, counts, item)?;
+    while let Some(item) = copper.next_item(from) {
+        bring(alloc, &group, counts, item)?;
         let Some(next) = item.id.checked_add(1) else {
             return Ok(());
         };
@@ -80,28 +63,19 @@ fn bring_all<C: Copper>(
     Ok(())
 }
 
-/// The counts of the group of net `g` for the copper. `inner` says of each crossing, row by row, whether it lies
-/// inside.
+/// The counts of the group of a net for the copper. `inner` says of each crossing, row by row, whether it lies inside.
 pub(crate) fn counts_for<C: Copper>(
     alloc: Global,
-    lat: &Lattice,
-    d: &Design,
-    c: &C,
-    g: u32,
-    reach: u64,
+    on: &Ground<'_, C>,
+    first: u32,
     inner: &[bool],
 ) -> Result<Counts, AllocError>
-    requires sound { IsSound d.now }
-    requires fits { FitsDesign d.now lat.now }
-    requires serves { C.serves c.now d.now }
-    requires g { g < length d.now.nets }
-    requires rules { HasRulesWithin reach d.now }
-    requires reach { reach ≤ 2 ^ 28 }
-    requires inner { let m = lat.now in AreInner d.now m (length m.ys * length m.xs) inner.now }
-    ensures { IfOk result (AreTallied d.now lat.now g (C.items c.now)) }
+    requires first { first < length on.now.d.nets }
+    requires inner { let m = on.now.lat in AreInner on.now.d m (length m.ys * length m.xs) inner.now }
+    ensures { let s = on.now in IfOk result (AreTallied s.d s.lat first s.items) }
 {
-    let moves = LegalMoves::of(lat, d, c, g, 0);
+    let moves = on.moves(first, 0);
     let mut counts = start_counts(alloc, &moves, inner)?;
-    bring_all(alloc, lat, d, c, g, reach, &mut counts)?;
+    bring_all(alloc, on, first, &mut counts)?;
     Ok(counts)
 }

@@ -5,13 +5,11 @@ ghost use Rattle.std.specs.Prelude.{◌≡◌, ◌↔◌, ◌+◌, ◌*◌, ◌<
 ghost use Rattle.geo_kernel.specs.Plane.{IsWithin};
 ghost use Rattle.pcb_model.specs.Bounds.{IsBoundFit};
 ghost use Rattle.pcb_model.specs.Board.{IsInsideEach};
-ghost use Rattle.pcb_model.specs.Sound.{IsSound};
-ghost use Rattle.route_lattice.specs.Fits.{FitsDesign};
 ghost use Rattle.move_maps.specs.Starts.{AreInner};
 
 use geo_kernel::{List, Point, inside};
-use pcb_model::Design;
-use route_lattice::Lattice;
+use pcb_model::Copper;
+use route_lattice::Ground;
 use std::alloc::{AllocError, Global};
 
 fn is_inside(at: Point, bounds: &[List<List<Point>>]) -> bool
@@ -28,33 +26,32 @@ fn is_inside(at: Point, bounds: &[List<List<Point>>]) -> bool
 }
 
 // Appends what is said of the crossings of a y line.
-fn push_row(lat: &Lattice, d: &Design, inner: &mut List<bool>, row: usize) -> Result<(), AllocError>
-    requires sound { IsSound d.now }
-    requires fits { FitsDesign d.now lat.now }
-    requires row { row < length lat.now.ys }
-    requires so_far { AreInner d.now lat.now (row * length lat.now.xs) inner.old }
-    ensures { OnOk result (AreInner d.now lat.now ((row + 1) * length lat.now.xs) inner.new) }
+fn push_row<C: Copper>(
+    on: &Ground<'_, C>,
+    inner: &mut List<bool>,
+    row: usize,
+) -> Result<(), AllocError>
+    requires row { row < length on.now.lat.ys }
+    requires so_far { AreInner on.now.d on.now.lat (row * length on.now.lat.xs) inner.old }
+    ensures { OnOk result (AreInner on.now.d on.now.lat ((row + 1) * length on.now.lat.xs) inner.new) }
 {
-    let y = lat.ys().as_slice()[row];
-    for x in lat.xs().as_slice() {
-        inner.push(is_inside(Point { x: *x, y }, d.bounds.as_slice()))?;
+    let y = on.lat.ys().as_slice()[row];
+    for x in on.lat.xs().as_slice() {
+        inner.push(is_inside(Point { x: *x, y }, on.d.bounds.as_slice()))?;
     }
     Ok(())
 }
 
 /// For each crossing, row by row, whether it lies inside every boundary.
-pub(crate) fn inner_points(
+pub(crate) fn inner_points<C: Copper>(
     alloc: Global,
-    lat: &Lattice,
-    d: &Design,
+    on: &Ground<'_, C>,
 ) -> Result<List<bool>, AllocError>
-    requires sound { IsSound d.now }
-    requires fits { FitsDesign d.now lat.now }
-    ensures { IfOk result (AreInner d.now lat.now (length lat.now.ys * length lat.now.xs)) }
+    ensures { IfOk result (AreInner on.now.d on.now.lat (length on.now.lat.ys * length on.now.lat.xs)) }
 {
     let mut inner = List::new(alloc);
-    for row in 0..lat.ys().len() {
-        push_row(lat, d, &mut inner, row)?;
+    for row in 0..on.lat.ys().len() {
+        push_row(on, &mut inner, row)?;
     }
     Ok(inner)
 }

@@ -2,6 +2,7 @@
 //! A move that nothing shuts in the map is open; for another the copper is asked.
 #![tactic(auto)]
 
+mod brush;
 mod centred;
 mod clear;
 mod counts;

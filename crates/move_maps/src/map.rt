@@ -1,8 +1,7 @@
 //! The maps of the groups, which follow some copper.
 
-ghost use Rattle.std.specs.Prelude.{◌≡◌, ◌↔◌, ℕ, ◌*◌, ◌<◌, ◌≤◌, ◌^◌, length, All, Contains, IfSome, IfNone};
+ghost use Rattle.std.specs.Prelude.{◌≡◌, ◌↔◌, ℕ, ◌*◌, ◌<◌, length, All, Contains, IfSome, IfNone};
 ghost use Rattle.std.specs.Prelude.{IfOk, OnOk, OnErr, slice_index_or};
-ghost use Rattle.pcb_model.specs.Bounds.{HasRulesWithin};
 ghost use Rattle.pcb_model.specs.Sound.{IsSound, IsItemOf};
 ghost use Rattle.route_lattice.specs.Fits.{FitsDesign};
 ghost use Rattle.route_lattice.specs.Legal.{CanMove};
@@ -14,13 +13,13 @@ ghost use Rattle.move_maps.specs.declared.map.GroupMap.{GroupMap as OneMap};
 use crate::counts::Counts;
 use crate::fill::counts_for;
 use crate::firsts::first_nets;
-use crate::group::are_alike;
+use crate::group::{Group, are_alike};
 use crate::inner::inner_points;
 use crate::moves::MapMoves;
 use crate::tally::change;
 use geo_kernel::List;
-use pcb_model::{Copper, Design, Item, reach_of};
-use route_lattice::{Lattice, LegalMoves};
+use pcb_model::{Copper, Design, Item};
+use route_lattice::{Ground, Lattice, LegalMoves};
 use std::alloc::{AllocError, Global};
 use std::marker::Model;
 
@@ -71,73 +70,44 @@ fn copies_of(alloc: Global, maps: &[GroupMap]) -> Result<Vec<GroupMap>, AllocErr
 }
 
 // Changes the counts of a map.
-fn change_map<C: Copper>(
-    lat: &Lattice,
-    d: &Design,
-    c: &C,
-    reach: u64,
-    map: &mut GroupMap,
-    gone: &[Item],
-    come: &[Item],
-)
-    requires sound { IsSound d.now }
-    requires fits { FitsDesign d.now lat.now }
-    requires gone { All (IsItemOf d.now) gone.now }
-    requires come { All (IsItemOf d.now) come.now }
-    requires rules { HasRulesWithin reach d.now }
-    requires reach { reach ≤ 2 ^ 28 }
-    requires sized { IsSized d.now lat.now map.old }
-    ensures { Follows d.now lat.now gone.now come.now map.old map.new }
+fn change_map<C: Copper>(on: &Ground<'_, C>, map: &mut GroupMap, gone: &[Item], come: &[Item])
+    requires gone { All (IsItemOf on.now.d) gone.now }
+    requires come { All (IsItemOf on.now.d) come.now }
+    requires sized { IsSized on.now.d on.now.lat map.old }
+    ensures { Follows on.now.d on.now.lat gone.now come.now map.old map.new }
 {
-    change(lat, d, c, map.first, reach, &mut map.counts, gone, come);
+    let group = Group::of(on, map.first);
+    change(&group, &mut map.counts, gone, come);
 }
 
 // Changes the counts of each map.
-fn change_all<C: Copper>(
-    lat: &Lattice,
-    d: &Design,
-    c: &C,
-    reach: u64,
-    maps: &mut [GroupMap],
-    gone: &[Item],
-    come: &[Item],
-)
-    requires sound { IsSound d.now }
-    requires fits { FitsDesign d.now lat.now }
-    requires gone { All (IsItemOf d.now) gone.now }
-    requires come { All (IsItemOf d.now) come.now }
-    requires rules { HasRulesWithin reach d.now }
-    requires reach { reach ≤ 2 ^ 28 }
-    requires maps { All (IsSized d.now lat.now) maps.old }
+fn change_all<C: Copper>(on: &Ground<'_, C>, maps: &mut [GroupMap], gone: &[Item], come: &[Item])
+    requires gone { All (IsItemOf on.now.d) gone.now }
+    requires come { All (IsItemOf on.now.d) come.now }
+    requires maps { All (IsSized on.now.d on.now.lat) maps.old }
     ensures count { length maps.new ≡ length maps.old }
-    ensures each { (k : ℕ) (o : OneMap) → k < length maps.old
-        → Follows d.now lat.now gone.now come.now (slice_index_or maps.old k o) (slice_index_or maps.new k o) }
+    ensures each { (k : ℕ) (o : OneMap) → k < length maps.old → Follows on.now.d on.now.lat gone.now come.now
+        (slice_index_or maps.old k o) (slice_index_or maps.new k o) }
 {
     for map in maps.iter_mut() {
-        change_map(lat, d, c, reach, map, gone, come);
+        change_map(on, map, gone, come);
     }
 }
 
 // The maps of the groups of these nets for the copper.
 fn maps_for<C: Copper>(
     alloc: Global,
-    lat: &Lattice,
-    d: &Design,
-    c: &C,
+    on: &Ground<'_, C>,
     inner: &[bool],
     firsts: &[u32],
 ) -> Result<Vec<GroupMap>, AllocError>
-    requires sound { IsSound d.now }
-    requires fits { FitsDesign d.now lat.now }
-    requires serves { C.serves c.now d.now }
-    requires inner { let m = lat.now in AreInner d.now m (length m.ys * length m.xs) inner.now }
-    requires firsts { AreMapped d.now lat.now firsts.now }
-    ensures { IfOk result (λ v. AreMapsOf d.now lat.now (C.items c.now) v.items) }
+    requires inner { let m = on.now.lat in AreInner on.now.d m (length m.ys * length m.xs) inner.now }
+    requires firsts { AreMapped on.now.d on.now.lat firsts.now }
+    ensures { IfOk result (λ v. AreMapsOf on.now.d on.now.lat on.now.items v.items) }
 {
-    let reach = reach_of(d);
     let mut maps = Vec::new(alloc);
     for first in firsts {
-        let counts = counts_for(alloc, lat, d, c, *first, reach, inner)?;
+        let counts = counts_for(alloc, on, *first, inner)?;
         maps.push(GroupMap {
             first: *first,
             counts,
@@ -175,9 +145,11 @@ impl MoveMaps {
         requires serves { C.serves c.now d.now }
         ensures { IfOk result (AreMapsOf d.now lat.now (C.items c.now)) }
     {
-        let firsts = first_nets(alloc, lat, d, c)?;
-        let inner = inner_points(alloc, lat, d)?;
-        let maps = maps_for(alloc, lat, d, c, inner.as_slice(), firsts.as_slice())?;
+        c.in_order();
+        let on = Ground { lat, d, c };
+        let firsts = first_nets(alloc, &on)?;
+        let inner = inner_points(alloc, &on)?;
+        let maps = maps_for(alloc, &on, inner.as_slice(), firsts.as_slice())?;
         Ok(MoveMaps { maps })
     }
 
@@ -206,9 +178,10 @@ impl MoveMaps {
         ensures ok { OnOk result (AreMapsOf d.now lat.now (C.items c.now) self.new) }
         ensures err { OnErr result (self.new ≡ self.old) }
     {
-        let reach = reach_of(d);
+        c.in_order();
+        let on = Ground { lat, d, c };
         let maps = self.maps.as_mut_slice();
-        change_all(lat, d, c, reach, maps, gone.as_slice(), come.as_slice());
+        change_all(&on, maps, gone.as_slice(), come.as_slice());
         Ok(())
     }
 

@@ -6,15 +6,15 @@ ghost use Rattle.std.specs.Bool.{OnTrue};
 ghost use Rattle.pcb_model.specs.Bounds.{IsFit, IsItemFit};
 ghost use Rattle.pcb_model.specs.Near.{IsBoxWithin, IsExtentOf};
 ghost use Rattle.pcb_model.specs.Pieces.{wire_piece};
-ghost use Rattle.pcb_model.specs.Sound.{IsSound};
 ghost use Rattle.move_maps.specs.Clear.{WireKeeps};
 ghost use Rattle.move_maps.specs.Margins.{IsBeyond, IsFence, AreMargins, ShutsSteps};
 
 use crate::clear::wire_keeps;
 use crate::cover::grow_for;
+use crate::group::Group;
 use crate::window::grown;
 use geo_kernel::{Point, Rect4};
-use pcb_model::{Design, Extent, Item, Kind, clearance, width_of};
+use pcb_model::{Extent, Item, Kind, clearance, width_of};
 
 /// The width of a group's wires, the clearances that its wires and its vias keep from an item, in nm, and a box beyond
 /// which wires keep their clearance.
@@ -27,38 +27,39 @@ pub(crate) struct Margins {
 }
 
 // Whether both points are beyond one side of the box.
-fn is_beyond(r: Rect4, a: Point, b: Point) -> bool
-    ensures { OnTrue result (IsBeyond r a b) }
+fn is_beyond(area: Rect4, a: Point, b: Point) -> bool
+    ensures { OnTrue result (IsBeyond area a b) }
 {
-    if a.x <= r.x0 && b.x <= r.x0 {
+    if a.x <= area.x0 && b.x <= area.x0 {
         return true;
     }
-    if r.x1 <= a.x && r.x1 <= b.x {
+    if area.x1 <= a.x && area.x1 <= b.x {
         return true;
     }
-    if a.y <= r.y0 && b.y <= r.y0 {
+    if a.y <= area.y0 && b.y <= area.y0 {
         return true;
     }
-    if r.y1 <= a.y && r.y1 <= b.y {
+    if area.y1 <= a.y && area.y1 <= b.y {
         return true;
     }
     false
 }
 
 impl Margins {
-    /// Those of the group of net `g` and an item with this extent.
-    pub(crate) fn of(d: &Design, g: u32, b: &Item, extent: Extent) -> Margins
-        requires sound { IsSound d.now }
-        requires extent { IsExtentOf b.now.pieces extent }
+    /// Those of the group and an item with this extent.
+    pub(crate) fn of(group: &Group<'_>, item: &Item, extent: Extent) -> Margins
+        requires extent { IsExtentOf item.now.pieces extent }
         requires within { IsBoxWithin (2 ^ 29) extent.bounds }
-        ensures { AreMargins d.now g b.now result }
+        ensures { AreMargins group.now.d group.now.first item.now result }
     {
-        let width = width_of(d, g);
-        let wires = clearance(d, Some(g), Kind::Wire, b.net, b.kind);
+        let d = group.d;
+        let first = Some(group.first);
+        let width = width_of(d, group.first);
+        let wires = clearance(d, first, Kind::Wire, item.net, item.kind);
         Margins {
             width,
             wires,
-            vias: clearance(d, Some(g), Kind::Via, b.net, b.kind),
+            vias: clearance(d, first, Kind::Via, item.net, item.kind),
             near: grown(extent.bounds, grow_for(wires, width, extent.width)),
         }
     }

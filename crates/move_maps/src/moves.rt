@@ -8,7 +8,7 @@ ghost use Rattle.route_lattice.specs.Ways.{way_count};
 ghost use Rattle.route_lattice.specs.Legal.{CanMove, legal_graph};
 ghost use Rattle.move_maps.specs.Groups.{AreAlike};
 ghost use Rattle.move_maps.specs.Maps.{IsMapOf, place_at};
-ghost use Rattle.move_maps.specs.OwnCopper.{IsStepThere, IsViaThere};
+ghost use Rattle.move_maps.specs.OwnCopper.{IsReadyMap, IsStepThere, IsViaThere};
 
 use crate::map::GroupMap;
 use crate::step::{step_price, step_to};
@@ -26,10 +26,8 @@ pub struct MapMoves<'a, C: Copper> {
 impl<C: Copper> MapMoves<'_, C> {
     /// How much shuts the move, for any net of the group.
     pub(crate) fn tally(&self, node: u32, i: u32) -> u8
-        requires ready { let s = self.now.legal in CanMove s.d.now s.lat.now s.net s.via_cost }
-        requires map { let s = self.now.legal in
-            IsMapOf s.d.now s.lat.now (C.items s.c.now) self.now.map.now }
-        requires alike { AreAlike self.now.legal.d.now self.now.map.now.first self.now.legal.net }
+        requires ready { let s = self.now.legal in
+            IsReadyMap s.d.now s.lat.now (C.items s.c.now) s.net s.via_cost self.now.map.now }
         requires node { node < node_count self.now.legal.lat.now }
         requires index { let s = self.now.legal in i < way_count s.d.now s.lat.now s.net }
         ensures { let s = self.now in
@@ -41,10 +39,8 @@ impl<C: Copper> MapMoves<'_, C> {
 
     /// Whether the move is a step that is there, by the map.
     fn is_step(&self, node: u32, i: u32) -> bool
-        requires ready { let s = self.now.legal in CanMove s.d.now s.lat.now s.net s.via_cost }
-        requires map { let s = self.now.legal in
-            IsMapOf s.d.now s.lat.now (C.items s.c.now) self.now.map.now }
-        requires alike { AreAlike self.now.legal.d.now self.now.map.now.first self.now.legal.net }
+        requires ready { let s = self.now.legal in
+            IsReadyMap s.d.now s.lat.now (C.items s.c.now) s.net s.via_cost self.now.map.now }
         requires node { node < node_count self.now.legal.lat.now }
         requires index { let s = self.now.legal in i < way_count s.d.now s.lat.now s.net }
         ensures { let s = self.now.legal in OnTrue result (IsStepThere s.d.now s.lat.now s.net node i) }
@@ -54,10 +50,8 @@ impl<C: Copper> MapMoves<'_, C> {
 
     /// Whether the move is a via that is there, by the map.
     fn is_via(&self, node: u32, i: u32) -> bool
-        requires ready { let s = self.now.legal in CanMove s.d.now s.lat.now s.net s.via_cost }
-        requires map { let s = self.now.legal in
-            IsMapOf s.d.now s.lat.now (C.items s.c.now) self.now.map.now }
-        requires alike { AreAlike self.now.legal.d.now self.now.map.now.first self.now.legal.net }
+        requires ready { let s = self.now.legal in
+            IsReadyMap s.d.now s.lat.now (C.items s.c.now) s.net s.via_cost self.now.map.now }
         requires node { node < node_count self.now.legal.lat.now }
         requires index { let s = self.now.legal in i < way_count s.d.now s.lat.now s.net }
         ensures { let s = self.now.legal in OnTrue result (IsViaThere s.d.now s.lat.now s.net node i) }

@@ -8,13 +8,13 @@ ghost use Rattle.route_lattice.specs.Ways.{way_count};
 ghost use Rattle.route_lattice.specs.Legal.{CanMove, IsOpen, legal_graph, probe_at};
 ghost use Rattle.move_maps.specs.Groups.{AreAlike, HasMap};
 ghost use Rattle.move_maps.specs.Maps.{IsMapOf, AreMapsOf, place_at};
-ghost use Rattle.move_maps.specs.OwnCopper.{IsOwnCopper};
+ghost use Rattle.move_maps.specs.OwnCopper.{IsOwnCopper, IsReadyMap};
 
 use crate::map::MoveMaps;
 use crate::moves::MapMoves;
 use crate::own::OwnCopper;
 use pcb_model::{Copper, Design};
-use route_lattice::{Lattice, Move, Moves};
+use route_lattice::{Ground, Lattice, Move, Moves};
 use std::alloc::{AllocError, Global};
 
 /// The legal moves of a net by a map, and windows round the net's own copper.
@@ -30,24 +30,19 @@ impl<'a, C: Copper> NetMoves<'a, C> {
         requires ready { let s = by_map.legal in CanMove s.d.now s.lat.now s.net s.via_cost }
         requires serves { C.serves by_map.legal.c.now by_map.legal.d.now }
         requires first { by_map.map.now.first < length by_map.legal.d.now.nets }
-        ensures lat { IfOk result (λ s. s.by_map.legal.lat.now ≡ by_map.entry.legal.lat.now) }
-        ensures d { IfOk result (λ s. s.by_map.legal.d.now ≡ by_map.entry.legal.d.now) }
-        ensures c { IfOk result (λ s. s.by_map.legal.c.now ≡ by_map.entry.legal.c.now) }
-        ensures net { IfOk result (λ s. s.by_map.legal.net ≡ by_map.entry.legal.net) }
-        ensures via_cost { IfOk result (λ s. s.by_map.legal.via_cost ≡ by_map.entry.legal.via_cost) }
-        ensures map { IfOk result (λ s. s.by_map.map.now ≡ by_map.entry.map.now) }
+        ensures by_map { IfOk result (λ s. s.by_map ≡ by_map.entry) }
         ensures own { IfOk result (λ s. let t = by_map.entry.legal in
             IsOwnCopper t.d.now t.lat.now (C.items t.c.now) by_map.entry.map.now.first t.net s.own) }
     {
         let moves = &by_map.legal;
-        let own = OwnCopper::of(
-            alloc,
-            moves.lat,
-            moves.d,
-            moves.c,
-            by_map.map.first,
-            moves.net,
-        )?;
+        let copper = moves.c;
+        copper.in_order();
+        let on = Ground {
+            lat: moves.lat,
+            d: moves.d,
+            c: copper,
+        };
+        let own = OwnCopper::of(alloc, &on, by_map.map.first, moves.net)?;
         Ok(NetMoves { by_map, own })
     }
 }
@@ -89,10 +84,8 @@ impl MoveMaps {
 impl<C: Copper> NetMoves<'_, C> {
     /// Whether the map counts foreign copper, or the border, in the way of a move away from the net's own copper.
     fn is_shut(&self, node: u32, i: u32, tally: u8) -> bool
-        requires ready { let s = self.now.by_map.legal in CanMove s.d.now s.lat.now s.net s.via_cost }
-        requires map { let s = self.now.by_map.legal in
-            IsMapOf s.d.now s.lat.now (C.items s.c.now) self.now.by_map.map.now }
-        requires alike { AreAlike self.now.by_map.legal.d.now self.now.by_map.map.now.first self.now.by_map.legal.net }
+        requires ready { let s = self.now.by_map.legal in
+            IsReadyMap s.d.now s.lat.now (C.items s.c.now) s.net s.via_cost self.now.by_map.map.now }
         requires own { let s = self.now.by_map.legal in
             IsOwnCopper s.d.now s.lat.now (C.items s.c.now) self.now.by_map.map.now.first s.net self.now.own }
         requires node { node < node_count self.now.by_map.legal.lat.now }

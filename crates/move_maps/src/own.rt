@@ -1,21 +1,20 @@
 //! The copper of a net itself, as windows of the lattice: the moves of all nodes out of them are clear of it.
 //! There a map needs no look at the copper: what it counts is foreign.
 
-ghost use Rattle.std.specs.Prelude.{◌≡◌, ◌<◌, ◌≤◌, ◌^◌, ◌↔◌, IfOk, IsTrue, OnOk, length};
+ghost use Rattle.std.specs.Prelude.{◌<◌, ◌↔◌, length, IfOk, IsTrue, OnOk};
 ghost use Rattle.std.specs.Bool.{OnTrue};
-ghost use Rattle.pcb_model.specs.Bounds.{IsItemFit, HasRulesWithin};
-ghost use Rattle.pcb_model.specs.Sound.{IsSound};
-ghost use Rattle.route_lattice.specs.Fits.{FitsDesign};
+ghost use Rattle.pcb_model.specs.Bounds.{IsItemFit};
 ghost use Rattle.route_lattice.specs.Mesh.{node_count};
 ghost use Rattle.move_maps.specs.Windows.{IsOutOfAll, Widens};
 ghost use Rattle.move_maps.specs.OwnCopper.{IsForeign, IsOwnCopper, TakesOwn};
 
-use crate::clear::meets_vias;
 use crate::cover::{cover, joined};
+use crate::group::Group;
 use crate::links::MOST_APART;
 use crate::window::{Window, is_out_of_all};
-use pcb_model::{Copper, Design, Extent, Item, Kind, clearance, reach_of};
-use route_lattice::Lattice;
+use pcb_model::pieces::meets_vias;
+use pcb_model::{Copper, Design, Extent, Item, Kind, clearance};
+use route_lattice::{Ground, Lattice};
 use std::alloc::{AllocError, Global};
 use std::marker::Model;
 
@@ -35,23 +34,23 @@ impl Model for OwnCopper {
 }
 
 // Adds a window, or joins it to the last of many.
-fn add_window(windows: &mut Vec<Window>, w: Window) -> Result<(), AllocError>
-    ensures { OnOk result (Widens windows.old.items w windows.new.items) }
+fn add_window(windows: &mut Vec<Window>, window: Window) -> Result<(), AllocError>
+    ensures { OnOk result (Widens windows.old.items window windows.new.items) }
 {
     if windows.len() >= MOST_APART
         && let Some(last) = windows.pop()
     {
-        windows.push(joined(last, w))?;
+        windows.push(joined(last, window))?;
         return Ok(());
     }
-    windows.push(w)?;
+    windows.push(window)?;
     Ok(())
 }
 
 // Whether what the map counts of the item shuts moves of the net: the item is of another net, and no via touches it
 // that keeps its clearance.
-fn is_foreign(d: &Design, g: u32, net: u32, item: &Item) -> bool
-    ensures { OnTrue result (IsForeign d.now g net item.now) }
+fn is_foreign(d: &Design, first: u32, net: u32, item: &Item) -> bool
+    ensures { OnTrue result (IsForeign d.now first net item.now) }
 {
     if item.net == Some(net) {
         return false;
@@ -62,56 +61,45 @@ fn is_foreign(d: &Design, g: u32, net: u32, item: &Item) -> bool
     if !meets_vias(&item.metal) {
         return false;
     }
-    0 < clearance(d, Some(g), Kind::Via, item.net, item.kind)
+    0 < clearance(d, Some(first), Kind::Via, item.net, item.kind)
 }
 
 // Takes an item in that isn't foreign; another item changes nothing.
 fn take_item(
     windows: &mut Vec<Window>,
-    lat: &Lattice,
-    d: &Design,
-    g: u32,
+    group: &Group<'_>,
     net: u32,
-    reach: u64,
     item: &Item,
 ) -> Result<(), AllocError>
-    requires sound { IsSound d.now }
-    requires fits { FitsDesign d.now lat.now }
-    requires g { g < length d.now.nets }
-    requires item { IsItemFit item.now }
-    requires rules { HasRulesWithin reach d.now }
-    requires reach { reach ≤ 2 ^ 28 }
-    ensures { OnOk result (TakesOwn d.now lat.now g net item.now windows.old.items windows.new.items) }
+    requires { IsItemFit item.now }
+    ensures { let s = group.now in
+        OnOk result (TakesOwn s.d s.lat s.first net item.now windows.old.items windows.new.items) }
 {
-    if is_foreign(d, g, net, item) {
+    if is_foreign(group.d, group.first, net, item) {
         return Ok(());
     }
-    let w = cover(lat, d, g, Extent::of_item(item), reach);
-    add_window(windows, w)
+    let window = cover(group, Extent::of_item(item));
+    add_window(windows, window)
 }
 
 impl OwnCopper {
-    /// The windows round the copper of the net, for moves of the group of net `g`.
+    /// The windows round the copper of the net, for moves of the group of another.
     pub(crate) fn of<C: Copper>(
         alloc: Global,
-        lat: &Lattice,
-        d: &Design,
-        c: &C,
-        g: u32,
+        on: &Ground<'_, C>,
+        first: u32,
         net: u32,
     ) -> Result<OwnCopper, AllocError>
-        requires sound { IsSound d.now }
-        requires fits { FitsDesign d.now lat.now }
-        requires g { g < length d.now.nets }
-        requires serves { C.serves c.now d.now }
-        ensures { IfOk result (IsOwnCopper d.now lat.now (C.items c.now) g net) }
+        requires { first < length on.now.d.nets }
+        ensures { IfOk result (IsOwnCopper on.now.d on.now.lat on.now.items first net) }
     {
-        c.in_order();
-        let reach = reach_of(d);
+        let copper = on.c;
+        copper.in_order();
+        let group = Group::of(on, first);
         let mut windows = Vec::new(alloc);
         let mut from = 0;
-        while let Some(item) = c.next_item(from) {
-            take_item(&mut windows, lat, d, g, net, reach, item)?;
+        while let Some(item) = copper.next_item(from) {
+            take_item(&mut windows, &group, net, item)?;
             let Some(next) = item.id.checked_add(1) else {
                 return Ok(OwnCopper { windows });
             };

@@ -6,8 +6,8 @@ ghost use Rattle.geo_kernel.specs.Spine.{chain_segments};
 ghost use Rattle.pcb_model.specs.Bounds.{IsFit, IsItemFit};
 ghost use Rattle.move_maps.specs.Parts.{IsString, IsStrung, part as part_by, parts_by, parts as parts_in};
 
-use crate::clear::{meets_vias, meets_wires};
 use geo_kernel::{List, Point, Spine};
+use pcb_model::pieces::{meets_vias, meets_wires};
 use pcb_model::{Item, Kind, Metal, Piece};
 use std::alloc::{AllocError, Global};
 

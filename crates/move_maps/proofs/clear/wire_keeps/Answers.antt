@@ -6,7 +6,7 @@ use Rattle.move_maps.proofs.clear.wire_keeps.Goals as goal
 
 pub returns : goal.returns
 returns c =
-    let F : List Piece → Type 0 = λ rs. KeepsFrom c.args.c rs
+    let F : List Piece → Type 0 = λ rs. KeepsFrom c.args.clearance rs
     (wire_piece c.args.layer c.args.width c.args.points.now) in (
       λ h k. subst F c.as_slice.ensures (c.chain_keeps_all.ensures.0 h),
       λ f. c.chain_keeps_all.ensures.1

@@ -17,32 +17,32 @@ short a b r h k e = subst (λ z. unsigned_abs z ≤ 2 ^ 30) (sym e) (by a b h k)
     by a b h k = omega (arith, ints, h, k)
 
 pub overflow_sub-result : goal.overflow_sub-result
-overflow_sub-result c = omega (arith, ints, c.requires.r.x0_within, c.requires.e.x1_within)
+overflow_sub-result c = omega (arith, ints, c.requires.item.x0_within, c.requires.stack.x1_within)
 
 pub overflow_sub-result-2 : goal.overflow_sub-result-2
-overflow_sub-result-2 c = omega (arith, ints, c.requires.r.y0_within, c.requires.e.y1_within)
+overflow_sub-result-2 c = omega (arith, ints, c.requires.item.y0_within, c.requires.stack.y1_within)
 
 pub overflow_sub-result-3 : goal.overflow_sub-result-3
-overflow_sub-result-3 c = omega (arith, ints, c.requires.r.x1_within, c.requires.e.x0_within)
+overflow_sub-result-3 c = omega (arith, ints, c.requires.item.x1_within, c.requires.stack.x0_within)
 
 pub overflow_sub-result-4 : goal.overflow_sub-result-4
-overflow_sub-result-4 c = omega (arith, ints, c.requires.r.y1_within, c.requires.e.y0_within)
+overflow_sub-result-4 c = omega (arith, ints, c.requires.item.y1_within, c.requires.stack.y0_within)
 
 pub returns-clause-x0 : goal.returns-clause-x0
-returns-clause-x0 c = difference c.args.r.x0 c.args.e.x1 c.requires.r.x0_within c.requires.e.x1_within
+returns-clause-x0 c = difference c.args.item.x0 c.args.stack.x1 c.requires.item.x0_within c.requires.stack.x1_within
 
 pub returns-clause-y0 : goal.returns-clause-y0
-returns-clause-y0 c = difference c.args.r.y0 c.args.e.y1 c.requires.r.y0_within c.requires.e.y1_within
+returns-clause-y0 c = difference c.args.item.y0 c.args.stack.y1 c.requires.item.y0_within c.requires.stack.y1_within
 
 pub returns-clause-x1 : goal.returns-clause-x1
-returns-clause-x1 c = difference c.args.r.x1 c.args.e.x0 c.requires.r.x1_within c.requires.e.x0_within
+returns-clause-x1 c = difference c.args.item.x1 c.args.stack.x0 c.requires.item.x1_within c.requires.stack.x0_within
 
 pub returns-clause-y1 : goal.returns-clause-y1
-returns-clause-y1 c = difference c.args.r.y1 c.args.e.y0 c.requires.r.y1_within c.requires.e.y0_within
+returns-clause-y1 c = difference c.args.item.y1 c.args.stack.y0 c.requires.item.y1_within c.requires.stack.y0_within
 
 pub returns-clause-within : goal.returns-clause-within
 returns-clause-within c =
-    let r = c.args.r in let e = c.args.e in let h = c.requires.r in let k = c.requires.e in
+    let r = c.args.item in let e = c.args.stack in let h = c.requires.item in let k = c.requires.stack in
     record {
       x0_within = short r.x0 e.x1 _ h.x0_within k.x1_within (difference r.x0 e.x1 h.x0_within k.x1_within);
       y0_within = short r.y0 e.y1 _ h.y0_within k.y1_within (difference r.y0 e.y1 h.y0_within k.y1_within);

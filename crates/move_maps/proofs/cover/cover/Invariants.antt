@@ -4,4 +4,5 @@ use Rattle.move_maps.proofs.cover.cover.Given as goal
 
 -- the window covers the steps, and the vias so far
 abbrev pub invariant-loop-padstack : goal.invariant-loop-padstack
-invariant-loop-padstack l = IsSoFar l.d l.lat l.g l.f (take l.padstack-index l.padstack-items) l.w
+invariant-loop-padstack l = IsSoFar l.group.d l.group.lat l.group.first l.extent (take l.padstack-index
+    l.padstack-items) l.window

@@ -8,21 +8,23 @@ use Rattle.move_maps.proofs.Shutting.{come_strung}
 use Rattle.move_maps.proofs.fill.bring.Goals as goal
 
 pub returns-then-not-is_edge : goal.returns-then-not-is_edge
-returns-then-not-is_edge g c =
-    λ items t. come_painted c.args.d.now c.args.lat.now c.args.g c.args.item.now items c.args.counts.now
+returns-then-not-is_edge c =
+    λ items t. come_painted c.args.group.now.d c.args.group.now.lat c.args.group.now.first c.args.item.now items
+    c.args.counts.now
     c.paint_item.new.counts c.paint_item.ensures t
 
 pub parts_of-requires : goal.parts_of-requires
-parts_of-requires g c = c.is_edge.ensures c.if-not-is_edge.false
+parts_of-requires c = c.is_edge.ensures c.if-not-is_edge.false
 
 pub shut_by_each-requires-clause-items : goal.shut_by_each-requires-clause-items
-shut_by_each-requires-clause-items g c =
-    subst (All (IsItemOf c.args.d.now)) (sym (c.as_slice.ensures ∙ c.in_ok-parts.ensures))
-    (parts_fit c.args.d.now c.args.item.now (c.is_edge.ensures c.if-not-is_edge.false) c.requires.item)
+shut_by_each-requires-clause-items c =
+    subst (All (IsItemOf c.args.group.now.d)) (sym (c.as_slice.ensures ∙ c.in_ok-parts.ensures))
+    (parts_fit c.args.group.now.d c.args.item.now (c.is_edge.ensures c.if-not-is_edge.false) c.requires.item)
 
 pub returns : goal.returns
-returns g c =
-    λ items t. come_strung c.args.d.now c.args.lat.now c.args.g c.args.item.now items c.args.counts.now
+returns c =
+    λ items t. come_strung c.args.group.now.d c.args.group.now.lat c.args.group.now.first c.args.item.now items
+    c.args.counts.now
     c.shut_by_each.new.counts (c.is_edge.ensures c.if-not-is_edge.false)
-    (subst (λ (l : List Item). Shuts c.args.d.now c.args.lat.now c.args.g l c.args.counts.now
+    (subst (λ (l : List Item). Shuts c.args.group.now.d c.args.group.now.lat c.args.group.now.first l c.args.counts.now
     c.shut_by_each.new.counts) (c.as_slice.ensures ∙ c.in_ok-parts.ensures) c.shut_by_each.ensures) t

@@ -4,4 +4,4 @@ use Rattle.move_maps.proofs.inner.inner_points.Given as goal
 
 -- the rows so far
 abbrev pub invariant-loop-row : goal.invariant-loop-row
-invariant-loop-row l = AreInner l.d l.lat (l.row * length l.lat.xs) l.inner
+invariant-loop-row g l = AreInner l.on.d l.on.lat (l.row * length l.on.lat.xs) l.inner

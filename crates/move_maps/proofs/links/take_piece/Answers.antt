@@ -8,8 +8,9 @@ use Rattle.move_maps.proofs.links.take_piece.Goals as goal
 
 pub returns-in-Chain : goal.returns-in-Chain
 returns-in-Chain c =
-    take_piece c.args.d.now c.args.lat.now c.args.g c.args.q.now c.in-Chain.points c.args.windows.now.items
+    take_piece c.args.group.now.d c.args.group.now.lat c.args.group.now.first c.args.piece.now c.in-Chain.points
+    c.args.windows.now.items
     c.take_links.new.windows.items c.in-Chain.is
-    (λ b. subst (λ (points : List Point). TakeIn c.args.d.now c.args.lat.now c.args.g
-    (map (part b c.args.q.now) (chain_segments points)) c.args.windows.now.items c.take_links.new.windows.items)
+    (λ b. subst (λ (points : List Point). TakeIn c.args.group.now.d c.args.group.now.lat c.args.group.now.first
+    (map (part b c.args.piece.now) (chain_segments points)) c.args.windows.now.items c.take_links.new.windows.items)
     c.as_slice.ensures (c.take_links.ensures b))

@@ -3,10 +3,12 @@ use Rattle.move_maps.proofs.links.windows_near.Goals as goal
 
 pub returns-then-is_strung : goal.returns-then-is_strung
 returns-then-is_strung c =
-    strung_together c.args.d.now c.args.lat.now c.args.g c.args.b.now c.link_windows.result.items
+    strung_together c.args.group.now.d c.args.group.now.lat c.args.group.now.first c.args.item.now
+    c.link_windows.result.items
     (c.is_strung.ensures c.if-is_strung.true) c.link_windows.ensures
 
 pub returns : goal.returns
 returns c =
-    alone_together c.args.d.now c.args.lat.now c.args.g c.args.b.now c.args.whole c.new-windows.result.items
+    alone_together c.args.group.now.d c.args.group.now.lat c.args.group.now.first c.args.item.now c.args.whole
+    c.new-windows.result.items
     c.push.new.self.items c.push.ensures.items c.requires.whole

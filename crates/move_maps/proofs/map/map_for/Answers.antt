@@ -9,8 +9,8 @@ use Rattle.move_maps.proofs.map.map_for.Goals as goal
 pub loop-map-init : goal.loop-map-init
 loop-map-init c = All-nil (IsNotFor c.args.d.now c.args.net)
 
-pub are_alike-requires-clause-g : goal.are_alike-requires-clause-g
-are_alike-requires-clause-g c =
+pub are_alike-requires-clause-first : goal.are_alike-requires-clause-first
+are_alike-requires-clause-first c =
     subst (λ (o : OneMap). o.first < length c.args.d.now.nets) (sym c.map-item.is)
     (c.requires.firsts c.loop-map.map-index c.map-item.result c.loop-map-test.true)
 

@@ -12,36 +12,36 @@ at_most y z h k e =
     by : (y z : ℤ) → le_z y z ≡ true → y ≤ℤ z
     by y z e = omega (arith, ints, e)
 
-pub returns-then-b-r : goal.returns-then-b-r
-returns-then-b-r c =
+pub returns-then-b-area : goal.returns-then-b-area
+returns-then-b-area c =
     let r = c.struct_told-2-1.given.0.1 in
     inl (inl (
-      at_most c.args.a.x c.args.r.x0 c.struct_told-1.given.0.1 r c.if-a-r.true,
-      at_most c.args.b.x c.args.r.x0 c.struct_told-then-a-r-1.given.0.1 r c.if-b-r.true,
+      at_most c.args.a.x c.args.area.x0 c.struct_told-1.given.0.1 r c.if-a-area.true,
+      at_most c.args.b.x c.args.area.x0 c.struct_told-then-a-area-1.given.0.1 r c.if-b-area.true,
     ))
 
-pub returns-then-r-b : goal.returns-then-r-b
-returns-then-r-b c =
+pub returns-then-area-b : goal.returns-then-area-b
+returns-then-area-b c =
     let r = c.struct_told-2-1.given.1.1.0.1 in
     inl (inr (
-      at_most c.args.r.x1 c.args.a.x r c.struct_told-1.given.0.1 c.if-r-a.true,
-      at_most c.args.r.x1 c.args.b.x r c.struct_told-then-r-a-2-1.given.0.1 c.if-r-b.true,
+      at_most c.args.area.x1 c.args.a.x r c.struct_told-1.given.0.1 c.if-area-a.true,
+      at_most c.args.area.x1 c.args.b.x r c.struct_told-then-area-a-2-1.given.0.1 c.if-area-b.true,
     ))
 
-pub returns-then-b-r-2 : goal.returns-then-b-r-2
-returns-then-b-r-2 c =
+pub returns-then-b-area-2 : goal.returns-then-b-area-2
+returns-then-b-area-2 c =
     let r = c.struct_told-2-1.given.1.0.1 in
     inr (inl (
-      at_most c.args.a.y c.args.r.y0 c.struct_told-1.given.1.0.1 r c.if-a-r-2.true,
-      at_most c.args.b.y c.args.r.y0 c.struct_told-then-a-r-2-2-1.given.1.0.1 r c.if-b-r-2.true,
+      at_most c.args.a.y c.args.area.y0 c.struct_told-1.given.1.0.1 r c.if-a-area-2.true,
+      at_most c.args.b.y c.args.area.y0 c.struct_told-then-a-area-2-2-1.given.1.0.1 r c.if-b-area-2.true,
     ))
 
-pub returns-then-r-b-2 : goal.returns-then-r-b-2
-returns-then-r-b-2 c =
+pub returns-then-area-b-2 : goal.returns-then-area-b-2
+returns-then-area-b-2 c =
     let r = c.struct_told-2-1.given.1.1.1.0.1 in
     inr (inr (
-      at_most c.args.r.y1 c.args.a.y r c.struct_told-1.given.1.0.1 c.if-r-a-2.true,
-      at_most c.args.r.y1 c.args.b.y r c.struct_told-then-r-a-2-3-1.given.1.0.1 c.if-r-b-2.true,
+      at_most c.args.area.y1 c.args.a.y r c.struct_told-1.given.1.0.1 c.if-area-a-2.true,
+      at_most c.args.area.y1 c.args.b.y r c.struct_told-then-area-a-2-3-1.given.1.0.1 c.if-area-b-2.true,
     ))
 
 pub returns : goal.returns

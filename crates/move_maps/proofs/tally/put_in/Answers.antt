@@ -7,27 +7,29 @@ use Rattle.move_maps.proofs.Tallied.{come_next}
 use Rattle.move_maps.proofs.tally.put_in.Goals as goal
 
 pub loop-item-init : goal.loop-item-init
-loop-item-init g c = (refl, λ kept t. t)
+loop-item-init c = (refl, λ kept t. t)
 
 pub paint_item-requires-clause-item : goal.paint_item-requires-clause-item
-paint_item-requires-clause-item g c = subst (IsItemOf c.args.d.now) (sym c.item-item.is)
+paint_item-requires-clause-item c = subst (IsItemOf c.args.group.now.d) (sym c.item-item.is)
     (c.requires.items c.loop-item.item-index c.item-item.result c.loop-item-test.true)
 
 pub paint_item-requires-clause-size : goal.paint_item-requires-clause-size
-paint_item-requires-clause-size g c = c.loop-item.invariant.0 ∙ c.requires.size
+paint_item-requires-clause-size c = c.loop-item.invariant.0 ∙ c.requires.size
 
 pub loop-item-preserved : goal.loop-item-preserved
-loop-item-preserved g c = (
+loop-item-preserved c = (
   c.paint_item.ensures.size ∙ c.loop-item.invariant.0,
-  λ kept t. come_next c.args.d.now c.args.lat.now c.args.g c.args.come.now c.loop-item.item-index c.item-item.result
+  λ kept t. come_next c.args.group.now.d c.args.group.now.lat c.args.group.now.first c.args.come.now
+      c.loop-item.item-index c.item-item.result
       kept c.loop-item.counts c.paint_item.new.counts c.loop-item-test.true c.item-item.is c.paint_item.ensures
       (c.loop-item.invariant.1 kept t),
 )
 
 pub returns-clause-size : goal.returns-clause-size
-returns-clause-size g c = c.loop-item.invariant.0
+returns-clause-size c = c.loop-item.invariant.0
 
 pub returns-clause-comes : goal.returns-clause-comes
-returns-clause-comes g c =
-    λ kept t. subst (λ (l : List Item). AreTallied c.args.d.now c.args.lat.now c.args.g (l ++ kept) c.loop-item.counts)
+returns-clause-comes c =
+    λ kept t. subst (λ (l : List Item). AreTallied c.args.group.now.d c.args.group.now.lat c.args.group.now.first (l
+    ++ kept) c.loop-item.counts)
     (take_all c.loop-item.item-index c.args.come.now c.loop-item-test.false) (c.loop-item.invariant.1 kept t)

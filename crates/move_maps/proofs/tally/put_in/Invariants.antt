@@ -5,6 +5,6 @@ use Rattle.move_maps.proofs.tally.put_in.Given as goal
 
 -- the items so far have come
 abbrev pub invariant-loop-item : goal.invariant-loop-item
-invariant-loop-item g l = (length l.counts ≡ length l.fn.counts)
-    × ((kept : List Item) → AreTallied l.d l.lat l.g kept l.fn.counts
-    → AreTallied l.d l.lat l.g (take l.item-index l.come ++ kept) l.counts)
+invariant-loop-item l = (length l.counts ≡ length l.fn.counts)
+    × ((kept : List Item) → AreTallied l.group.d l.group.lat l.group.first kept l.fn.counts
+    → AreTallied l.group.d l.group.lat l.group.first (take l.item-index l.come ++ kept) l.counts)

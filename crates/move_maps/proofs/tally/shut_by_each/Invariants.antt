@@ -4,4 +4,4 @@ use Rattle.move_maps.proofs.tally.shut_by_each.Given as goal
 
 -- the items so far have shut what they shut
 abbrev pub invariant-loop-item : goal.invariant-loop-item
-invariant-loop-item g l = Shuts l.d l.lat l.g (take l.item-index l.items) l.fn.counts l.counts
+invariant-loop-item l = Shuts l.group.d l.group.lat l.group.first (take l.item-index l.items) l.fn.counts l.counts

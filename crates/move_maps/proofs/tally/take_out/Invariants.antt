@@ -4,6 +4,6 @@ use Rattle.move_maps.specs.Paint.{AreTallied}
 use Rattle.move_maps.proofs.tally.take_out.Given as goal
 
 abbrev pub invariant-loop-item : goal.invariant-loop-item
-invariant-loop-item g l = (length l.counts ≡ length l.fn.counts)
-    × ((kept : List Item) → AreTallied l.d l.lat l.g (l.gone ++ kept) l.fn.counts
-    → AreTallied l.d l.lat l.g (drop l.item-index l.gone ++ kept) l.counts)
+invariant-loop-item l = (length l.counts ≡ length l.fn.counts)
+    × ((kept : List Item) → AreTallied l.group.d l.group.lat l.group.first (l.gone ++ kept) l.fn.counts
+    → AreTallied l.group.d l.group.lat l.group.first (drop l.item-index l.gone ++ kept) l.counts)

@@ -15,32 +15,33 @@ pub offset_bounds-as_slice-net : goal.offset_bounds-as_slice-net
 offset_bounds-as_slice-net c = omega (arith, c.ranges.net)
 
 pub bounds-as_slice-net : goal.bounds-as_slice-net
-bounds-as_slice-net c = subst (λ (xs : List Net). c.args.net < length xs) (sym c.as_slice.ensures) c.requires.net
+bounds-as_slice-net c = subst (λ (xs : List Net). c.args.net < length xs) (sym c.as_slice.ensures)
+    c.requires.can_move.net_there
 
 pub nonzero_div-padstack : goal.nonzero_div-padstack
 nonzero_div-padstack c =
     some_layers c.args.d.now c.args.lat.now c.args.net c.args.i _ _ c.index-as_slice-net.result _
     (ap (λ (ls : List ℕ). length ls) (c.as_slice-layers.ensures ∙ c.layers.ensures)) c.as_slice.ensures
-    c.index-as_slice-net.is c.as_slice-2.ensures c.requires.net c.requires.index c.requires.via
+    c.index-as_slice-net.is c.as_slice-2.ensures c.requires.can_move.net_there c.requires.index c.requires.via
 
 pub offset_bounds-as_slice-number : goal.offset_bounds-as_slice-number
 offset_bounds-as_slice-number c =
     let some = some_layers c.args.d.now c.args.lat.now c.args.net c.args.i _ _ c.index-as_slice-net.result _
     (ap (λ (ls : List ℕ). length ls) (c.as_slice-layers.ensures ∙ c.layers.ensures)) c.as_slice.ensures
-    c.index-as_slice-net.is c.as_slice-2.ensures c.requires.net c.requires.index c.requires.via in
+    c.index-as_slice-net.is c.as_slice-2.ensures c.requires.can_move.net_there c.requires.index c.requires.via in
     omega (arith, div_le (c.args.i - 4) (length c.as_slice-layers.result.now) some, c.ranges.i)
 
 pub bounds-as_slice-number : goal.bounds-as_slice-number
 bounds-as_slice-number c =
     via_there c.args.d.now c.args.lat.now c.args.net c.args.i _ _ c.index-as_slice-net.result _
     (ap (λ (ls : List ℕ). length ls) (c.as_slice-layers.ensures ∙ c.layers.ensures)) c.as_slice.ensures
-    c.index-as_slice-net.is c.as_slice-2.ensures c.requires.net c.requires.index c.requires.via
+    c.index-as_slice-net.is c.as_slice-2.ensures c.requires.can_move.net_there c.requires.index c.requires.via
 
 pub nonzero_rem-level : goal.nonzero_rem-level
 nonzero_rem-level c =
     some_layers c.args.d.now c.args.lat.now c.args.net c.args.i _ _ c.index-as_slice-net.result _
     (ap (λ (ls : List ℕ). length ls) (c.as_slice-layers.ensures ∙ c.layers.ensures)) c.as_slice.ensures
-    c.index-as_slice-net.is c.as_slice-2.ensures c.requires.net c.requires.index c.requires.via
+    c.index-as_slice-net.is c.as_slice-2.ensures c.requires.can_move.net_there c.requires.index c.requires.via
 
 pub bounds-layers-level : goal.bounds-layers-level
 bounds-layers-level c =
@@ -48,10 +49,10 @@ bounds-layers-level c =
     subst (λ n. (c.args.i - 4) % length c.as_slice-layers.result.now < n) (sym e)
     (level_there c.args.d.now c.args.lat.now c.args.net c.args.i _ _ c.index-as_slice-net.result _
     e c.as_slice.ensures c.index-as_slice-net.is
-    c.as_slice-2.ensures c.requires.net c.requires.index c.requires.via)
+    c.as_slice-2.ensures c.requires.can_move.net_there c.requires.index c.requires.via)
 
 pub node_on-requires-clause-few : goal.node_on-requires-clause-few
-node_on-requires-clause-few c = c.requires.few
+node_on-requires-clause-few c = c.requires.can_move.fits.few_nodes
 
 pub node_on-requires-clause-node : goal.node_on-requires-clause-node
 node_on-requires-clause-node c = c.requires.node
@@ -60,12 +61,12 @@ pub node_on-requires-clause-level : goal.node_on-requires-clause-level
 node_on-requires-clause-level c =
     level_there c.args.d.now c.args.lat.now c.args.net c.args.i _ _ c.index-as_slice-net.result _
     (ap (λ (ls : List ℕ). length ls) (c.as_slice-layers.ensures ∙ c.layers.ensures)) c.as_slice.ensures
-    c.index-as_slice-net.is c.as_slice-2.ensures c.requires.net c.requires.index c.requires.via
+    c.index-as_slice-net.is c.as_slice-2.ensures c.requires.can_move.net_there c.requires.index c.requires.via
 
 pub returns : goal.returns
 returns c = λ padstack layer to is.
     via_led c.args.d.now c.args.lat.now c.args.net c.args.node c.args.i c.node_on.result padstack layer to
     c.requires.via
     is c.as_slice.result.now c.index-as_slice-net.result c.as_slice-2.result.now c.as_slice-layers.result.now
-    c.as_slice.ensures c.requires.net c.as_slice-2.ensures (c.as_slice-layers.ensures ∙ c.layers.ensures)
+    c.as_slice.ensures c.requires.can_move.net_there c.as_slice-2.ensures (c.as_slice-layers.ensures ∙ c.layers.ensures)
     c.node_on.ensures

@@ -3,5 +3,5 @@ use Rattle.move_maps.specs.declared.window.Window.{Window}
 use Rattle.move_maps.specs.Windows.{IsPlaceOut}
 use Rattle.move_maps.proofs.window.is_out_of_all.Given as goal
 
-abbrev pub invariant-loop-w : goal.invariant-loop-w
-invariant-loop-w l = All (λ (w : Window). IsPlaceOut w l.column l.row) (take l.w-index l.windows)
+abbrev pub invariant-loop-window : goal.invariant-loop-window
+invariant-loop-window l = All (λ (w : Window). IsPlaceOut w l.column l.row) (take l.window-index l.windows)

@@ -5,6 +5,14 @@ use Rattle.move_maps.specs.Maps.{IsSized, AreMapsOf}
 use Rattle.move_maps.proofs.Following.{merged_left, all_sized, followed, follow_given, take_front}
 use Rattle.move_maps.proofs.map.MoveMaps.follow.Goals as goal
 
+pub invariant_of-on : goal.invariant_of-on
+invariant_of-on g c = record {
+  sound = c.requires.sound;
+  fits = c.requires.fits;
+  serves = c.requires.serves;
+  in_order = c.in_order.ensures.ascends;
+}
+
 pub change_all-requires-clause-gone : goal.change_all-requires-clause-gone
 change_all-requires-clause-gone g c =
     let h = c.requires.follows in

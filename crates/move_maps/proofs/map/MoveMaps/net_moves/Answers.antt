@@ -1,4 +1,4 @@
-use Rattle.std.proofs.Common.{◌<◌, ◌∙◌, length, sym, subst}
+use Rattle.std.proofs.Common.{◌<◌, length, sym, subst}
 use Rattle.pcb_model.specs.declared.design.Design.{Design}
 use Rattle.move_maps.proofs.Tallies.{can_move_at}
 use Rattle.move_maps.proofs.map.MoveMaps.net_moves.Goals as goal
@@ -28,21 +28,6 @@ returns-in_ok-of-in-Some-clause-none g c = tt
 
 pub returns-in_ok-of-in-Some-clause-mapped : goal.returns-in_ok-of-in-Some-clause-mapped
 returns-in_ok-of-in-Some-clause-mapped g c = c.in-Some.ensures.mapped
-
-pub returns-in_ok-of-in-Some-clause-lat : goal.returns-in_ok-of-in-Some-clause-lat
-returns-in_ok-of-in-Some-clause-lat g c = c.in_ok-of-in-Some.ensures.lat ∙ c.in-Some.ensures.lat
-
-pub returns-in_ok-of-in-Some-clause-d : goal.returns-in_ok-of-in-Some-clause-d
-returns-in_ok-of-in-Some-clause-d g c = c.in_ok-of-in-Some.ensures.d ∙ c.in-Some.ensures.d
-
-pub returns-in_ok-of-in-Some-clause-c : goal.returns-in_ok-of-in-Some-clause-c
-returns-in_ok-of-in-Some-clause-c g c = c.in_ok-of-in-Some.ensures.c ∙ c.in-Some.ensures.c
-
-pub returns-in_ok-of-in-Some-clause-net : goal.returns-in_ok-of-in-Some-clause-net
-returns-in_ok-of-in-Some-clause-net g c = c.in_ok-of-in-Some.ensures.net ∙ c.in-Some.ensures.net
-
-pub returns-in_ok-of-in-Some-clause-via_cost : goal.returns-in_ok-of-in-Some-clause-via_cost
-returns-in_ok-of-in-Some-clause-via_cost g c = c.in_ok-of-in-Some.ensures.via_cost ∙ c.in-Some.ensures.via_cost
 
 pub returns-in-None-clause-none : goal.returns-in-None-clause-none
 returns-in-None-clause-none g c = c.in-None.ensures.none

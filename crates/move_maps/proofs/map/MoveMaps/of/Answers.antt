@@ -3,6 +3,14 @@ use Rattle.move_maps.specs.Groups.{AreMapped}
 use Rattle.move_maps.specs.Starts.{AreInner}
 use Rattle.move_maps.proofs.map.MoveMaps.of.Goals as goal
 
+pub invariant_of-on : goal.invariant_of-on
+invariant_of-on g c = record {
+  sound = c.requires.sound;
+  fits = c.requires.fits;
+  serves = c.requires.serves;
+  in_order = c.in_order.ensures.ascends;
+}
+
 pub maps_for-requires-clause-inner : goal.maps_for-requires-clause-inner
 maps_for-requires-clause-inner g c =
     let m = c.args.lat.now in

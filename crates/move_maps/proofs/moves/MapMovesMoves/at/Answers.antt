@@ -1,16 +1,14 @@
-use Rattle.std.proofs.Common.{ℕ, Some, sym, ap, ◌∙◌}
+use Rattle.std.proofs.Common.{ℕ, Some, sym, ap, ◌∙◌, arith}
 use Rattle.std.proofs.lemmas.Bool.{OnTrue_at}
 use Rattle.route_lattice.specs.declared.moves.Move.{Move}
 use Rattle.move_maps.proofs.moves.MapMovesMoves.at.Goals as goal
 
 pub is_step-requires-clause-ready : goal.is_step-requires-clause-ready
-is_step-requires-clause-ready g c = c.requires.ready.0.0
-
-pub is_step-requires-clause-map : goal.is_step-requires-clause-map
-is_step-requires-clause-map g c = c.requires.ready.1
-
-pub is_step-requires-clause-alike : goal.is_step-requires-clause-alike
-is_step-requires-clause-alike g c = c.requires.ready.2
+is_step-requires-clause-ready g c = record {
+  can_move = c.requires.ready.0.0;
+  map = c.requires.ready.1;
+  alike = c.requires.ready.2;
+}
 
 pub is_step-requires-clause-node : goal.is_step-requires-clause-node
 is_step-requires-clause-node g c = c.requires.node
@@ -33,13 +31,11 @@ returns-then-is_step g c =
     ap (λ (w : Move × ℕ). Some w) (c.step_to.ensures h.to h.there) ∙ sym h.way_is
 
 pub is_via-requires-clause-ready : goal.is_via-requires-clause-ready
-is_via-requires-clause-ready g c = c.requires.ready.0.0
-
-pub is_via-requires-clause-map : goal.is_via-requires-clause-map
-is_via-requires-clause-map g c = c.requires.ready.1
-
-pub is_via-requires-clause-alike : goal.is_via-requires-clause-alike
-is_via-requires-clause-alike g c = c.requires.ready.2
+is_via-requires-clause-ready g c = record {
+  can_move = c.requires.ready.0.0;
+  map = c.requires.ready.1;
+  alike = c.requires.ready.2;
+}
 
 pub is_via-requires-clause-node : goal.is_via-requires-clause-node
 is_via-requires-clause-node g c = c.requires.node
@@ -47,20 +43,13 @@ is_via-requires-clause-node g c = c.requires.node
 pub is_via-requires-clause-index : goal.is_via-requires-clause-index
 is_via-requires-clause-index g c = c.requires.index
 
-pub via_to-requires-clause-sound : goal.via_to-requires-clause-sound
-via_to-requires-clause-sound g c = c.requires.ready.0.0.sound
-
-pub via_to-requires-clause-fits : goal.via_to-requires-clause-fits
-via_to-requires-clause-fits g c = c.requires.ready.0.0.fits
-
-pub via_to-requires-clause-net : goal.via_to-requires-clause-net
-via_to-requires-clause-net g c = c.requires.ready.0.0.net_there
+pub via_to-requires-clause-can_move : goal.via_to-requires-clause-can_move
+via_to-requires-clause-can_move g c =
+    let k = c.requires.ready.0.0 in
+    record { sound = k.sound; fits = k.fits; net_there = k.net_there; small_cost = omega arith }
 
 pub via_to-requires-clause-node : goal.via_to-requires-clause-node
 via_to-requires-clause-node g c = c.requires.node
-
-pub via_to-requires-clause-few : goal.via_to-requires-clause-few
-via_to-requires-clause-few g c = c.requires.ready.0.0.fits.few_nodes
 
 pub via_to-requires-clause-via : goal.via_to-requires-clause-via
 via_to-requires-clause-via g c = (OnTrue_at c.if-is_via.true c.is_via.ensures).is_via

@@ -32,3 +32,17 @@ price-requires-clause-ready g c = c.requires.ready.0
 
 pub returns : goal.returns
 returns g c = c.price.ensures
+
+pub is_step-requires-clause-ready : goal.is_step-requires-clause-ready
+is_step-requires-clause-ready g c = record {
+  can_move = c.requires.ready.0.0;
+  map = c.requires.ready.1;
+  alike = c.requires.ready.2;
+}
+
+pub is_via-requires-clause-ready : goal.is_via-requires-clause-ready
+is_via-requires-clause-ready g c = record {
+  can_move = c.requires.ready.0.0;
+  map = c.requires.ready.1;
+  alike = c.requires.ready.2;
+}

@@ -13,6 +13,7 @@ returns g c =
     on_then c.is_off.result (IsOutOfAll s.legal.lat.now c.args.self.now.own c.args.node)
     (¬ (IsOpen s.legal.d.now items s.legal.net
     (probe_at s.legal.d.now s.legal.lat.now s.legal.net c.args.node c.args.i)))
-    (map_shut s.legal.d.now s.legal.lat.now items s.map.now s.legal.net c.args.node c.args.i c.args.tally c.requires.map
-    c.requires.alike c.requires.node c.requires.index c.requires.tally c.args.self.now.own c.requires.own few
+    (map_shut s.legal.d.now s.legal.lat.now items s.map.now s.legal.net c.args.node c.args.i c.args.tally
+    c.requires.ready.map
+    c.requires.ready.alike c.requires.node c.requires.index c.requires.tally c.args.self.now.own c.requires.own few
     c.requires.counted) (OnTrue_from c.is_off.result _ c.is_off.ensures.0)

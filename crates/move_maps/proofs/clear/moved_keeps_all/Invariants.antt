@@ -1,8 +1,0 @@
-use Rattle.std.proofs.Common.{take, All}
-use Rattle.pcb_model.specs.declared.item.Piece.{Piece}
-use Rattle.pcb_model.specs.Pairs.{PieceKeeps}
-use Rattle.pcb_model.specs.Pieces.{moved_piece}
-use Rattle.move_maps.proofs.clear.moved_keeps_all.Given as goal
-
-abbrev pub invariant-loop-r : goal.invariant-loop-r
-invariant-loop-r l = All (λ (r : Piece). PieceKeeps l.c (moved_piece l.by l.p) r) (take l.r-index l.rs)

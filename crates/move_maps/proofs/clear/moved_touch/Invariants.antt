@@ -1,8 +1,0 @@
-use Rattle.std.proofs.Common.{take, All}
-use Rattle.pcb_model.specs.declared.item.Piece.{Piece}
-use Rattle.pcb_model.specs.Pairs.{TouchesSome}
-use Rattle.pcb_model.specs.Pieces.{moved_piece}
-use Rattle.move_maps.proofs.clear.moved_touch.Given as goal
-
-abbrev pub invariant-loop-p : goal.invariant-loop-p
-invariant-loop-p l = All (λ (p : Piece). ¬ (TouchesSome l.rs (moved_piece l.by p))) (take l.p-index l.ps)

@@ -12,7 +12,7 @@ use Rattle.route_plan.specs.Sights.{IsSightOf, IsLater, IsSeenOn}
 use Rattle.route_plan.proofs.Seeing.{BoardsServe, IdsStay, some_later, seen_now, still_seen}
 use Rattle.route_plan.specs.declared.plans.Planned.{Planned}
 use Rattle.route_plan.specs.Plans.{CanPlan, IsSnapOf, Plans}
-use Rattle.board_turn.specs.declared.Event.{Event}
+use Rattle.board_turn.specs.declared.event.Event.{Event}
 use Rattle.board_turn.specs.Events.{Reaches, IsPrefix}
 use Rattle.board_turn.specs.Turns.{TurnOf, opening}
 use Rattle.board_turn.proofs.EventLists.{reaches_grows, reaches_one, reaches_parts}

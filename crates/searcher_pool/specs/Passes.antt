@@ -14,9 +14,9 @@ use Rattle.least_offer.specs.Least.{IsLeastOffer}
 use Rattle.least_offer.specs.Late.{IsFair}
 use Rattle.route_plan.specs.Plans.{IsWhole, IsShutIn}
 use Rattle.board_turn.specs.Claims.{times, once_below}
-use Rattle.board_turn.specs.declared.Deed.{Deed}
-use Rattle.board_turn.specs.declared.Deed.TheVariants.{Looked, Offered, Idle}
-use Rattle.board_turn.specs.declared.Event.{Event}
+use Rattle.board_turn.specs.declared.event.Deed.{Deed}
+use Rattle.board_turn.specs.declared.event.Deed.TheVariants.{Looked, Offered, Idle}
+use Rattle.board_turn.specs.declared.event.Event.{Event}
 use Rattle.board_turn.specs.Events.{Reaches, own}
 use Rattle.searcher_pool.specs.declared.log.OfferNote.{OfferNote}
 use Rattle.searcher_pool.specs.declared.log.WorkerLog.{WorkerLog}

@@ -13,9 +13,9 @@ use Rattle.route_plan.specs.declared.sight.Sight.{Sight}
 use Rattle.route_plan.specs.Sights.{IsSeenOn}
 use Rattle.route_plan.specs.Plans.{IsOfferOf}
 use Rattle.board_turn.specs.Claims.{CounterOf}
-use Rattle.board_turn.specs.declared.Deed.{Deed}
-use Rattle.board_turn.specs.declared.Deed.TheVariants.{Offered}
-use Rattle.board_turn.specs.declared.Event.{Event}
+use Rattle.board_turn.specs.declared.event.Deed.{Deed}
+use Rattle.board_turn.specs.declared.event.Deed.TheVariants.{Offered}
+use Rattle.board_turn.specs.declared.event.Event.{Event}
 use Rattle.board_turn.specs.Events.{Reaches, own, IsPrefix}
 use Rattle.board_turn.specs.Turns.{TurnOf, opening, count_of}
 use Rattle.board_turn.specs.Turns as turn

@@ -12,6 +12,7 @@ use Rattle.dsn_shapes.specs.declared.refusal.Refusal.{Refusal}
 use Rattle.dsn_shapes.specs.declared.refusal.What.TheVariants.{Nothing}
 use Rattle.dsn_shapes.specs.declared.refusal.DesignFault.{DesignFault}
 use Rattle.dsn_shapes.specs.declared.refusal.DesignFault.TheVariants as design
+use Rattle.dsn_shapes.specs.declared.table.TheConstants.{BAD_PAIR}
 use Rattle.dsn_shapes.specs.Refusals.{refused}
 use Rattle.dsn_shapes.specs.Limits.{most_of}
 use Rattle.dsn_design.specs.Reading.{HasRefusal, ReadsDesign}
@@ -48,7 +49,7 @@ lacks text (design.Memory e) r reads is = absurd (none-some r is)
 -- ---- the table of refusals
 record IsKnown (r : Refusal) : Type 0 where
   from : 1 ≤ r.number
-  to : r.number ≤ 24
+  to : r.number ≤ BAD_PAIR
   counts : r.number ≡ limit_number → r.what ≢ Nothing
   most : r.number ≡ limit_number → r.limit ≡ most_of r.what
 

@@ -60,7 +60,10 @@ static NOTES: [(Fault, &str); 6] = [
         Fault::Report,
         "dsnroute: standard output can't be written\n",
     ),
-    (Fault::Memory, "dsnroute: memory was wanting\n"),
+    (
+        Fault::Memory,
+        "dsnroute: memory was wanting, or the design has more than 16777216 class pairs\n",
+    ),
 ];
 
 #[test]

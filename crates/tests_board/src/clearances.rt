@@ -30,7 +30,7 @@ const RULES: &str = "(pcb rules
     (class_class (classes fast slow) (rule (clearance 80 (type smd_smd)) (clearance 60 (type wire_via))))
     (class_class (classes fast slow) (rule (clearance 70 (type via_wire)) (clearance 210)))
     (class_class (classes slow slow) (rule (clearance 40)))
-    (class_class (classes slow plain) (rule (clearance 55 (type pin_pin)))))";
+    (class_class (classes slow plain) (rule (clearance 55 (type pin_pin))))))";
 
 /// What a test says of the rules.
 enum Rule {

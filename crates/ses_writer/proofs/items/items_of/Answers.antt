@@ -33,10 +33,10 @@ returns-in_default-checked_add c =
     c.in-Some.ensures in
     pushed
     ∙ (all_by items (done ++ item ∷ []) (item.id + 1) (2 ^ 64) more high c.in_order.ensures.ids
-    ∙ c.items-copper.ensures)
+    ∙ c.items-copper.ensures.items)
 
 pub returns : goal.returns
 returns c =
     let items = c.items-copper.result.now.items in
     all_below items c.loop-item.items c.loop-item.from c.loop-item.invariant c.in_default.ensures
-    ∙ c.items-copper.ensures
+    ∙ c.items-copper.ensures.items

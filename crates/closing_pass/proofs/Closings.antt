@@ -20,7 +20,7 @@ use Rattle.pcb_board.specs.Boards.{BoardOf, board_at}
 use Rattle.pcb_board.specs.Keeping.{IsBoard}
 use Rattle.least_offer.specs.Least.{IsLeastOffer}
 use Rattle.closing_pass.specs.Closing.{IsBareJoin, JoinsBy}
-use Rattle.closing_pass.specs.Steps.{IsShutAt, IsClosed, IsClosedOn, GrowsBy, JoinsNet}
+use Rattle.closing_pass.specs.inner.Steps.{IsShutAt, IsClosed, IsClosedOn, GrowsBy, JoinsNet}
 use Rattle.closing_pass.proofs.Staying.{closed_later}
 
 -- ---- joins

@@ -9,12 +9,13 @@ use Rattle.pcb_islands.proofs.Elements.{look_cases}
 use Rattle.route_lattice.specs.Mesh.{Mesh}
 use Rattle.cut_certificate.specs.declared.cut.Cut.{Cut}
 use Rattle.cut_certificate.specs.Cuts.{Cuts}
-use Rattle.closing_pass.specs.Closing.{Ends, AreEnds}
+use Rattle.closing_pass.specs.Closing.{CanClose, Ends, AreEnds}
 use Rattle.pcb_model.specs.Sound.{Serves}
 use Rattle.pcb_board.specs.Boards.{BoardOf, SnapOf}
 use Rattle.pcb_board.specs.Answers.{snap_of}
 use Rattle.pcb_board.specs.Keeping.{IsBoard}
-use Rattle.closing_pass.specs.Steps.{CanClose, CanCut, IsShutAt, IsClosed, IsClosedOn}
+use Rattle.closing_pass.specs.inner.Steps.{IsShutAt, IsClosed, IsClosedOn}
+use Rattle.closing_pass.specs.inner.ClosedBoard.{CanCut, AreAllClosed}
 
 -- ---- islands of a net
 -- the first n islands have their cuts
@@ -80,9 +81,10 @@ ends_more d m via_cost items n ends more cuts have ending is = record {
 }
 
 -- ---- a snapshot of the board
-module _ (m : Mesh) (via_cost : ℕ) (b : BoardOf) (s : SnapOf) (is : s ≡ snap_of b) where
+module _ (m : Mesh) (via_cost : ℕ) (b : BoardOf) (s : SnapOf) (d : Design) (is : s ≡ snap_of b)
+    (d_is : d ≡ s.design) where
   -- its islands and cuts may be asked for
-  pub can_cut : CanClose m via_cost b.design → IsBoard b → Serves b.items b.design → CanCut s.design m via_cost s
+  pub can_cut : CanClose m via_cost b.design → IsBoard b → Serves b.items b.design → CanCut d m via_cost s
   can_cut can kept serves =
       let here : CanCut b.design m via_cost (snap_of b) = record {
         sound = kept.sound;
@@ -91,18 +93,20 @@ module _ (m : Mesh) (via_cost : ℕ) (b : BoardOf) (s : SnapOf) (is : s ≡ snap
         own = refl;
         serves = serves;
       } in
-      subst (λ (x : SnapOf). CanCut x.design m via_cost x) (sym is) here
+      subst (λ (e : Design). CanCut e m via_cost s) (sym d_is)
+      (subst (λ (x : SnapOf). CanCut x.design m via_cost x) (sym is) here)
 
   -- what is closed on the board is closed there
-  pub closed_there : ((net : ℕ) → net < length b.design.nets → IsClosed m via_cost b net) → (net : ℕ)
-      → net < length s.design.nets → IsClosedOn s.design m via_cost s.items net
+  pub closed_there : ((net : ℕ) → net < length b.design.nets → IsClosed m via_cost b net)
+      → AreAllClosed d m via_cost s.items
   closed_there closed =
-      subst (λ (x : SnapOf). (net : ℕ) → net < length x.design.nets → IsClosedOn x.design m via_cost x.items net)
-      (sym is) closed
+      subst (λ (e : Design). AreAllClosed e m via_cost s.items) (sym d_is)
+      (subst (λ (x : SnapOf). AreAllClosed x.design m via_cost x.items) (sym is) closed)
 
   -- and how nets end there they end on the board
   pub ends_here : {E : Type 0} (r : Result (List (List Cut)) E)
-      → IfOk r (AreEnds s.design m via_cost s.items (length s.design.nets))
+      → IfOk r (AreEnds d m via_cost s.items (length d.nets))
       → IfOk r (AreEnds b.design m via_cost b.items (length b.design.nets))
   ends_here r h =
-      subst (λ (x : SnapOf). IfOk r (AreEnds x.design m via_cost x.items (length x.design.nets))) is h
+      subst (λ (x : SnapOf). IfOk r (AreEnds x.design m via_cost x.items (length x.design.nets))) is
+      (subst (λ (e : Design). IfOk r (AreEnds e m via_cost s.items (length e.nets))) d_is h)

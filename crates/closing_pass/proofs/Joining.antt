@@ -31,10 +31,11 @@ use Rattle.pcb_board.specs.Answers.{Step, joined, known, snap_of}
 use Rattle.pcb_board.specs.Keeping.{IsBoard}
 use Rattle.least_offer.specs.Least.{IsLeastOffer, TakesNothing, MayBeMade}
 use Rattle.cut_certificate.specs.Cuts.{LeadsOn}
-use Rattle.route_plan.specs.declared.plans.Led.{Led}
-use Rattle.route_plan.specs.Plans.{IsSnapOf, CanPlan, StandsAt, LeadsFrom, IsShutFrom, IsOfferOf}
-use Rattle.closing_pass.specs.Closing.{IsBareJoin, JoinsBy}
-use Rattle.closing_pass.specs.Steps.{CanClose, IsShutAt, HasFewer, GrowsBy, JoinsNet}
+use Rattle.route_plan.specs.declared.plans.FromIsland.{FromIsland}
+use Rattle.route_plan.specs.Planners.{PlannerOf, CanSearch, planner_of}
+use Rattle.route_plan.specs.Plans.{StandsAt, LeadsFrom, LeadsOut, IsShutFrom, IsOfferOf}
+use Rattle.closing_pass.specs.Closing.{CanClose, IsBareJoin, JoinsBy}
+use Rattle.closing_pass.specs.inner.Steps.{IsShutAt, HasFewer, GrowsBy, JoinsNet}
 use Rattle.closing_pass.proofs.Places.{other_place}
 
 -- ---- the new items
@@ -236,45 +237,38 @@ pub net_at : (d : Design) (items : List Item) (net : ℕ) (found : List Island) 
 net_at d items net found place island islands at = (island_at d items net (pins_of d net) found place island islands
     at).net_is
 
--- what a plan asks
-pub can_plan : (b : BoardOf) (m : Mesh) (via_cost net n : ℕ) (d : Design) (s : SnapOf)
-    → CanClose m via_cost b.design → IsBoard b → Serves b.items b.design
-    → net < length b.design.nets → s ≡ snap_of b → d ≡ s.design → n ≡ net → CanPlan d m s n via_cost None
-can_plan b m via_cost net n d s can kept serves there s_is d_is n_is =
-    let here : CanPlan b.design m (snap_of b) net via_cost None = record {
+-- what a planner stands on
+pub can_search : (b : BoardOf) (m : Mesh) (via_cost : ℕ) (s : SnapOf) → CanClose m via_cost b.design → IsBoard b
+    → Serves b.items b.design → s ≡ snap_of b → CanSearch m s via_cost 16
+can_search b m via_cost s can kept serves s_is =
+    let here : CanSearch m (snap_of b) via_cost 16 = record {
       sound = kept.sound;
-      plain = kept.plain;
+      plain = can.plain;
       fits = can.fits;
-      own = refl;
       serves = serves;
-      net_there = there;
       small_cost = can.small_cost;
-      small_penalty = tt;
+      closer = omega arith;
     } in
-    let design : d ≡ b.design = d_is ∙ ap (λ (x : SnapOf). x.design) s_is in
-    subst (λ (x : Design). CanPlan x m s n via_cost None) (sym design)
-    (subst (λ (x : SnapOf). CanPlan b.design m x n via_cost None) (sym s_is)
-    (subst (λ (x : ℕ). CanPlan b.design m (snap_of b) x via_cost None) (sym n_is) here))
+    subst (λ (x : SnapOf). CanSearch m x via_cost 16) (sym s_is) here
 
 -- what it answers of the board
-pub leads_there : {E : Type 0} (b : BoardOf) (m : Mesh) (via_cost : ℕ) (s : SnapOf) (others : List Island)
-    (island : Island) (r : Result Led E) → IsBoard b → s ≡ snap_of b
-    → IfOk r (λ (led : Led). (c : BoardOf) (k : ℕ) → IsSnapOf s c
-    → StandsAt c.design c.items island.net k island others → (16 < 16 → k ≡ 0)
-    → LeadsFrom m via_cost c 16 island others led)
-    → IfOk r (λ (led : Led). (k : ℕ) → StandsAt b.design b.items island.net k island others
-    → LeadsFrom m via_cost b 16 island others led)
-leads_there b m via_cost s others island (Ok led) kept s_is leads = λ k stands.
-    leads b k (record { board = kept; is = sym s_is; plain = kept.plain }) stands
-    (λ never. absurd (omega (arith, never)))
-leads_there b m via_cost s others island (Err e) kept s_is leads = leads
+pub leads_there : {E : Type 0} (b : BoardOf) (m : Mesh) (via_cost : ℕ) (s : SnapOf) (p : PlannerOf)
+    (others : List Island) (island : Island) (r : Result FromIsland E) → CanClose m via_cost b.design → IsBoard b
+    → s ≡ snap_of b → p ≡ planner_of m s via_cost 16 → IfOk r (LeadsOut p None island others)
+    → IfOk r (λ (led : FromIsland). (k : ℕ) → StandsAt b.design b.items island.net k island others
+    → LeadsFrom m via_cost b 16 None island others led)
+leads_there b m via_cost s p others island (Ok led) can kept s_is p_is leads = λ k stands.
+    subst (λ (x : PlannerOf). LeadsOut x None island others led) p_is leads b k
+    (record { board = kept; is = sym s_is; plain = can.plain }) stands (λ never. absurd (omega (arith, never)))
+leads_there b m via_cost s p others island (Err e) can kept s_is p_is leads = leads
 
 -- for the island at a place
 pub led_on : (b : BoardOf) (m : Mesh) (via_cost net place : ℕ) (found others : List Island) (island : Island)
-    (led : Led) → AreIslands b.design b.items net found → slice_get found place ≡ Some island
+    (led : FromIsland) → AreIslands b.design b.items net found → slice_get found place ≡ Some island
     → others ≡ remove found place
-    → ((k : ℕ) → StandsAt b.design b.items island.net k island others → LeadsFrom m via_cost b 16 island others led)
-    → LeadsFrom m via_cost b 16 island others led
+    → ((k : ℕ) → StandsAt b.design b.items island.net k island others
+    → LeadsFrom m via_cost b 16 None island others led)
+    → LeadsFrom m via_cost b 16 None island others led
 led_on b m via_cost net place found others island led islands at rest leads =
     leads place (record {
       found = found;

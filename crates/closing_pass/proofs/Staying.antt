@@ -15,7 +15,7 @@ use Rattle.route_lattice.specs.Mesh.{Mesh}
 use Rattle.route_lattice.specs.Anchors.{AnchorsAmong}
 use Rattle.route_lattice.specs.Legal.{IsLegalProbe, IsOpen, probe_at, legal_graph}
 use Rattle.cut_certificate.specs.Cuts.{LeadsOn}
-use Rattle.closing_pass.specs.Steps.{IsShutAt, IsClosedOn}
+use Rattle.closing_pass.specs.inner.Steps.{IsShutAt, IsClosedOn}
 use Rattle.closing_pass.proofs.Places.{other_place}
 
 -- an item of the list has the id

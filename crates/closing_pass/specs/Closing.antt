@@ -1,10 +1,12 @@
 -- What a closing pass leaves: joins by least walks, and how each net ends.
-use Rattle.std.specs.Prelude.{◌≡◌, ◌⊎◌, ℕ, ◌+◌, ◌≤◌, List, [], ◌++◌, length, remove, All, None, Some, slice_get}
+use Rattle.std.specs.Prelude.{◌≡◌, ◌⊎◌, ℕ, ◌+◌, ◌≤◌, ◌^◌, List, [], ◌++◌, length, remove, All, None, Some, slice_get}
 use Rattle.pcb_model.specs.declared.item.Item.{Item}
 use Rattle.pcb_model.specs.declared.design.Design.{Design}
 use Rattle.pcb_islands.specs.declared.net.Island.{Island}
 use Rattle.pcb_islands.specs.Islands.{AreIslands, IsComplete}
+use Rattle.pcb_model.specs.Plain.{IsPlainCopper}
 use Rattle.route_lattice.specs.Mesh.{Mesh}
+use Rattle.route_lattice.specs.Fits.{FitsDesign}
 use Rattle.cut_certificate.specs.declared.cut.Cut.{Cut}
 use Rattle.cut_certificate.specs.Cuts.{Cuts}
 use Rattle.board_offers.specs.declared.offer.Offer.{Offer}
@@ -14,6 +16,12 @@ use Rattle.pcb_board.specs.Boards.{BoardOf, board_at}
 use Rattle.least_offer.specs.Least.{IsLeastOffer, TakesNothing}
 use Rattle.closing_pass.specs.declared.closed.Closed.{Closed}
 use Rattle.board_offers.specs.declared.offer.TheConstants.{CLOSER}
+
+-- what is asked of a board's design: it is of plain copper, the lattice fits it, and the price of a via is small
+pub record CanClose (m : Mesh) (via_cost : ℕ) (d : Design) : Type 0 where
+  pub plain : IsPlainCopper d
+  pub fits : FitsDesign d m
+  pub small_cost : via_cost ≤ 2 ^ 30
 
 -- ---- joins
 -- a join of the worker that rips and shoves nothing, and bears no penalty

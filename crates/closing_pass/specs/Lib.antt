@@ -1,5 +1,5 @@
 pub mod Closing
-pub mod Steps
+pub mod inner
 pub mod Settled
 pub mod Gate
 pub mod Ids

@@ -4,9 +4,9 @@
 ghost use Rattle.std.specs.Prelude.{◌≡◌, ◌<◌, ◌≤◌, ℕ, IfOk, OnOk, OnErr, IsTrue, length};
 ghost use Rattle.pcb_islands.specs.Islands.{AreIslands};
 ghost use Rattle.closing_pass.specs.Closing.{Closes};
-ghost use Rattle.closing_pass.specs.Steps.{CanClose, AreReady, TriesSome, HasFewer, JoinsNet, IsClosed};
+ghost use Rattle.closing_pass.specs.inner.Steps.{AreReady, HasIslands, TriesSome, HasFewer, JoinsNet, IsClosed};
 
-use crate::join::{Means, Task};
+use crate::join::{Closer, SearchState};
 use geo_kernel::List;
 use pcb_board::{Board, boards_serve};
 use pcb_islands::{Island, islands, others_change_nothing};
@@ -25,29 +25,27 @@ fn islands_on(alloc: Global, board: &Board, net: u32) -> Result<List<Island>, Al
     found
 }
 
-impl Task<'_> {
+impl Closer<'_> {
     /// Joins some island of a net to another; false where none leads on.
     fn join_some(
         &self,
         alloc: Global,
-        means: &mut Means,
+        state: &mut SearchState,
         board: &mut Board,
         net: u32,
         found: List<Island>,
     ) -> Result<bool, AllocError>
-        requires can { CanClose self.now.lat.now self.now.via_cost board.old.design }
-        requires ready { AreReady self.now.lat.now board.old means.old }
-        requires net { net < length board.old.design.nets }
-        requires islands { AreIslands board.old.design board.old.items net found }
+        requires ready { AreReady self.now.lat.now self.now.via_cost board.old state.old }
+        requires islands { HasIslands board.old.design board.old.items net found }
         ensures tries { IfOk result (TriesSome self.now.lat.now self.now.via_cost found board.old board.new) }
         ensures fewer { IfOk result (λ t. IsTrue t → HasFewer net board.new found) }
         ensures joins { OnOk result (JoinsNet self.now.lat.now self.now.via_cost net board.old board.new) }
         ensures err { OnErr result (board.new ≡ board.old) }
-        ensures ready { AreReady self.now.lat.now board.new means.new }
+        ensures ready { AreReady self.now.lat.now self.now.via_cost board.new state.new }
     {
         let mut found = found;
         for place in 0..found.len() {
-            let (same, joined) = self.join_at(alloc, means, board, net, found, place)?;
+            let (same, joined) = self.join_at(alloc, state, board, net, found, place)?;
             if joined {
                 return Ok(true);
             }
@@ -60,20 +58,19 @@ impl Task<'_> {
     fn close(
         &self,
         alloc: Global,
-        means: &mut Means,
+        state: &mut SearchState,
         board: &mut Board,
         net: u32,
     ) -> Result<(), AllocError>
-        requires can { CanClose self.now.lat.now self.now.via_cost board.old.design }
-        requires ready { AreReady self.now.lat.now board.old means.old }
+        requires ready { AreReady self.now.lat.now self.now.via_cost board.old state.old }
         requires net { net < length board.old.design.nets }
         ensures closed { OnOk result (IsClosed self.now.lat.now self.now.via_cost board.new net) }
         ensures joins { JoinsNet self.now.lat.now self.now.via_cost net board.old board.new }
-        ensures ready { AreReady self.now.lat.now board.new means.new }
+        ensures ready { AreReady self.now.lat.now self.now.via_cost board.new state.new }
     {
         let mut found = islands_on(alloc, board, net)?;
         while found.len() > 1 {
-            if !self.join_some(alloc, means, board, net, found)? {
+            if !self.join_some(alloc, state, board, net, found)? {
                 return Ok(());
             }
             found = islands_on(alloc, board, net)?;
@@ -85,21 +82,20 @@ impl Task<'_> {
     pub(crate) fn close_all(
         &self,
         alloc: Global,
-        means: &mut Means,
+        state: &mut SearchState,
         board: &mut Board,
     ) -> Result<(), AllocError>
-        requires can { CanClose self.now.lat.now self.now.via_cost board.old.design }
-        requires ready { AreReady self.now.lat.now board.old means.old }
+        requires { AreReady self.now.lat.now self.now.via_cost board.old state.old }
         ensures closed { OnOk result ((net : ℕ) → net < length board.new.design.nets
             → IsClosed self.now.lat.now self.now.via_cost board.new net) }
         ensures closes { Closes self.now.lat.now self.now.via_cost board.old board.new }
-        ensures ready { AreReady self.now.lat.now board.new means.new }
+        ensures ready { AreReady self.now.lat.now self.now.via_cost board.new state.new }
     {
         others_change_nothing();
         boards_serve();
         board.keeps();
         for net in 0..board.design().nets.len() as u32 {
-            self.close(alloc, means, board, net)?;
+            self.close(alloc, state, board, net)?;
             board.keeps();
         }
         Ok(())

@@ -1,34 +1,40 @@
 //! Joins: an island of a net is joined to another one by an offer of a least legal walk.
 //! Such an offer is planned on the board as it is, so it is always taken.
 
-ghost use Rattle.std.specs.Prelude.{◌≡◌, ◌<◌, ◌≤◌, ◌^◌, ℕ, insert, not, IfOk, OnOk, OnErr, IsTrue, length};
-ghost use Rattle.pcb_islands.specs.Islands.{AreIslands};
+ghost use Rattle.std.specs.Prelude.{◌≡◌, ◌<◌, ◌≤◌, ◌^◌, ℕ, None, insert, not, IfOk, OnOk, OnErr, IsTrue, length};
 ghost use Rattle.pcb_board.specs.Answers.{joined};
-ghost use Rattle.least_offer.specs.Least.{MayBeMade};
-ghost use Rattle.route_plan.specs.Plans.{StandsAt, LeadsFrom};
-ghost use Rattle.closing_pass.specs.Steps.{CanClose, AreReady, Tries, HasFewer, JoinsNet};
+ghost use Rattle.route_plan.specs.Plans.{IsOfferOf, StandsAt, LeadsFrom};
+ghost use Rattle.closing_pass.specs.inner.Steps.{AreReady, HasIslandAt, Tries, HasFewer, JoinsNet};
 
 use geo_kernel::List;
+use move_maps::MoveMaps;
 use pcb_board::{Board, CLOSER, Offer, boards_serve, ids_stay};
 use pcb_islands::{Island, islands_are_one, joining_falls};
 use route_lattice::Lattice;
-use route_plan::{Led, Sight, offer_by_maps, see};
+use route_plan::{FromIsland, MappedSnap, Planner, map_snap};
 use std::alloc::{AllocError, Global};
 use wave_search::Search;
 
 /// What a board is closed with: a lattice, and the price of a via in nm.
 #[derive(Clone, Copy)]
-pub(crate) struct Task<'a> {
+pub(crate) struct Closer<'a> {
     pub lat: &'a Lattice,
     pub via_cost: u64,
 }
 
-/// What the searches of the pass share: their memory, and what was seen last of the board, with maps of the moves on
-/// it.
+/// What the searches of the pass share: their memory, and what was mapped last of the board.
 #[derive(Drop)]
-pub(crate) struct Means {
+pub(crate) struct SearchState {
     pub search: Search,
-    pub sight: Option<Sight>,
+    pub mapped: Option<MappedSnap>,
+}
+
+/// No maps. Beside references of two lifetimes the borrow checker finds none for a bare `None`.
+pub(crate) fn no_maps(lat: &Lattice) -> Option<&MoveMaps>
+    ensures { result ≡ None }
+{
+    let _lat = lat;
+    None
 }
 
 /// Puts an island back among others, at its place.
@@ -45,56 +51,46 @@ pub(crate) fn put_back(
     Ok(List::from_vec(found))
 }
 
-// Makes an offer that may be made, so what comes back is that it is committed.
-fn take(board: &mut Board, offer: Offer) -> Result<(), AllocError>
-    requires may { MayBeMade board.old offer }
-    requires closer { offer.worker ≡ CLOSER }
-    ensures ok { OnOk result (board.new ≡ joined board.old offer) }
-    ensures err { OnErr result (board.new ≡ board.old) }
-{
-    match board.offer(offer) {
-        Ok(_) => Ok(()),
-        Err(back) => Err(back.cause),
+impl Closer<'_> {
+    /// Makes an offer of the closing pass that may be made, so what comes back is that it is committed.
+    fn take(&self, board: &mut Board, offer: Offer) -> Result<(), AllocError>
+        requires { IsOfferOf self.now.lat.now self.now.via_cost board.old CLOSER offer.net None offer }
+        ensures ok { OnOk result (board.new ≡ joined board.old offer) }
+        ensures err { OnErr result (board.new ≡ board.old) }
+    {
+        match board.offer(offer) {
+            Ok(_) => Ok(()),
+            Err(back) => Err(back.cause),
+        }
     }
-}
 
-impl Task<'_> {
-    /// What an island leads to on the board as it is. The search goes by maps, which are made for the first search and
+    /// Where an island leads on the board as it is. The search goes by maps, which are made for the first search and
     /// follow the board to each later one.
     fn led_at(
         &self,
         alloc: Global,
-        means: &mut Means,
+        state: &mut SearchState,
         board: &Board,
         island: &Island,
         others: &List<Island>,
-    ) -> Result<Led, AllocError>
-        requires can { CanClose self.now.lat.now self.now.via_cost board.now.design }
-        requires ready { AreReady self.now.lat.now board.now means.old }
+    ) -> Result<FromIsland, AllocError>
+        requires ready { AreReady self.now.lat.now self.now.via_cost board.now state.old }
         requires net { island.now.net < length board.now.design.nets }
         ensures leads { IfOk result (λ led. (place : ℕ)
             → StandsAt board.now.design board.now.items island.now.net place island.now others.now
-            → LeadsFrom self.now.lat.now self.now.via_cost board.now CLOSER island.now others.now led) }
-        ensures ready { AreReady self.now.lat.now board.now means.new }
+            → LeadsFrom self.now.lat.now self.now.via_cost board.now CLOSER None island.now others.now led) }
+        ensures ready { AreReady self.now.lat.now self.now.via_cost board.now state.new }
     {
         board.keeps();
         boards_serve();
         ids_stay();
+        let lat = self.lat;
         let snap = board.snap()?;
-        let seen = see(alloc, self.lat, means.sight.take(), snap)?;
-        let led = offer_by_maps(
-            alloc,
-            &mut means.search,
-            self.lat,
-            seen.snap.design(),
-            &seen.snap,
-            &seen.maps,
-            self.via_cost,
-            CLOSER,
-            island,
-            others,
-        );
-        drop(means.sight.replace(seen));
+        let mapped = map_snap(alloc, lat, state.mapped.take(), snap)?;
+        let planner = Planner::by_maps(lat, &mapped, no_maps(lat), self.via_cost, CLOSER);
+        let led = planner.offer_from(alloc, &mut state.search, island, others);
+        drop(planner);
+        drop(state.mapped.replace(mapped));
         led
     }
 
@@ -103,24 +99,21 @@ impl Task<'_> {
     pub(crate) fn join_at(
         &self,
         alloc: Global,
-        means: &mut Means,
+        state: &mut SearchState,
         board: &mut Board,
         net: u32,
         found: List<Island>,
         place: usize,
     ) -> Result<(List<Island>, bool), AllocError>
-        requires can { CanClose self.now.lat.now self.now.via_cost board.old.design }
-        requires ready { AreReady self.now.lat.now board.old means.old }
-        requires net { net < length board.old.design.nets }
-        requires islands { AreIslands board.old.design board.old.items net found }
-        requires place { place < length found }
+        requires ready { AreReady self.now.lat.now self.now.via_cost board.old state.old }
+        requires at { HasIslandAt board.old.design board.old.items net found place }
         ensures found { IfOk result (λ r. r.0 ≡ found) }
         ensures tries { IfOk result
             (λ r. Tries self.now.lat.now self.now.via_cost place found board.old board.new r.1) }
         ensures fewer { IfOk result (λ r. IsTrue r.1 → HasFewer net board.new found) }
         ensures joins { OnOk result (JoinsNet self.now.lat.now self.now.via_cost net board.old board.new) }
         ensures err { OnErr result (board.new ≡ board.old) }
-        ensures ready { AreReady self.now.lat.now board.new means.new }
+        ensures ready { AreReady self.now.lat.now self.now.via_cost board.new state.new }
     {
         board.keeps();
         boards_serve();
@@ -128,7 +121,7 @@ impl Task<'_> {
         islands_are_one();
         let mut others = found;
         let island = others.remove(place);
-        let led = match self.led_at(alloc, means, board, &island, &others) {
+        let led = match self.led_at(alloc, state, board, &island, &others) {
             Ok(led) => led,
             Err(error) => {
                 drop((others, island));
@@ -143,11 +136,11 @@ impl Task<'_> {
             }
         };
         match led {
-            Led::Shut(reach) => {
+            FromIsland::Shut(reach) => {
                 drop(reach);
                 Ok((found, false))
             }
-            Led::Offer(offer) => match take(board, offer) {
+            FromIsland::Offer(offer) => match self.take(board, offer) {
                 Ok(()) => Ok((found, true)),
                 Err(error) => {
                     drop(found);

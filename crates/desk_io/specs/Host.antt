@@ -28,11 +28,18 @@ HostReads old new limit (Err desk_fail.Failed) = new ≡ record old { faults = n
 HostReads old new limit (Err (desk_fail.TooLong seen)) = (seen ≡ limit + 1) × (new ≡ old)
 HostReads old new limit (Err (desk_fail.Memory e)) = new ≡ old
 
+-- No file is too long to be written.
+abbrev pub IsFailedOrMemory : DeskFail → Type 0
+IsFailedOrMemory desk_fail.Failed = ⊤
+IsFailedOrMemory (desk_fail.TooLong seen) = ⊥
+IsFailedOrMemory (desk_fail.Memory e) = ⊤
+
 -- A write raises the count where it fails, and nowhere else.
 abbrev pub HostWrites : {T : Type 0} → DeskState → DeskState → Result T DeskFail → Type 0
 HostWrites old new (Ok x) = new ≡ old
 HostWrites old new (Err desk_fail.Failed) = new ≡ record old { faults = next_count old.faults }
-HostWrites old new (Err _) = ⊥
+HostWrites old new (Err (desk_fail.TooLong seen)) = ⊥
+HostWrites old new (Err (desk_fail.Memory e)) = new ≡ old
 
 -- A put raises the count where it fails, and nowhere else.
 abbrev pub HostPuts : {T : Type 0} → SinkState → SinkState → Result T SinkFail → Type 0

@@ -3,6 +3,7 @@ pub mod Answers
 pub mod Memory
 pub mod Count
 pub mod Host
+pub mod Kept
 pub mod CalmDesk
 pub mod MemDesk
 pub mod MemSink

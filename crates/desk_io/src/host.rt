@@ -1,15 +1,16 @@
 //! The host's files and its standard output, by loops over read and write.
 //! They tell no content, and raise their count of faults at each error of the host.
 
-ghost use Rattle.std.specs.Prelude.{◌≡◌, ◌≤◌, ◌-◌, ◌^◌, None, IsTrue, false};
+ghost use Rattle.std.specs.Prelude.{◌≡◌, ◌≤◌, ◌-◌, ◌^◌, None, IfErr, IsTrue, false};
 ghost use Rattle.std.proofs.Common.{rules};
 ghost use Rattle.desk_io.specs.Count.{count_of};
 ghost use Rattle.desk_io.specs.Answers.{ReadGives, WriteGives, PutGives};
-ghost use Rattle.desk_io.specs.Host.{ReaderGives, WriterTakes, HostReads, HostWrites, HostPuts};
+ghost use Rattle.desk_io.specs.Host.{ReaderGives, WriterTakes, IsFailedOrMemory, HostReads, HostWrites, HostPuts};
 
 use crate::count::Count;
+use crate::replace::{own_name, replace};
 use crate::{Desk, DeskFail, Sink, SinkFail};
-use std::alloc::Global;
+use std::alloc::{AllocError, Global};
 use std::io::{Read, Write};
 use std::rt::Files;
 use std::{fs, io};
@@ -63,7 +64,43 @@ pub(crate) fn write_whole<W: Write>(writer: &mut W, bytes: &[u8]) -> bool
     true
 }
 
-/// The host's files.
+// The answer to an error of the host.
+fn failed(error: &io::Error) -> DeskFail
+    ensures { IsFailedOrMemory result }
+{
+    if error.kind() == io::ErrorKind::OutOfMemory {
+        DeskFail::Memory(AllocError)
+    } else {
+        DeskFail::Failed
+    }
+}
+
+// Writes what stands at this name as it is.
+fn write_straight<R: Files>(rt: &R, name: &str, bytes: &[u8]) -> io::Result<()> {
+    let mut file = fs::create(rt, name)?;
+    if write_whole(&mut file, bytes) {
+        Ok(())
+    } else {
+        Err(io::Error::from(io::ErrorKind::Other))
+    }
+}
+
+// Replaces the regular file of this name, or makes it; what isn't one is written as it is.
+fn write_name<R: Files + AllocGlobal>(rt: &R, name: &str, bytes: &[u8]) -> Result<(), DeskFail>
+    ensures { IfErr result IsFailedOrMemory }
+{
+    let written = match own_name(rt, name) {
+        Ok(Some(file)) => replace(rt, &file, bytes),
+        Ok(None) => write_straight(rt, name, bytes),
+        Err(error) => Err(error),
+    };
+    match written {
+        Ok(()) => Ok(()),
+        Err(error) => Err(failed(&error)),
+    }
+}
+
+/// The host's files. A regular file is replaced whole: a write that fails leaves the old one.
 #[derive(Drop)]
 pub struct HostDesk<'a, R: Files + AllocGlobal> {
     rt: &'a R,
@@ -132,13 +169,11 @@ impl<'a, R: Files + AllocGlobal> Desk for HostDesk<'a, R> {
             (⟦<HostDesk<'a, R> as Desk>⟧.state self.new)
             result }
     {
-        if let Ok(mut file) = fs::create(self.rt, name)
-            && write_whole(&mut file, bytes)
-        {
-            return Ok(());
+        let result = write_name(self.rt, name, bytes);
+        if let Err(DeskFail::Failed) = result {
+            self.faults.raise();
         }
-        self.faults.raise();
-        Err(DeskFail::Failed)
+        result
     }
 }
 

@@ -29,7 +29,7 @@ use dsn_design::{one_outcome, read_design};
 use pcb_model::Design;
 use pcb_model::limits::MOST_BYTES;
 use route_lattice::{Lattice, LatticeFault};
-use route_run::run_nets;
+use route_run::{RunInput, run_nets};
 use route_words::{Command, Knobs, Text, WordFault, read_words};
 use std::alloc::Global;
 use std::sync::Wait;
@@ -85,7 +85,6 @@ fn route_on<T: Threads + Wait + Sync, D: Desk, R: Sink, G: Gate + Sync>(
     gate: &G,
 ) -> Outcome
     requires sound { IsSound design }
-    requires plain { IsPlainCopper design }
     requires within { IsWithin command.now }
     requires task { IsTask design lat.now (knobs_told command.now).via_cost }
     requires lattice { lat.now ≡ mesh_of command.now design }
@@ -94,16 +93,13 @@ fn route_on<T: Threads + Wait + Sync, D: Desk, R: Sink, G: Gate + Sync>(
         (D.state desk.new) (R.state report.old) (R.state report.new) result }
 {
     let knobs = knobs_of(command);
-    match run_nets(
-        rt,
-        alloc,
+    let input = RunInput {
         lat,
-        design,
-        knobs.via_cost,
-        knobs.workers,
-        knobs.passes,
-        gate,
-    ) {
+        via_cost: knobs.via_cost,
+        workers: knobs.workers,
+        passes: knobs.passes,
+    };
+    match run_nets(rt, alloc, input, design, gate) {
         Ok(routed) => {
             let status = write_out(alloc, lat, &routed, command, desk, report);
             Outcome {

@@ -2,13 +2,15 @@
 //! Its exit code tells how that ended; where there is no picture, standard error says why to a person.
 #![tactic(auto)]
 
+mod names;
 mod notes;
 mod words;
 
+use crate::names::why_refused;
 use crate::notes::{WANTING_NOTE, WORDS_NOTE, note_of};
 use crate::words::read_call;
-use desk_io::HostDesk;
-use picture_call::{Outcome, PictureCall, draw};
+use desk_io::{HostDesk, KeptText};
+use picture_call::{PictureCall, draw};
 use route_words::WordFault;
 use std::process::ExitCode;
 use std::rt::{Env, Files};
@@ -43,19 +45,27 @@ fn call_of<R: Env + AllocGlobal>(rt: &R) -> Result<PictureCall, WordFault> {
     }
 }
 
-// Says on standard error why there is no picture. Where that fails too, the exit code alone tells.
-fn tell<R: Files + Eprint + AllocGlobal>(rt: &R, call: &PictureCall, outcome: &Outcome) {
-    let _ = match note_of(rt, call, outcome) {
+// Draws the picture, and says on standard error why there is none. Where that fails too, the exit code alone tells.
+fn drawn<R: Files + Eprint + AllocGlobal>(rt: &R, call: &PictureCall) -> u8 {
+    let mut desk = KeptText::new(rt.alloc(), HostDesk::new(rt));
+    let outcome = draw(rt.alloc(), call, &mut desk);
+    let _ = match note_of(rt.alloc(), &desk, call, &outcome) {
         Ok(note) => eprint!(rt; "{note}"),
         Err(_) => eprint!(rt; "{WANTING_NOTE}"),
     };
+    outcome.code()
 }
 
 fn run<R: Files + Eprint + AllocGlobal>(rt: &R, call: &PictureCall) -> u8 {
-    let mut desk = HostDesk::new(rt);
-    let outcome = draw(rt.alloc(), call, &mut desk);
-    tell(rt, call, &outcome);
-    outcome.code()
+    match why_refused(rt, call) {
+        Some(why) => {
+            let output = call.output.as_str();
+            let words = why.words();
+            let _ = eprint!(rt; "{output}: {words}\n");
+            why.code()
+        }
+        None => drawn(rt, call),
+    }
 }
 
 fn main(rt: HostRuntime) -> ExitCode {

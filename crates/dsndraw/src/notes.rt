@@ -1,7 +1,7 @@
 //! What standard error says where there is no picture: which file, where, and what is wrong.
 //! What is said of a design is what `dsnroute` says of it.
 
-use desk_io::{Desk, HostDesk};
+use desk_io::{Desk, KeptText};
 use dsn_shapes::table::{BAD_QUOTE_BYTE, NO_LIST, QUOTE_OPEN, SURPLUS, TOO_DEEP, UNCLOSED};
 use dsn_shapes::{Refusal, What};
 use dsn_tree::TreeFault;
@@ -9,7 +9,6 @@ use fault_notes::{Counted, Fault, Said, note_text, place_of};
 use picture_call::{MAX_BYTES, Outcome, PictureCall};
 use ses_reader::table::{NO_LAYER, NO_MEASURE, NO_NET, NO_PADSTACK, NO_SESSION};
 use std::alloc::{AllocError, Global};
-use std::rt::Files;
 
 /// What is said of refused words.
 pub(crate) const WORDS_NOTE: &str = "\
@@ -83,59 +82,54 @@ const TOO_LONG: Fault = Fault::Told(Said::Limit {
     number: MAX_BYTES as u128,
 });
 
-// The text of a file once more, where a place in it is to be told.
-fn text_again<R: Files + AllocGlobal>(rt: &R, file: &str) -> Option<Vec<u8>> {
-    HostDesk::new(rt).read(file, MAX_BYTES).ok()
-}
-
 // The note of a fault in the file of this name.
-fn file_note<R: Files + AllocGlobal>(
-    rt: &R,
+fn file_note<D: Desk>(
+    alloc: Global,
+    desk: &KeptText<D>,
     file: &str,
     fault: Fault,
 ) -> Result<String, AllocError> {
     match fault {
-        Fault::Told(Said::Refused { .. }) => {
-            let text = text_again(rt, file);
-            note_text(rt.alloc(), fault, file, file, text.as_deref())
-        }
-        Fault::Memory => String::from_str(rt.alloc(), WANTING_NOTE),
-        _ => note_text(rt.alloc(), fault, file, file, None),
+        Fault::Memory => String::from_str(alloc, WANTING_NOTE),
+        _ => note_text(alloc, fault, file, file, desk.text_of(file)),
     }
 }
 
-// Where a session is refused: its line and column, or the byte where it can't be read again.
-fn session_front<R: Files + AllocGlobal>(
-    rt: &R,
+// Where a session is refused: its line and column, or the byte where its text wasn't kept.
+fn session_front<D: Desk>(
+    alloc: Global,
+    desk: &KeptText<D>,
     file: &str,
     at: u64,
 ) -> Result<String, AllocError> {
-    match text_again(rt, file) {
+    match desk.text_of(file) {
         Some(text) => {
-            let place = place_of(&text, at);
+            let place = place_of(text, at);
             let line = place.line;
             let column = place.column;
-            format!(in rt.alloc(); "{file}:{line}:{column}")
+            format!(in alloc; "{file}:{line}:{column}")
         }
-        None => format!(in rt.alloc(); "{file}: byte {at}"),
+        None => format!(in alloc; "{file}: byte {at}"),
     }
 }
 
 // The note of a refused session.
-fn session_note<R: Files + AllocGlobal>(
-    rt: &R,
+fn session_note<D: Desk>(
+    alloc: Global,
+    desk: &KeptText<D>,
     file: &str,
     number: u8,
     at: u64,
 ) -> Result<String, AllocError> {
-    let front = session_front(rt, file, at)?;
+    let front = session_front(alloc, desk, file, at)?;
     let words = session_words(number);
-    format!(in rt.alloc(); "{front}: the session is refused: {words} (session refusal {number})\n")
+    format!(in alloc; "{front}: the session is refused: {words} (session refusal {number})\n")
 }
 
 /// The note of an outcome, which is empty where the picture is drawn.
-pub(crate) fn note_of<R: Files + AllocGlobal>(
-    rt: &R,
+pub(crate) fn note_of<D: Desk>(
+    alloc: Global,
+    desk: &KeptText<D>,
     call: &PictureCall,
     outcome: &Outcome,
 ) -> Result<String, AllocError> {
@@ -145,16 +139,16 @@ pub(crate) fn note_of<R: Files + AllocGlobal>(
         None => design,
     };
     match outcome {
-        Outcome::Drawn => Ok(String::new(rt.alloc())),
-        Outcome::DesignUnread => file_note(rt, design, Fault::Told(Said::ReadFault)),
-        Outcome::SessionUnread => file_note(rt, session, Fault::Told(Said::ReadFault)),
-        Outcome::DesignTooLong => file_note(rt, design, TOO_LONG),
-        Outcome::SessionTooLong => file_note(rt, session, TOO_LONG),
-        Outcome::DesignMisspelt(fault) => file_note(rt, design, misspelt(fault)),
-        Outcome::DesignRefused(refusal) => file_note(rt, design, refused(*refusal)),
-        Outcome::SessionMisspelt(fault) => file_note(rt, session, misspelt(fault)),
-        Outcome::SessionRefused { number, at } => session_note(rt, session, *number, *at),
-        Outcome::Unwritten => file_note(rt, call.output.as_str(), Fault::Session),
-        Outcome::Memory => file_note(rt, design, Fault::Memory),
+        Outcome::Drawn => Ok(String::new(alloc)),
+        Outcome::DesignUnread => file_note(alloc, desk, design, Fault::Told(Said::ReadFault)),
+        Outcome::SessionUnread => file_note(alloc, desk, session, Fault::Told(Said::ReadFault)),
+        Outcome::DesignTooLong => file_note(alloc, desk, design, TOO_LONG),
+        Outcome::SessionTooLong => file_note(alloc, desk, session, TOO_LONG),
+        Outcome::DesignMisspelt(fault) => file_note(alloc, desk, design, misspelt(fault)),
+        Outcome::DesignRefused(refusal) => file_note(alloc, desk, design, refused(*refusal)),
+        Outcome::SessionMisspelt(fault) => file_note(alloc, desk, session, misspelt(fault)),
+        Outcome::SessionRefused { number, at } => session_note(alloc, desk, session, *number, *at),
+        Outcome::Unwritten => file_note(alloc, desk, call.output.as_str(), Fault::Session),
+        Outcome::Memory => file_note(alloc, desk, design, Fault::Memory),
     }
 }

@@ -2,10 +2,13 @@
 //! Its exit code is that of the top call's status; where there is no report, standard error says why to a person.
 #![tactic(auto)]
 
+mod names;
+
+use crate::names::refused;
 use board_turn::NoGate;
-use desk_io::{Desk, HostDesk, HostSink};
-use dsn_route::{MAX_BYTES, Status, dsn_route};
-use fault_notes::{Fault, KeptLine, Said, note_text, read_line};
+use desk_io::{Desk, HostDesk, HostSink, KeptText, WatchedOutput};
+use dsn_route::{Status, dsn_route};
+use fault_notes::{Fault, KeptLine, note_text, read_line};
 use route_words::{Command, read_words};
 use std::alloc::{AllocError, Global};
 use std::process::ExitCode;
@@ -48,21 +51,14 @@ fn fault_of(status: Status, line: &[u8]) -> Option<Fault> {
     }
 }
 
-// The design's text once more, where a place in it is to be told.
-fn text_again<R: Files + AllocGlobal>(rt: &R, fault: Fault, input: &str) -> Option<Vec<u8>> {
-    match fault {
-        Fault::Told(Said::Refused { .. }) => HostDesk::new(rt).read(input, MAX_BYTES).ok(),
-        _ => None,
-    }
-}
-
-// The note of a fault, with the names of the files that the words give.
-fn note_of<R: Files + AllocGlobal>(
-    rt: &R,
+// The note of a fault, with the names of the files that the words give. A place is told by the text that was read.
+fn note_of<D: Desk>(
+    alloc: Global,
     words: &[String],
+    desk: &KeptText<D>,
     fault: Fault,
 ) -> Result<String, AllocError> {
-    match read_words(rt.alloc(), words) {
+    match read_words(alloc, words) {
         Ok(
             Command::Route {
                 input,
@@ -70,40 +66,49 @@ fn note_of<R: Files + AllocGlobal>(
                 knobs: _,
             },
         ) => {
-            let text = text_again(rt, fault, input.as_str());
-            note_text(
-                rt.alloc(),
-                fault,
-                input.as_str(),
-                output.as_str(),
-                text.as_deref(),
-            )
+            let text = desk.text_of(input.as_str());
+            note_text(alloc, fault, input.as_str(), output.as_str(), text)
         }
-        _ => note_text(rt.alloc(), fault, "the generated board", "", None),
+        _ => note_text(alloc, fault, "the generated board", "", None),
     }
 }
 
 // Says on standard error why there is no report. Where that fails too, the status alone tells.
-fn tell<R: Files + Eprint + AllocGlobal>(rt: &R, words: &[String], fault: Fault) {
-    let _ = match note_of(rt, words, fault) {
+fn tell<R: Eprint>(rt: &R, note: Result<String, AllocError>) {
+    let _ = match note {
         Ok(note) => eprint!(rt; "{note}"),
         Err(_) => eprint!(rt; "dsnroute: memory was wanting\n"),
     };
+}
+
+// Makes the call, and says why where it ends without a report. Whoever stopped reading that is told nothing.
+fn call<R: Files + Print + Eprint + Threads + Wait + AllocGlobal + Sync>(
+    rt: &R,
+    words: &[String],
+) -> Status {
+    let mut desk = KeptText::new(rt.alloc(), HostDesk::new(rt));
+    let output = WatchedOutput::new(rt);
+    let mut sink = KeptLine::new(HostSink::new(&output));
+    let outcome = dsn_route(rt, rt.alloc(), words, &mut desk, &mut sink, &NoGate);
+    let status = outcome.status;
+    drop(outcome);
+    if output.has_no_reader() {
+        return status;
+    }
+    if let Some(fault) = fault_of(status, sink.line()) {
+        tell(rt, note_of(rt.alloc(), words, &desk, fault));
+    }
+    status
 }
 
 fn run<R: Files + Print + Eprint + Threads + Wait + AllocGlobal + Sync>(
     rt: &R,
     words: &[String],
 ) -> Status {
-    let mut desk = HostDesk::new(rt);
-    let mut sink = KeptLine::new(HostSink::new(rt));
-    let outcome = dsn_route(rt, rt.alloc(), words, &mut desk, &mut sink, &NoGate);
-    let status = outcome.status;
-    drop(outcome);
-    if let Some(fault) = fault_of(status, sink.line()) {
-        tell(rt, words, fault);
+    match refused(rt, words) {
+        Some(status) => status,
+        None => call(rt, words),
     }
-    status
 }
 
 // What the program ends with where its words can't be had: for want of memory, or since one is no text.
@@ -112,13 +117,13 @@ fn unread<R: Files + Print + Eprint + Threads + Wait + AllocGlobal + Sync>(
     fault: &io::Error,
 ) -> Status {
     if fault.kind() == io::ErrorKind::OutOfMemory {
-        tell(rt, &[], Fault::Memory);
+        tell(rt, Err(AllocError));
         return Status::Memory;
     }
     match wrong_words(rt.alloc()) {
         Ok(words) => run(rt, &words),
-        Err(_) => {
-            tell(rt, &[], Fault::Memory);
+        Err(fault) => {
+            tell(rt, Err(fault));
             Status::Memory
         }
     }

@@ -28,4 +28,3 @@ pub mod Strides
 pub mod Fences
 pub mod Spotting
 pub mod Vaulting
-mod Tested

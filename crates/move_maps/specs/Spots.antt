@@ -5,9 +5,17 @@ use Rattle.std.specs.Option.{option_map}
 use Rattle.geo_kernel.specs.declared.point.Point.{Point}
 use Rattle.pcb_model.specs.declared.item.Piece.{Piece}
 use Rattle.route_lattice.specs.declared.moves.Move.{Move}
-use Rattle.route_lattice.specs.Mesh.{Mesh, node_count, column, row, point_of, layer_of}
+use Rattle.route_lattice.specs.Mesh.{Mesh, node_count, column, row, level, point_of, layer_of}
 use Rattle.route_lattice.specs.Ways.{step_at, has_copper}
+use Rattle.move_maps.specs.declared.spot.Crossing.{Crossing}
 use Rattle.move_maps.specs.declared.spot.Spot.{Spot}
+
+-- the node is one, and the places are its own
+pub record IsCrossing (m : Mesh) (x : Crossing) : Type 0 where
+  pub there : x.node < node_count m
+  pub level_is : level m x.node ≡ x.level
+  pub row_is : row m x.node ≡ x.row
+  pub column_is : column m x.node ≡ x.column
 
 -- the node's places, its point and its layer
 pub record IsSpotOf (m : Mesh) (s : Spot) : Type 0 where

@@ -13,7 +13,7 @@ ghost use Rattle.move_maps.specs.Clear.{IsClearOf, WireKeeps};
 ghost use Rattle.move_maps.specs.Margins.{ShutsSteps};
 ghost use Rattle.move_maps.specs.Maps.{place_at};
 ghost use Rattle.move_maps.specs.Paint.{turned as turned_by, IsBrush, arity_of};
-ghost use Rattle.move_maps.specs.Spots.{IsSpotOf, next_point as next_point_at};
+ghost use Rattle.move_maps.specs.Spots.{IsCrossing, IsSpotOf, next_point as next_point_at};
 ghost use Rattle.move_maps.specs.Windows.{IsPlaceOut, IsSpanOf};
 
 use crate::clear::is_via_clear;
@@ -22,7 +22,7 @@ use crate::group::Group;
 use crate::links::{MOST_APART, windows_near};
 use crate::margins::Margins;
 use crate::span::{Span, row_span};
-use crate::spot::{Spot, next_point};
+use crate::spot::{Crossing, Spot, next_point};
 use crate::window::{Window, is_out_of_all};
 use arrayvec::ArrayVec;
 use geo_kernel::Point;
@@ -161,15 +161,12 @@ impl<'a> Brush<'a> {
     }
 
     /// A node whose places are known.
-    pub(crate) fn spot(&self, node: u32, level: usize, row: usize, column: usize) -> Spot
-        requires node { node < node_count self.now.group.lat }
-        requires level { level_of self.now.group.lat node ≡ level }
-        requires row { row_of self.now.group.lat node ≡ row }
-        requires column { column_of self.now.group.lat node ≡ column }
+    pub(crate) fn spot(&self, crossing: Crossing) -> Spot
+        requires { IsCrossing self.now.group.lat crossing }
         ensures spot { IsSpotOf self.now.group.lat result }
-        ensures node { result.node ≡ node }
+        ensures node { result.node ≡ crossing.node }
     {
-        Spot::of(self.lat, node, level, row, column)
+        Spot::of(self.lat, crossing)
     }
 
     /// Where the step of a direction leads, or None where there is no such step.

@@ -1,21 +1,20 @@
 //! An item painted into the counts of a group: each place in the windows of its copper is tested once.
 
-ghost use Rattle.std.specs.Prelude.{◌≡◌, ◌+◌, ◌*◌, ◌<◌, ◌^◌, ◌↔◌, length, slice_index, IsTrue};
+ghost use Rattle.std.specs.Prelude.{◌≡◌, ◌+◌, ◌*◌, ◌<◌, ◌↔◌, length, slice_index, IsTrue};
 ghost use Rattle.std.specs.Bool.{OnTrue};
-ghost use Rattle.geo_kernel.specs.Plane.{IsWithin};
 ghost use Rattle.pcb_model.specs.Pieces.{padstack_pieces};
-ghost use Rattle.route_lattice.specs.Mesh.{node_count, column as column_of, row as row_of, level as level_of};
+ghost use Rattle.route_lattice.specs.Mesh.{node_count, level as level_of};
 ghost use Rattle.route_lattice.specs.Ways.{vias_of};
 ghost use Rattle.move_maps.specs.Margins.{ShutsSteps};
 ghost use Rattle.move_maps.specs.Maps.{place_at};
 ghost use Rattle.move_maps.specs.Paint.{AreFirstClear, IsClearAtMove, IsPainted, IsStackClear, arity_of};
 ghost use Rattle.move_maps.specs.Settings.{IsTable};
-ghost use Rattle.move_maps.specs.Spots.{IsSpotOf, join_layers as joins_layers};
+ghost use Rattle.move_maps.specs.Spots.{IsCrossing, IsSpotOf, join_layers as joins_layers};
 
 use crate::brush::Brush;
 use crate::counts::Counts;
 use crate::joins::join_layers;
-use crate::spot::Spot;
+use crate::spot::{Crossing, Spot};
 use geo_kernel::Point;
 use route_lattice::pieces_near;
 
@@ -40,7 +39,6 @@ impl Brush<'_> {
 
     // Whether the vias of a padstack at a point are clear, or there is none.
     fn is_stack_clear(&self, padstack: u32, at: Point) -> bool
-        requires { IsWithin (2 ^ 29) at }
         ensures { IsTrue result ↔ IsStackClear self.now padstack at }
     {
         self.told();
@@ -179,30 +177,19 @@ impl Brush<'_> {
     }
 
     // Paints the moves of a node, if it is in one of the windows.
-    fn paint_crossing(
-        &self,
-        counts: &mut Counts,
-        node: u32,
-        level: usize,
-        row: usize,
-        column: usize,
-        first: u32,
-    )
+    fn paint_crossing(&self, counts: &mut Counts, crossing: Crossing, first: u32)
         requires size { IsTable self.now.group counts.old }
-        requires node { node < node_count self.now.group.lat }
-        requires level { level_of self.now.group.lat node ≡ level }
-        requires row { row_of self.now.group.lat node ≡ row }
-        requires column { column_of self.now.group.lat node ≡ column }
+        requires crossing { IsCrossing self.now.group.lat crossing }
         requires clear { let s = self.now in let m = s.group.lat in
-            AreFirstClear s.group.d m s.group.first s.item (level_of m node) first }
+            AreFirstClear s.group.d m s.group.first s.item (level_of m crossing.node) first }
         ensures { let a = arity_of self.now in
-            IsPainted self.now (node * a) ((node + 1) * a) counts.old counts.new }
+            IsPainted self.now (crossing.node * a) ((crossing.node + 1) * a) counts.old counts.new }
     {
         self.told();
-        if self.is_out(column, row) {
+        if self.is_out(crossing.column, crossing.row) {
             return;
         }
-        let spot = self.spot(node, level, row, column);
+        let spot = self.spot(crossing);
         self.paint_steps(counts, &spot, first);
         self.paint_vias(counts, &spot);
     }
@@ -224,7 +211,13 @@ impl Brush<'_> {
         let start = (level * self.rows() + row) * width;
         let span = self.span(row);
         for column in span.left..span.right {
-            self.paint_crossing(counts, (start + column) as u32, level, row, column, first);
+            let crossing = Crossing {
+                node: (start + column) as u32,
+                level,
+                row,
+                column,
+            };
+            self.paint_crossing(counts, crossing, first);
         }
     }
 

@@ -3,12 +3,20 @@
 
 ghost use Rattle.std.specs.Prelude.{◌≡◌, ◌<◌, pos, length, slice_index_or};
 ghost use Rattle.std.specs.Option.{option_map};
-ghost use Rattle.route_lattice.specs.Mesh.{node_count, column as column_of, row as row_of, level as level_of};
-ghost use Rattle.move_maps.specs.Spots.{IsSpotOf, next_point as next_point_at, line_after as after};
+ghost use Rattle.move_maps.specs.Spots.{IsCrossing, IsSpotOf, next_point as next_point_at, line_after as after};
 ghost use Rattle.move_maps.specs.Spots.{line_before as before, across as across_at, up as up_at};
 
 use geo_kernel::Point;
 use route_lattice::Lattice;
+
+/// A node and the places of its signal layer, its y line and its x line.
+#[derive(Clone, Copy)]
+pub(crate) struct Crossing {
+    pub node: u32,
+    pub level: usize,
+    pub row: usize,
+    pub column: usize,
+}
 
 /// A node with the places of its y line and its x line, its point and its layer.
 #[derive(Clone, Copy)]
@@ -35,21 +43,20 @@ fn crossing_at(xs: &[i64], ys: &[i64], row: usize, column: usize) -> Point
 
 impl Spot {
     /// That of a node whose places are known.
-    pub(crate) fn of(lat: &Lattice, node: u32, level: usize, row: usize, column: usize) -> Spot
-        requires node { node < node_count lat.now }
-        requires level { level_of lat.now node ≡ level }
-        requires row { row_of lat.now node ≡ row }
-        requires column { column_of lat.now node ≡ column }
+    pub(crate) fn of(lat: &Lattice, crossing: Crossing) -> Spot
+        requires { IsCrossing lat.now crossing }
         ensures spot { IsSpotOf lat.now result }
-        ensures node { result.node ≡ node }
+        ensures node { result.node ≡ crossing.node }
     {
         let layers = lat.layers().as_slice();
+        let row = crossing.row;
+        let column = crossing.column;
         Spot {
-            node,
+            node: crossing.node,
             row,
             column,
             at: crossing_at(lat.xs().as_slice(), lat.ys().as_slice(), row, column),
-            layer: layers[level],
+            layer: layers[crossing.level],
         }
     }
 }

@@ -14,6 +14,7 @@ use Rattle.pcb_board.specs.Boards.{BoardOf, Past, opening, then_items, next, pas
 use Rattle.board_offers.specs.Items.{new_items, joined_items}
 use Rattle.pcb_board.specs.Answers.{taken_back}
 use Rattle.pcb_board.specs.Keeping.{IsBoard}
+use Rattle.pcb_board.proofs.Formed.{formed_behind, no_join}
 use Rattle.pcb_board.proofs.Past.{past_more, replay_before, replay_last}
 
 -- the last of the boards, at place k, has the items
@@ -91,7 +92,13 @@ module _ (b : BoardOf) (to : ℕ) (board : IsBoard b) (le : to ≤ length b.hist
   pub back_board : IsBoard (taken_back b to)
   back_board = record {
     sound = board.sound;
-    plain = board.plain;
+    formed = formed_behind b (taken_back b to) entry (record {
+      design_stays = refl;
+      start_stays = refl;
+      cap_stays = refl;
+      entries = entry ∷ [];
+      history_is = refl;
+    }) refl board.formed (λ o first after is. no_join o to first after is);
     ascends = each_board Ascends board.ascends;
     dropped = board.dropped;
     starts = board.starts;

@@ -20,7 +20,7 @@ use Rattle.pcb_board.specs.declared.answer.Entry.{Entry}
 use Rattle.pcb_board.specs.declared.answer.Entry.TheVariants.{Join}
 use Rattle.board_offers.specs.Items.{names, without, shoved_ids, gone, new_items, joined_items}
 use Rattle.pcb_board.specs.Boards.{BoardOf, Past, given, past, replayed}
-use Rattle.board_offers.specs.Offers.{IsInTheWay}
+use Rattle.board_offers.specs.Offers.{IsInTheWay, IsWellFormed}
 use Rattle.board_offers.specs.Troubles.{wanted}
 use Rattle.pcb_board.specs.declared.answer.Answer.{Answer}
 use Rattle.pcb_board.specs.declared.answer.Answer.TheVariants.{Committed, Stale, Wrong, Malformed, Full}
@@ -32,6 +32,7 @@ use Rattle.board_offers.proofs.Lists.{named_in, in_named, HasItem, on_item, mapp
 use Rattle.pcb_board.proofs.Legal.{Exchanges, exchanged_legal}
 use Rattle.board_offers.proofs.New.{IsNew, new_at, new_routed, new_id, new_given, new_inside, new_laid, WasShoved}
 use Rattle.board_offers.proofs.New.{was_shoved}
+use Rattle.pcb_board.proofs.Formed.{formed_behind, one_offer}
 use Rattle.pcb_board.proofs.Past.{past_more, replay_before, replay_all, replay_last}
 
 module _ (b : BoardOf) (o : Offer) (swap : (x y : Item) → Agrees b.design x y → Agrees b.design y x)
@@ -213,7 +214,14 @@ module _ (b : BoardOf) (o : Offer) (swap : (x y : Item) → Agrees b.design x y 
   pub joined_board : IsBoard (joined b o)
   joined_board = record {
     sound = board.sound;
-    plain = board.plain;
+    formed = formed_behind b (joined b o) entry (record {
+      design_stays = refl;
+      start_stays = refl;
+      cap_stays = refl;
+      entries = entry ∷ [];
+      history_is = refl;
+    }) refl board.formed (λ p first after is. subst (IsWellFormed (known b))
+        (one_offer o p (length (given b)) (length (given b) + length come) first after is) heard.formed);
     ascends = ascends_each;
     dropped = board.dropped;
     starts = board.starts;

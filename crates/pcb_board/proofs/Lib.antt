@@ -1,6 +1,7 @@
 pub mod Order
 pub mod Legal
 pub mod Past
+pub mod Formed
 pub mod Joining
 pub mod Commits
 pub mod Standing

@@ -5,7 +5,7 @@ use Rattle.std.proofs.Common.{Result, Ok, Err, drop, pos}
 use Rattle.std.proofs.Math.Seq.{drop-cons}
 use Rattle.std.specs.Prelude.{OnOk, All, Any, Contains, ℤ, unsigned_abs}
 use Rattle.std.proofs.lemmas.Int.{ints}
-use Rattle.std.proofs.lemmas.Option.{slice_get_within}
+use Rattle.std.proofs.lemmas.Option.{slice_get_within, slice_get-get_or}
 use Rattle.std.specs.List.{filter, flat_map}
 use Rattle.std.proofs.lemmas.List.{append-nil, append_assoc}
 use Rattle.std.proofs.lemmas.List.Elements.{All-append, All-cons, All-nil, All-head, All-tail, All-contains}
@@ -22,7 +22,7 @@ use Rattle.pcb_model.specs.declared.item.Item.{Item}
 use Rattle.pcb_model.specs.declared.design.FreeWire.{FreeWire}
 use Rattle.pcb_model.specs.declared.design.Design.{Design}
 use Rattle.pcb_model.specs.Pairs.{Agrees}
-use Rattle.pcb_model.specs.Bounds.{IsBoundFit}
+use Rattle.pcb_model.specs.Bounds.{IsBoundFit, IsItemFit}
 use Rattle.pcb_model.specs.Board.{IsLegal, IsRouted, IsLaid, IsMade, AreInside, is_fixed}
 use Rattle.pcb_model.specs.Sound.{IsSound, IsFreeSound, Serves, IsItemOf}
 use Rattle.pcb_tiles.specs.Tiling.{IsArea}
@@ -190,6 +190,9 @@ no_area = record {
 }
 
 -- ---- what is loaded, one by one
+pub fixed_fit : (d : Design) → IsSound d → All IsItemFit d.fixed
+fixed_fit d s = λ k x within. (s.fixed k (get_or d.fixed k x) (slice_get-get_or d.fixed k x within)).item.fits
+
 pub fixed_all : (d : Design) (l : Loaded) → IsSound d → l.tiles.items ≡ d.fixed → l.given.items ≡ d.fixed
     → l.dropped ≡ [] → AreTilesOf d l.tiles.area l.tiles.reach → AreLoaded d d.free l
 fixed_all d l sound tiles given none spread = record {

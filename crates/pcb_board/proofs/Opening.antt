@@ -1,12 +1,11 @@
 -- A board as it is started, kept parts included.
 use Rattle.std.proofs.Common.{◌≡◌, ℕ, ◌<◌, ◌≤◌, ◌^◌, zero, suc, Some, refl, sym, ◌∙◌, ap, subst, List, [], ◌∷◌}
-use Rattle.std.proofs.Common.{get_or, length, take, arith, ◌+◌, ◌++◌}
+use Rattle.std.proofs.Common.{length, take, arith}
 use Rattle.std.specs.Prelude.{All, slice_get, slice_index_or}
 use Rattle.std.proofs.lemmas.List.Elements.{All-cons}
-use Rattle.std.proofs.lemmas.List.{take_all, take_more}
+use Rattle.std.proofs.lemmas.List.{take_all}
 use Rattle.pcb_model.specs.declared.item.Item.{Item}
 use Rattle.pcb_model.specs.declared.design.Design.{Design}
-use Rattle.pcb_model.specs.Plain.{IsPlainCopper}
 use Rattle.pcb_model.specs.Sound.{IsSound}
 use Rattle.pcb_tiles.specs.Spread.{Spread}
 use Rattle.pcb_board.specs.declared.answer.Entry.{Entry}
@@ -35,8 +34,7 @@ pub record IsOpened (n : Inside) (d : Design) (cap : ℕ) (l : Loaded) : Type 0 
   pub workers_are : n.workers ≡ 0
   pub tiles_are : n.tiles ≡ l.tiles
 
-module _ (n : Inside) (d : Design) (cap : ℕ) (l : Loaded) (sound : IsSound d) (plain : IsPlainCopper d)
-    (small : cap ≤ 2 ^ 19)
+module _ (n : Inside) (d : Design) (cap : ℕ) (l : Loaded) (sound : IsSound d) (small : cap ≤ 2 ^ 19)
     (loaded : AreLoaded d [] l) (o : IsOpened n d cap l) where
   abbrev start : List Item
   start = l.given.items
@@ -70,7 +68,7 @@ module _ (n : Inside) (d : Design) (cap : ℕ) (l : Loaded) (sound : IsSound d) 
 
   pub opened_indexed : IsIndexed n
   opened_indexed = record {
-    board = subst IsBoard (sym opened_view) (start_board d l.dropped start cap sound plain small starts);
+    board = subst IsBoard (sym opened_view) (start_board d l.dropped start cap sound small starts);
     indexed = subst (λ (b : BoardOf). AreIndexed b n.given.items n.changed.items) (sym opened_view) indexed;
     numbered = subst AreNumbered (sym opened_view) (start_numbered (started d start cap) refl);
     started = let s = o.started_is in let e = ap length o.given_is in omega (arith, s, e);
@@ -79,27 +77,13 @@ module _ (n : Inside) (d : Design) (cap : ℕ) (l : Loaded) (sound : IsSound d) 
         (subst (λ (t : Spread). AreTilesOf d t.area t.reach) (sym o.tiles_are) loaded.kept.spread);
   }
 
--- ---- the fixed items, one by one
+-- ---- what each of the first ones has
 pub fronts : {X : Type 0} (P : X → Type 0) (n : ℕ) (xs : List X)
     → ((j : ℕ) (x : X) → j < n → slice_get xs j ≡ Some x → P x) → All P (take n xs)
 fronts P zero xs says = λ k d within. absurd (omega (arith, within))
 fronts P (suc n) [] says = λ k d within. absurd (omega (arith, within))
 fronts P (suc n) (x ∷ xs) says = All-cons P x (take n xs) (says 0 x (omega arith) refl)
     (fronts P n xs (λ j y less e. says (suc j) y (omega (arith, less)) e))
-
-pub fixed_below : (d : Design) → IsSound d → (i : ℕ) (a : Item) → slice_get d.fixed i ≡ Some a
-    → All (λ (b : Item). b.id < a.id) (take i d.fixed)
-fixed_below d s i a at = fronts (λ (b : Item). b.id < a.id) i d.fixed
-    (λ j b less e. let first = (s.fixed j b e).numbered in let here = (s.fixed i a at).numbered in
-    omega (arith, first, here, less))
-
--- one more of them is copied
-pub fixed_more : (fixed xs : List Item) (i : ℕ) (a b : Item) → xs ≡ fixed → i < length xs → a ≡ get_or xs i a → b ≡ a
-    → take i fixed ++ b ∷ [] ≡ take (i + 1) fixed
-fixed_more fixed xs i a b same within is copy =
-    ap (λ (c : Item). take i fixed ++ c ∷ []) (copy ∙ is)
-    ∙ ap (λ (ys : List Item). take i ys ++ get_or xs i a ∷ []) (sym same)
-    ∙ sym (take_more xs i a within) ∙ ap (take (i + 1)) same
 
 -- ---- an equal board
 module _ (a n : Inside) (design_is : n.design ≡ a.design) (cap_is : n.cap ≡ a.cap) (history_is : n.history ≡ a.history)

@@ -5,7 +5,7 @@ use Rattle.std.proofs.Common.{List, [], ◌∷◌, ◌++◌, length, take, arith
 use Rattle.std.proofs.Math.Seq.{take-length}
 use Rattle.std.specs.Prelude.{All, slice_get, slice_index_or}
 use Rattle.std.proofs.lemmas.Option.{slice_get_within}
-use Rattle.std.proofs.lemmas.List.{length-take-le, take-append-le}
+use Rattle.std.proofs.lemmas.List.{length-take-le}
 use Rattle.std.proofs.lemmas.List.Elements.{All-append, All-filter, All-weaker, All-contains, All-nil, All-cons}
 use Rattle.std.specs.Prelude.{not}
 use Rattle.pcb_model.specs.declared.item.Item.{Item}
@@ -18,8 +18,10 @@ use Rattle.board_offers.proofs.Lists.{all_from, found_at, look_left, look_cases}
 use Rattle.pcb_board.specs.declared.answer.Entry.{Entry}
 use Rattle.pcb_board.specs.declared.answer.Entry.TheVariants.{Join, Back}
 use Rattle.pcb_board.specs.Boards.{BoardOf, Past, opening, next, past_from, past, given, replayed, board_at}
-use Rattle.pcb_board.specs.Keeping.{IsBoard, Grows}
+use Rattle.pcb_board.specs.Keeping.{IsBoard}
 use Rattle.pcb_board.specs.inner.Loading.{IsLoaded}
+pub use Rattle.pcb_board.proofs.Formed.{board_before}
+use Rattle.pcb_board.proofs.Formed.{formed_within}
 use Rattle.pcb_board.proofs.Past.{BeginsWith, given_begins, take_less}
 use Rattle.pcb_board.proofs.Starting.{loads_kept, fixed_loaded}
 use Rattle.pcb_board.proofs.Turns.{new_numbered}
@@ -143,7 +145,7 @@ module _ (b : BoardOf) (n : ℕ) (board : IsBoard b) (le : n ≤ length b.histor
   pub prefix_board : IsBoard (board_at b n)
   prefix_board = record {
     sound = board.sound;
-    plain = board.plain;
+    formed = formed_within b n le board.formed;
     dropped = board.dropped;
     starts = board.starts;
     cap_within = board.cap_within;
@@ -168,13 +170,3 @@ pub board_whole : (b : BoardOf) → IsBoard b → board_at b (length b.history) 
 board_whole b kept =
     ap₂ (λ (h : List Entry) (items : List Item). record b { history = h; items = items })
     (take-length b.history) kept.replays
-
--- further entries change no earlier board
-pub board_before : (b c : BoardOf) (n : ℕ) → Grows b c → n ≤ length b.history → board_at c n ≡ board_at b n
-board_before b c n grows le =
-    let design : c.design ≡ b.design = grows.design_stays in
-    let start : c.start ≡ b.start = grows.start_stays in
-    let cap : c.cap ≡ b.cap = grows.cap_stays in
-    let takes : take n c.history ≡ take n b.history =
-    ap (take n) grows.history_is ∙ take-append-le n b.history grows.entries le in
-    cc

@@ -14,10 +14,10 @@ use Rattle.pcb_model.specs.declared.design.Design.{Design}
 use Rattle.pcb_model.specs.Pieces.{pieces_of, wire_piece, moved_piece, padstack_pieces}
 use Rattle.pcb_model.specs.Board.{IsLegal, IsRouted, is_fixed}
 use Rattle.pcb_model.specs.Sound.{IsSound, IsLayerOf, IsFreeSound, IsMetalInRange}
+use Rattle.pcb_board.specs.declared.answer.Entry.TheVariants.{Join}
 use Rattle.pcb_board.specs.Boards.{Loads, Starts, free_item, given, replayed}
 use Rattle.pcb_board.specs.Keeping.{IsBoard, started}
 use Rattle.pcb_board.specs.inner.Loading.{IsLoaded}
-use Rattle.pcb_model.specs.Plain.{IsPlainCopper}
 use Rattle.pcb_model.specs.Copper.{Ascends}
 use Rattle.pcb_board.proofs.Order.{given_ascends}
 use Rattle.board_offers.specs.Given.{IsGiven, AreGiven}
@@ -108,13 +108,13 @@ fixed_loaded d s = record {
 }
 
 -- ---- the board of a start list
-pub start_board : (d : Design) (dropped : List ℕ) (start : List Item) (cap : ℕ) → IsSound d → IsPlainCopper d
-    → cap ≤ 2 ^ 19 → Starts d dropped start → IsBoard (started d start cap)
-start_board d dropped start cap s plain small starts =
+pub start_board : (d : Design) (dropped : List ℕ) (start : List Item) (cap : ℕ) → IsSound d → cap ≤ 2 ^ 19
+    → Starts d dropped start → IsBoard (started d start cap)
+start_board d dropped start cap s small starts =
     let h : IsLoaded d start = loads_kept d d.fixed d.free dropped start s s.free (fixed_loaded d s) starts.loads in
     record {
       sound = s;
-      plain = plain;
+      formed = λ k o first after at. absurd (none-some (Join o first after) at);
       dropped = dropped;
       starts = starts;
       cap_within = small;

@@ -4,23 +4,28 @@ use Rattle.pcb_model.specs.declared.item.Item.{Item}
 use Rattle.pcb_model.specs.declared.design.Design.{Design}
 use Rattle.pcb_model.specs.Board.{IsLegal}
 use Rattle.pcb_model.specs.Sound.{IsSound}
-use Rattle.pcb_model.specs.Plain.{IsPlainCopper}
 use Rattle.pcb_model.specs.Copper.{Ascends}
+use Rattle.board_offers.specs.declared.offer.Offer.{Offer}
+use Rattle.board_offers.specs.Given.{AreGiven}
+use Rattle.board_offers.specs.Offers.{IsWellFormed}
 use Rattle.pcb_board.specs.declared.answer.Entry.{Entry}
+use Rattle.pcb_board.specs.declared.answer.Entry.TheVariants.{Join}
 use Rattle.pcb_board.specs.declared.answer.BackFault.{BackFault}
 use Rattle.pcb_board.specs.declared.answer.BackFault.TheVariants.{Later, Memory}
-use Rattle.board_offers.specs.Given.{AreGiven}
-use Rattle.pcb_board.specs.Boards.{BoardOf, Starts, given, replayed}
+use Rattle.pcb_board.specs.Boards.{BoardOf, Starts, given, replayed, board_at}
+use Rattle.pcb_board.specs.Answers.{known}
 
--- The design is sound and of plain copper. The items are legal and in order of id, after each number of entries too;
--- the history replays to them; each is the one that its id was given.
+-- The design is sound. The items are legal and in order of id, after each number of entries too; the history replays to
+-- them, and each of its joins was a well-formed offer for the board before it; each item is the one that its id was
+-- given.
 pub record IsBoard (b : BoardOf) : Type 0 where
   pub sound : IsSound b.design
-  pub plain : IsPlainCopper b.design
   pub dropped : List ℕ
   pub starts : Starts b.design dropped b.start
   pub cap_within : b.cap ≤ 2 ^ 19
   pub replays : replayed b (length b.history) ≡ b.items
+  pub formed : (k : ℕ) (o : Offer) (first after : ℕ) → slice_get b.history k ≡ Some (Join o first after)
+      → IsWellFormed (known (board_at b k)) o
   pub legal : (n : ℕ) → n ≤ length b.history → IsLegal b.design (replayed b n)
   pub ascends : (n : ℕ) → n ≤ length b.history → Ascends (replayed b n)
   pub given_are : AreGiven b.design (given b)

@@ -4,7 +4,6 @@
 ghost use Rattle.std.specs.Prelude.{◌≡◌, ◌↔◌, ◌+◌, ◌≤◌, ◌<◌, ◌^◌, [], ℕ, length, slice_index_or, IsTrue, IfOk, IfErr};
 ghost use Rattle.std.specs.Prelude.{OnOk, OnErr, None};
 ghost use Rattle.pcb_model.specs.Sound.{IsSound};
-ghost use Rattle.pcb_model.specs.Plain.{IsPlainCopper};
 ghost use Rattle.board_offers.specs.Items.{new_items};
 ghost use Rattle.board_offers.specs.Offers.{IsWellFormed};
 ghost use Rattle.board_offers.specs.Troubles.{FailsLeast};
@@ -106,7 +105,6 @@ fn opened(
     changed: Vec<u64>,
 ) -> (Board, List<u64>)
     requires sound { IsSound design }
-    requires plain { IsPlainCopper design }
     requires cap { cap ≤ 2 ^ 19 }
     requires loaded { AreLoaded design [] loaded }
     requires size { length changed.items ≡ length loaded.given.items }
@@ -139,7 +137,6 @@ impl Board {
     /// memory.
     pub fn start(alloc: Global, design: Design, cap: u64) -> Result<(Board, List<u64>), AllocError>
         requires sound { IsSound design }
-        requires plain { IsPlainCopper design }
         requires cap { cap ≤ 2 ^ 19 }
         ensures { IfOk result (λ r. IsStarted design cap r.0 r.1) }
     {

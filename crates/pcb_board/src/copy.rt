@@ -40,8 +40,8 @@ fn push_entries(
     Ok(())
 }
 
-// Equal items.
-fn copy_items(alloc: Global, items: &[Item]) -> Result<Vec<Item>, AllocError>
+/// Equal items.
+pub(crate) fn copy_items(alloc: Global, items: &[Item]) -> Result<Vec<Item>, AllocError>
     ensures { IfOk result (λ copies. copies.items ≡ items.now) }
 {
     let mut copies = Vec::new(alloc);

@@ -6,7 +6,6 @@ ghost use Rattle.pcb_model.specs.declared.item.Item.{Item as OneItem};
 ghost use Rattle.pcb_model.specs.declared.design.Design.{Design as TheDesign};
 ghost use Rattle.pcb_model.specs.Board.{IsLegal};
 ghost use Rattle.pcb_model.specs.Copper.{Ascends};
-ghost use Rattle.pcb_model.specs.Plain.{IsPlainCopper};
 ghost use Rattle.pcb_model.specs.Sound.{IsSound, Serves};
 ghost use Rattle.copper_change.specs.Changes.{AreOneById};
 ghost use Rattle.board_offers.specs.declared.offer.Offer.{Offer as OneOffer};
@@ -21,7 +20,7 @@ use pcb_model::pairs_are_symmetric;
 
 /// The board of a start list is one.
 pub fn starts_keep()
-    ensures { (d : TheDesign) (dropped : List ℕ) (start : List OneItem) (cap : ℕ) → IsSound d → IsPlainCopper d
+    ensures { (d : TheDesign) (dropped : List ℕ) (start : List OneItem) (cap : ℕ) → IsSound d
         → cap ≤ 2 ^ 19 → Starts d dropped start → IsBoard (started d start cap) }
 {}
 

@@ -12,12 +12,13 @@ ghost use Rattle.pcb_model.specs.Sound.{IsSound, IsFreeSound};
 ghost use Rattle.pcb_tiles.specs.Tiling.{IsArea};
 ghost use Rattle.pcb_tiles.specs.Spread.{holding, ServesSpread};
 ghost use Rattle.pcb_board.specs.Snaps.{AreTilesOf};
-ghost use Rattle.pcb_board.specs.inner.Loading.{IsKept, LoadsOne, AreFixed, AreLoaded};
+ghost use Rattle.pcb_board.specs.inner.Loading.{IsKept, LoadsOne, AreLoaded};
 
+use crate::copy::copy_items;
 use crate::renew::add_copy;
 use geo_kernel::{List, Point, Rect4, Spine, box_of};
 use pcb_model::{
-    Copper, Design, FreeWire, Item, Steps, copy_item, copy_loops, copy_metal, greatest_clearance,
+    Copper, Design, FreeWire, Item, Steps, copy_loops, copy_metal, greatest_clearance,
     inside_board, make_item, pairs_are_symmetric, width_ok,
 };
 use pcb_tiles::Tiles;
@@ -163,16 +164,29 @@ fn load_free(alloc: Global, d: &Design, loaded: &mut Loaded) -> Result<(), Alloc
     Ok(())
 }
 
-// Puts the design's items to what is loaded, which is nothing: the fixed ones first.
-fn load_all(alloc: Global, d: &Design, loaded: &mut Loaded) -> Result<(), AllocError>
-    requires sound { IsSound d.now }
-    requires nothing { AreFixed d.now 0 loaded.old }
-    ensures { OnOk result (AreLoaded d.now [] loaded.new) }
+// The tiles of the design's fixed items.
+fn fixed_tiles(alloc: Global, d: &Design) -> Result<Tiles, AllocError>
+    requires { IsSound d.now }
+    ensures items { IfOk result (λ t. t.items ≡ d.now.fixed) }
+    ensures spread { IfOk result (λ t. AreTilesOf d.now t.area t.reach) }
 {
-    for item in d.fixed.as_slice() {
-        keep(alloc, loaded, copy_item(alloc, item)?)?;
-    }
-    load_free(alloc, d, loaded)
+    let bounds = d.bounds.as_slice();
+    let area = area_of(alloc, bounds)?;
+    Tiles::of(alloc, area, greatest_clearance(d), d.fixed.as_slice())
+}
+
+// The design's fixed items.
+fn load_fixed(alloc: Global, d: &Design) -> Result<Loaded, AllocError>
+    requires { IsSound d.now }
+    ensures { IfOk result (AreLoaded d.now d.now.free) }
+{
+    let tiles = fixed_tiles(alloc, d)?;
+    let given = copy_items(alloc, d.fixed.as_slice())?;
+    Ok(Loaded {
+        tiles,
+        given,
+        dropped: List::new(alloc),
+    })
 }
 
 /// The design's items: the fixed ones, and behind them the free ones in order.
@@ -180,12 +194,8 @@ pub(crate) fn load(alloc: Global, d: &Design) -> Result<Loaded, AllocError>
     requires { IsSound d.now }
     ensures { IfOk result (AreLoaded d.now []) }
 {
-    let mut loaded = Loaded {
-        tiles: empty_tiles(alloc, d)?,
-        given: Vec::new(alloc),
-        dropped: List::new(alloc),
-    };
-    match load_all(alloc, d, &mut loaded) {
+    let mut loaded = load_fixed(alloc, d)?;
+    match load_free(alloc, d, &mut loaded) {
         Ok(()) => Ok(loaded),
         Err(error) => {
             drop(loaded);

@@ -43,10 +43,10 @@ put_is items a b none below placed all i j n h e p q k g =
     k ∙ (ap H g ∙ (ap L (p ∙ (ap P (h ∙ (ap B e ∙ ap N n)) ∙ ap Q q)) ∙ append_assoc low (a ∷ []) high))
 
 -- ---- filters
-kept : {X : Type 0} (p : X → Bool) (x : X) (xs : List X) → p x ≡ true → filter p (x ∷ xs) ≡ x ∷ filter p xs
+pub kept : {X : Type 0} (p : X → Bool) (x : X) (xs : List X) → p x ≡ true → filter p (x ∷ xs) ≡ x ∷ filter p xs
 kept {X} p x xs e = let F : Bool → List X = λ b. cond b (x ∷ filter p xs) (filter p xs) in ap F e
 
-left_out : {X : Type 0} (p : X → Bool) (x : X) (xs : List X) → p x ≡ false → filter p (x ∷ xs) ≡ filter p xs
+pub left_out : {X : Type 0} (p : X → Bool) (x : X) (xs : List X) → p x ≡ false → filter p (x ∷ xs) ≡ filter p xs
 left_out {X} p x xs e = let F : Bool → List X = λ b. cond b (x ∷ filter p xs) (filter p xs) in ap F e
 
 swap_step : {X : Type 0} (p q : X → Bool) (t u : Bool) (x : X) (xs : List X) → q x ≡ t → p x ≡ u
@@ -68,7 +68,7 @@ map_step : {X Y : Type 0} (f : X → Y) (q : Y → Bool) (t : Bool) (x : X) (xs 
 map_step f q true x xs h = ap (λ l. f x ∷ l) h
 map_step f q false x xs h = h
 
-filter_of_map : {X Y : Type 0} (f : X → Y) (q : Y → Bool) (xs : List X)
+pub filter_of_map : {X Y : Type 0} (f : X → Y) (q : Y → Bool) (xs : List X)
     → filter q (map f xs) ≡ map f (filter (λ y. q (f y)) xs)
 filter_of_map f q [] = refl
 filter_of_map f q (x ∷ xs) = map_step f q (q (f x)) x xs (filter_of_map f q xs)
@@ -479,7 +479,7 @@ gains_item a items up none =
       rest_is = sym (removed_at low high a ∙ split a.id items up none);
     }
 
-order_all : (x n : ℕ) → (x ≡ n) ⊎ ((x < n) ⊎ (n < x))
+pub order_all : (x n : ℕ) → (x ≡ n) ⊎ ((x < n) ⊎ (n < x))
 order_all zero zero = inl refl
 order_all zero (suc n) = inr (inl (omega arith))
 order_all (suc x) zero = inr (inr (omega arith))

@@ -5,4 +5,5 @@ pub mod Nearness
 pub mod Grids
 pub mod Changes
 pub mod Shelves
+pub mod Filling
 pub mod Sought

@@ -1,5 +1,6 @@
 pub mod Tiling
 pub mod Cells
+pub mod Filling
 pub mod Searches
 pub mod Shelves
 pub mod Kept

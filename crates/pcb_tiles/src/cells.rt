@@ -50,7 +50,8 @@ impl Entry {
         })
     }
 
-    fn share(&self) -> Result<Entry, AllocError>
+    /// An equal entry.
+    pub(crate) fn share(&self) -> Result<Entry, AllocError>
         ensures { IfOk result (λ e. e ≡ self.now) }
     {
         Ok(Entry {

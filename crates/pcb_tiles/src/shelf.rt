@@ -20,8 +20,8 @@ pub(crate) type Chunk = Shared<List<Shared<Item>>>;
 
 pub(crate) type Shelf = Shared<List<Chunk>>;
 
-// How many items a chunk has at most.
-const MOST: usize = 128;
+/// How many items a chunk has at most.
+pub(crate) const MOST: usize = 128;
 
 // Where the first id that isn't below `id` stands.
 fn place_of(items: &[Shared<Item>], id: u64) -> usize
@@ -125,8 +125,8 @@ fn replaced(
     Ok(all)
 }
 
-// One chunk, or none of no item.
-fn add_chunk(
+/// Puts one more chunk to others, or none of no item.
+pub(crate) fn add_chunk(
     alloc: Global,
     items: List<Shared<Item>>,
     chunks: &mut List<Chunk>,

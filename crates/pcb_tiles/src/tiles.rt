@@ -16,6 +16,7 @@ ghost use Rattle.pcb_tiles.specs.Spread.{holding, Gains, Loses, ServesSpread};
 
 use crate::block::{Block, block_around};
 use crate::cells::{Grid, empty_grid};
+use crate::fill::{chunks_of, fill_grid, held_copies};
 use crate::parts::{with_less, with_more};
 use crate::search::{Blocking, Clashing, Joining, Seeks, any_in_rows, best_in_rows};
 use crate::shelf::{Shelf, first_from, item_of};
@@ -75,6 +76,27 @@ impl Tiles {
             reach,
             shelf: Shared::new(alloc, List::new(alloc))?,
             grid: empty_grid(alloc, area)?,
+        })
+    }
+
+    /// Copper of many items at once, in order of id, of which copies are kept. Items are sorted into tiles in one pass,
+    /// where `add` copies the tiles of each. `reach` is the greatest clearance of the designs that it will serve.
+    pub fn of(alloc: Global, area: Rect4, reach: u64, items: &[Item]) -> Result<Tiles, AllocError>
+        requires area { IsArea area }
+        requires reach_within { reach ≤ 2 ^ 28 }
+        requires ascends { Ascends items.now }
+        requires fit { All IsItemFit items.now }
+        ensures { IfOk result (λ t. t ≡ record { area = area; reach = reach; items = items.now }) }
+    {
+        let held = held_copies(alloc, items)?;
+        let shelf = Shared::new(alloc, chunks_of(alloc, held.as_slice())?)?;
+        let grid = fill_grid(alloc, area, held.as_slice())?;
+        Ok(Tiles {
+            alloc,
+            area,
+            reach,
+            shelf,
+            grid,
         })
     }
 

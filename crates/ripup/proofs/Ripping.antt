@@ -1,7 +1,7 @@
 -- The routed items in the way of new ones, from id to id and from item to item.
 use Rattle.std.proofs.Common.{◌≡◌, ℕ, ◌+◌, ◌<◌, ◌≤◌, ◌^◌, List, [], ◌∷◌, ◌++◌, length, take, get_or, inl, inr, ◌⊎◌}
 use Rattle.std.proofs.Common.{arith, sym, ◌∙◌, subst, refl, ap}
-use Rattle.std.specs.Prelude.{Contains, All, Any, Option, Some, None}
+use Rattle.std.specs.Prelude.{Contains, All, Any, Option, Some}
 use Prim.Native.Nat.{zero, suc}
 use Rattle.std.proofs.lemmas.List.{take_more}
 use Rattle.std.proofs.lemmas.List.Elements.{All-contains, All-push, All-nil, Contains-append_left, Contains-push}

@@ -1,5 +1,5 @@
 -- Moves of a net that may take routed items out, and which routed items are in the way.
-use Rattle.std.specs.Prelude.{◌≡◌, ◌⊎◌, ℕ, zero, suc, ◌+◌, ◌*◌, ◌≤◌, ◌<◌, ◌^◌, List, [], ◌∷◌, ◌++◌, length, All, Any}
+use Rattle.std.specs.Prelude.{◌≡◌, ◌⊎◌, ℕ, zero, suc, ◌+◌, ◌*◌, ◌≤◌, ◌^◌, List, [], ◌∷◌, All, Any}
 use Rattle.std.specs.Prelude.{Contains, Option, Some, None}
 use Rattle.std.specs.List.Sorted.{IsStrictlyIncreasing}
 use Rattle.pcb_model.specs.declared.item.Item.{Item}
@@ -7,7 +7,6 @@ use Rattle.pcb_model.specs.declared.item.Probe.{Probe}
 use Rattle.pcb_model.specs.declared.design.Design.{Design}
 use Rattle.pcb_model.specs.Pairs.{Agrees, ProbeAgrees}
 use Rattle.pcb_model.specs.Board.{IsRouted}
-use Rattle.pcb_model.specs.Counts.{Counts}
 use Rattle.route_lattice.specs.Walks.{MoveGraph}
 use Rattle.route_lattice.specs.Mesh.{Mesh, node_count}
 use Rattle.route_lattice.specs.Ways.{way, way_count}

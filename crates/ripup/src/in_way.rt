@@ -13,10 +13,9 @@ ghost use Rattle.ripup.specs.Rips.{AreIdsInWay};
 ghost use Rattle.ripup.specs.inner.Steps.{AreInWayBelow, AreInWayOfOne, AreInWayOfAll};
 
 use geo_kernel::List;
-use pcb_model::{Copper, Design, Item, Steps, pair_ok};
+use pcb_model::{Copper, Design, Item, agree};
 use std::alloc::{AllocError, Global};
-use std::marker::{Brand, Model};
-use std::sync::ledger::{Blank, Ledger};
+use std::marker::Model;
 
 /// A sound design, and copper that serves it. Nothing is asked of a lattice here.
 #[derive(Drop)]
@@ -62,30 +61,29 @@ impl<C: Copper> Served<'_, C> {
     }
 
     /// The least id at or above `from` of an item that disagrees with this one, other than the one with its id.
-    fn next_clash<L: Ledger>(&self, item: &Item, from: u64, steps: &mut Steps<L>) -> Option<u64>
+    fn next_clash(&self, item: &Item, from: u64) -> Option<u64>
         requires { IsItemFit item.now }
         ensures { Finds (λ b. Agrees self.now.d item.now b → ⊥) (Agrees self.now.d item.now) from (Some item.now.id)
             self.now.items result }
     {
-        self.copper.next_clash(self.d, item, from, steps)
+        self.copper.clash_from(self.d, item, from)
     }
 
     /// Whether two items agree.
-    fn agree<L: Ledger>(&self, item: &Item, other: &Item, steps: &mut Steps<L>) -> bool
+    fn agree(&self, item: &Item, other: &Item) -> bool
         requires item_fits { IsItemFit item.now }
         requires other_fits { IsItemFit other.now }
         ensures { IsTrue result ↔ Agrees self.now.d item.now other.now }
     {
-        pair_ok(self.d, item, other, steps)
+        agree(self.d, item, other)
     }
 }
 
 /// Appends the id of an item that has the id of a new one, if it is in its way.
-fn push_namesake<C: Copper, L: Ledger>(
+fn push_namesake<C: Copper>(
     found: &mut Vec<u64>,
     on: &Served<'_, C>,
     item: &Item,
-    steps: &mut Steps<L>,
 ) -> Result<(), AllocError>
     requires { IsItemFit item.now }
     ensures { OnOk result (AreInWayBelow on.now.d on.now.items item.now (length on.now.d.fixed) found.old.items
@@ -98,7 +96,7 @@ fn push_namesake<C: Copper, L: Ledger>(
     if other.fixed {
         return Ok(());
     }
-    if on.agree(item, other, steps) {
+    if on.agree(item, other) {
         return Ok(());
     }
     found.push(other.id)?;
@@ -106,19 +104,18 @@ fn push_namesake<C: Copper, L: Ledger>(
 }
 
 /// Appends the ids of the routed items that are in the way of a new one.
-fn push_in_way<C: Copper, L: Ledger>(
+fn push_in_way<C: Copper>(
     found: &mut Vec<u64>,
     on: &Served<'_, C>,
     item: &Item,
-    steps: &mut Steps<L>,
 ) -> Result<(), AllocError>
     requires { IsItemFit item.now }
     ensures { OnOk result (AreInWayOfOne on.now.d on.now.items item.now found.old.items found.new.items) }
 {
     on.keeps();
-    push_namesake(found, on, item, steps)?;
+    push_namesake(found, on, item)?;
     let mut from = on.fixed_count();
-    while let Some(id) = on.next_clash(item, from, steps) {
+    while let Some(id) = on.next_clash(item, from) {
         found.push(id)?;
         let Some(next) = id.checked_add(1) else {
             return Ok(());
@@ -129,22 +126,17 @@ fn push_in_way<C: Copper, L: Ledger>(
 }
 
 /// The ids of the routed items that are in the way of new ones, in any order.
-fn gather_in_way<C: Copper, L: Ledger>(
+fn gather_in_way<C: Copper>(
     alloc: Global,
     on: &Served<'_, C>,
     new: &[Item],
-    blank: Blank,
 ) -> Result<Vec<u64>, AllocError>
-    requires name { blank.name ≡ L.name }
-    requires parts { blank.parts ≡ L.parts }
-    requires whole { 0 < blank.parts }
-    requires fit { All IsItemFit new.now }
+    requires { All IsItemFit new.now }
     ensures { IfOk result (λ found. AreInWayOfAll on.now.d on.now.items new.now found.items) }
 {
-    let mut steps: Steps<L> = Steps::new(blank);
     let mut found = Vec::new(alloc);
     for item in new {
-        push_in_way(&mut found, on, item, &mut steps)?;
+        push_in_way(&mut found, on, item)?;
     }
     Ok(found)
 }
@@ -171,6 +163,6 @@ pub fn to_rip<C: Copper>(
     ensures { IfOk result (AreIdsInWay d.now (C.items c.now) new.now) }
 {
     let on = Served { d, copper: c };
-    let found = gather_in_way::<C, Brand>(alloc, &on, new.as_slice(), Blank::new(1))?;
+    let found = gather_in_way(alloc, &on, new.as_slice())?;
     Ok(ascending(found))
 }

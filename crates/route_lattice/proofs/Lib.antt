@@ -1,5 +1,4 @@
 pub mod Places
-mod Tested
 pub mod Steps
 pub mod Anchoring
 pub mod Numbered

@@ -5,12 +5,25 @@ use Rattle.std.specs.List.Sorted.{IsStrictlyIncreasing}
 use Rattle.geo_kernel.specs.declared.point.Point.{Point}
 use Rattle.geo_kernel.specs.declared.point.Rect4.{Rect4}
 use Rattle.geo_kernel.specs.Boxes.{IsIn}
-use Rattle.pcb_model.specs.Sound.{origin}
+use Rattle.pcb_model.specs.Sound.{origin, IsSound, IsItemOf}
 use Rattle.pcb_model.specs.declared.item.Item.{Item}
 use Rattle.pcb_model.specs.declared.design.Design.{Design}
 use Rattle.route_lattice.specs.Mesh.{Mesh, node_count, node_at, point_of}
+use Rattle.route_lattice.specs.Fits.{FitsDesign}
 use Rattle.route_lattice.specs.Anchors.{Anchors, AnchorsAmong}
 use Rattle.route_lattice.specs.declared.found.Window.{Window}
+
+-- what an item on a lattice is to a caller
+pub record LatticeItemOf : Type 0 where
+  pub d : Design
+  pub lat : Mesh
+  pub item : Item
+
+-- a sound design, a lattice of it, and an item of it
+pub record IsLatticeItem (d : Design) (m : Mesh) (item : Item) : Type 0 where
+  pub sound : IsSound d
+  pub fits : FitsDesign d m
+  pub item_fits : IsItemOf d item
 
 -- new has what old has and all that has Must; what it has is old or has May
 pub record Gains (Must May : ℕ → Type 0) (old new : List ℕ) : Type 0 where

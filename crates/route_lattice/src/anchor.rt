@@ -1,12 +1,12 @@
 //! Which nodes anchor an item: those at which a search for a way from it may start.
 //! A wire is anchored on its spine, a via and a pad at their centres.
 
-ghost use Rattle.std.specs.Prelude.{◌≡◌, ◌↔◌, ◌≤◌, ◌<◌, ◌^◌, IsTrue, All, Any, length, slice_get};
+ghost use Rattle.std.specs.Prelude.{◌≡◌, ◌↔◌, ◌<◌, ◌^◌, IsTrue, All, Any, length, slice_get};
 ghost use Rattle.std.specs.Option.{IsSomeAnd};
 ghost use Rattle.pcb_model.specs.declared.design.Pin.{Pin as OnePin};
 ghost use Rattle.geo_kernel.specs.Plane.{IsWithin};
-ghost use Rattle.pcb_model.specs.Bounds.{IsFit, IsMetalFit};
-ghost use Rattle.pcb_model.specs.Sound.{IsSound, IsItemOf, IsMetalInRange};
+ghost use Rattle.pcb_model.specs.Bounds.{IsFit};
+ghost use Rattle.pcb_model.specs.Sound.{IsSound, IsItemOf};
 ghost use Rattle.pcb_model.specs.Scale.{scale_of};
 ghost use Rattle.route_lattice.specs.Mesh.{node_count};
 ghost use Rattle.route_lattice.specs.Fits.{FitsDesign};
@@ -17,29 +17,24 @@ use crate::round::round_nearest;
 use crate::touch::{covers, touches_chain};
 use geo_kernel::Point;
 use pcb_model::{Design, Item, Metal, Piece};
+use std::marker::Model;
 
-/// The point with each coordinate rounded to the nearest multiple of the unit, half upwards.
-fn round_point(unit: u64, p: Point) -> Point
-    requires some { 0 < unit }
-    requires small { unit ≤ 25400000 }
-    requires p_within { IsWithin (2 ^ 29) p }
-    ensures { result ≡ rounded unit p }
-{
-    Point {
-        x: round_nearest(unit, p.x),
-        y: round_nearest(unit, p.y),
-    }
+/// An item of a sound design, and a lattice of the design.
+#[derive(Drop)]
+pub(crate) struct LatticeItem<'a> {
+    pub lat: &'a Lattice,
+    pub d: &'a Design,
+    pub item: &'a Item,
 }
 
-/// The anchor of a pin's pad: its centre, rounded.
-pub(crate) fn pin_anchor(d: &Design, unit: u64, pin: u32) -> Point
-    requires sound { IsSound d.now }
-    requires some { 0 < unit }
-    requires small { unit ≤ 25400000 }
-    requires pin { pin < length d.now.pins }
-    ensures { IsSomeAnd (slice_get d.now.pins pin) (λ (q : OnePin). rounded unit q.centre ≡ result) }
-{
-    round_point(unit, d.pins.as_slice()[pin as usize].centre)
+impl<'a> Model for LatticeItem<'a> {
+    ghost use Rattle.route_lattice.specs.Found.{LatticeItemOf, IsLatticeItem};
+
+    ghost Value = { LatticeItemOf };
+
+    ghost view = { λ s. record { d = s.d.now; lat = s.lat.now; item = s.item.now } };
+
+    ghost invariant = { λ s. IsLatticeItem s.d.now s.lat.now s.item.now };
 }
 
 fn holds(layer: u8, p: Point, q: &Piece) -> bool
@@ -63,21 +58,47 @@ fn some_holds(layer: u8, p: Point, pieces: &[Piece]) -> bool
     false
 }
 
-fn is_anchor_of(d: &Design, unit: u64, metal: &Metal, p: Point) -> bool
-    requires sound { IsSound d.now }
-    requires unit_is { unit ≡ (scale_of d.now).nm }
-    requires some { 0 < unit }
-    requires small { unit ≤ 25400000 }
-    requires fits { IsMetalFit metal.now }
-    requires in_range { IsMetalInRange d.now metal.now }
-    requires p_within { IsWithin (2 ^ 29) p }
-    ensures { IsTrue result ↔ IsAnchorOf d.now metal.now p }
-{
-    match metal {
-        Metal::Wire { chain, .. } => touches_chain(p, chain.as_slice(), 0),
-        Metal::Via { at, .. } => *at == p,
-        Metal::Pad { pin } => pin_anchor(d, unit, *pin) == p,
-        Metal::Ban { .. } => false,
+impl LatticeItem<'_> {
+    /// The point with each coordinate rounded to the nearest multiple of the session unit, half upwards.
+    fn rounded(&self, p: Point) -> Point
+        requires { IsWithin (2 ^ 29) p }
+        ensures { result ≡ rounded (scale_of self.now.d).nm p }
+    {
+        let unit = self.lat.unit();
+        Point {
+            x: round_nearest(unit, p.x),
+            y: round_nearest(unit, p.y),
+        }
+    }
+
+    /// The anchor of a pin's pad: its centre, rounded.
+    pub(crate) fn pin_anchor(&self, pin: u32) -> Point
+        requires { pin < length self.now.d.pins }
+        ensures { IsSomeAnd (slice_get self.now.d.pins pin)
+            (λ (q : OnePin). rounded (scale_of self.now.d).nm q.centre ≡ result) }
+    {
+        self.rounded(self.d.pins.as_slice()[pin as usize].centre)
+    }
+
+    fn is_anchor(&self, p: Point) -> bool
+        requires { IsWithin (2 ^ 29) p }
+        ensures { IsTrue result ↔ IsAnchorOf self.now.d self.now.item.metal p }
+    {
+        match &self.item.metal {
+            Metal::Wire { chain, .. } => touches_chain(p, chain.as_slice(), 0),
+            Metal::Via { at, .. } => *at == p,
+            Metal::Pad { pin } => self.pin_anchor(*pin) == p,
+            Metal::Ban { .. } => false,
+        }
+    }
+
+    /// Whether a node anchors the item.
+    pub(crate) fn has_anchor(&self, node: u32) -> bool
+        requires { node < node_count self.now.lat }
+        ensures { IsTrue result ↔ Anchors self.now.d self.now.lat node self.now.item }
+    {
+        let p = self.lat.point(node);
+        self.is_anchor(p) && some_holds(self.lat.layer(node), p, self.item.pieces.as_slice())
     }
 }
 
@@ -90,8 +111,7 @@ impl Lattice {
         requires item { IsItemOf d.now item.now }
         ensures { IsTrue result ↔ Anchors d.now self.now node item.now }
     {
-        let p = self.point(node);
-        is_anchor_of(d, self.unit(), &item.metal, p)
-            && some_holds(self.layer(node), p, item.pieces.as_slice())
+        let on = LatticeItem { lat: self, d, item };
+        on.has_anchor(node)
     }
 }

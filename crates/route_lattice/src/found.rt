@@ -4,7 +4,6 @@
 ghost use Rattle.std.specs.Prelude.{◌≡◌, ◌<◌, ◌≤◌, ◌<ℤ◌, ◌≤ℤ◌, ℕ, pos, IfOk, OnOk, length, slice_index_or};
 ghost use Rattle.std.specs.List.Sorted.{IsStrictlySortedBy};
 ghost use Rattle.std.specs.Ordering.{int_cmp};
-ghost use Rattle.pcb_model.specs.Copper.{Ascends};
 ghost use Rattle.pcb_model.specs.Sound.{IsSound, IsItemOf};
 ghost use Rattle.route_lattice.specs.Fits.{FitsDesign};
 ghost use Rattle.route_lattice.specs.Anchors.{AreAnchorsOf, AreAnchorsAmong};
@@ -12,7 +11,8 @@ ghost use Rattle.route_lattice.specs.Found.{Gains, IsAnchorNode, IsAnchorWithId,
 ghost use Rattle.route_lattice.specs.Found.{IsWindowOf, IsWindowIn, IsAnchorIn, IsAnchorAlong};
 ghost use Rattle.route_lattice.specs.Found.{AreSorted, box_between as the_box_between};
 
-use crate::anchor::pin_anchor;
+use crate::anchor::LatticeItem;
+use crate::ground::Ground;
 use crate::mesh::Lattice;
 use geo_kernel::{List, Point, Rect4};
 use pcb_model::{Copper, Design, Item, Metal};
@@ -58,6 +58,7 @@ fn box_between(a: Point, b: Point) -> Rect4
     }
 }
 
+/// The places of the lines that cross a box.
 fn window_of(lat: &Lattice, r: Rect4) -> Window
     requires xs_ascend { IsStrictlySortedBy int_cmp lat.now.xs }
     requires ys_ascend { IsStrictlySortedBy int_cmp lat.now.ys }
@@ -73,144 +74,111 @@ fn window_of(lat: &Lattice, r: Rect4) -> Window
     }
 }
 
-fn push_row(
-    found: &mut Vec<u32>,
-    lat: &Lattice,
-    d: &Design,
-    item: &Item,
-    w: Window,
-    level: usize,
-    row: usize,
-) -> Result<(), AllocError>
-    requires sound { IsSound d.now }
-    requires fits { FitsDesign d.now lat.now }
-    requires item { IsItemOf d.now item.now }
-    requires window { IsWindowIn lat.now w }
-    requires level { level < length lat.now.layers }
-    requires row { row < length lat.now.ys }
-    ensures { OnOk result
-        (Gains (IsInRow d.now lat.now item.now w level row) (IsAnchorNode d.now lat.now item.now) found.old.items
-        found.new.items) }
-{
-    for column in w.left..w.right {
-        let node = lat.node(level, row, column);
-        if lat.anchor(d, node, item) {
-            found.push(node)?;
+impl LatticeItem<'_> {
+    fn push_row(
+        &self,
+        found: &mut Vec<u32>,
+        window: Window,
+        level: usize,
+        row: usize,
+    ) -> Result<(), AllocError>
+        requires window { IsWindowIn self.now.lat window }
+        requires level { level < length self.now.lat.layers }
+        requires row { row < length self.now.lat.ys }
+        ensures { OnOk result
+            (Gains (IsInRow self.now.d self.now.lat self.now.item window level row)
+            (IsAnchorNode self.now.d self.now.lat self.now.item) found.old.items found.new.items) }
+    {
+        for column in window.left..window.right {
+            let node = self.lat.node(level, row, column);
+            if self.has_anchor(node) {
+                found.push(node)?;
+            }
         }
+        Ok(())
     }
-    Ok(())
-}
 
-fn push_level(
-    found: &mut Vec<u32>,
-    lat: &Lattice,
-    d: &Design,
-    item: &Item,
-    w: Window,
-    level: usize,
-) -> Result<(), AllocError>
-    requires sound { IsSound d.now }
-    requires fits { FitsDesign d.now lat.now }
-    requires item { IsItemOf d.now item.now }
-    requires window { IsWindowIn lat.now w }
-    requires level { level < length lat.now.layers }
-    ensures { OnOk result
-        (Gains (IsOnLevel d.now lat.now item.now w level) (IsAnchorNode d.now lat.now item.now) found.old.items
-        found.new.items) }
-{
-    for row in w.bottom..w.top {
-        push_row(found, lat, d, item, w, level, row)?;
-    }
-    Ok(())
-}
-
-/// Appends the nodes in the box of two points that anchor the item.
-fn push_between(
-    found: &mut Vec<u32>,
-    lat: &Lattice,
-    d: &Design,
-    item: &Item,
-    a: Point,
-    b: Point,
-) -> Result<(), AllocError>
-    requires sound { IsSound d.now }
-    requires fits { FitsDesign d.now lat.now }
-    requires item { IsItemOf d.now item.now }
-    ensures { OnOk result
-        (Gains (IsAnchorIn d.now lat.now item.now a b) (IsAnchorNode d.now lat.now item.now) found.old.items
-        found.new.items) }
-{
-    let w = window_of(lat, box_between(a, b));
-    for level in 0..lat.layers().len() {
-        push_level(found, lat, d, item, w, level)?;
-    }
-    Ok(())
-}
-
-/// Appends the nodes that anchor the item and lie in the box of a segment of a chain.
-fn push_along(
-    found: &mut Vec<u32>,
-    lat: &Lattice,
-    d: &Design,
-    item: &Item,
-    chain: &[Point],
-) -> Result<(), AllocError>
-    requires sound { IsSound d.now }
-    requires fits { FitsDesign d.now lat.now }
-    requires item { IsItemOf d.now item.now }
-    ensures { OnOk result
-        (Gains (IsAnchorAlong d.now lat.now item.now chain.now) (IsAnchorNode d.now lat.now item.now)
-        found.old.items found.new.items) }
-{
-    for k in 0..chain.len() {
-        push_between(found, lat, d, item, chain[k.saturating_sub(1)], chain[k])?;
-    }
-    Ok(())
-}
-
-/// Appends the nodes that anchor the item.
-fn push_anchors(
-    found: &mut Vec<u32>,
-    lat: &Lattice,
-    d: &Design,
-    item: &Item,
-) -> Result<(), AllocError>
-    requires sound { IsSound d.now }
-    requires fits { FitsDesign d.now lat.now }
-    requires item { IsItemOf d.now item.now }
-    ensures { OnOk result
-        (Gains (IsAnchorNode d.now lat.now item.now) (IsAnchorNode d.now lat.now item.now) found.old.items
-        found.new.items) }
-{
-    match &item.metal {
-        Metal::Wire { chain, .. } => push_along(found, lat, d, item, chain.as_slice()),
-        Metal::Via { at, .. } => push_between(found, lat, d, item, *at, *at),
-        Metal::Pad { pin } => {
-            let at = pin_anchor(d, lat.unit(), *pin);
-            push_between(found, lat, d, item, at, at)
+    fn push_level(
+        &self,
+        found: &mut Vec<u32>,
+        window: Window,
+        level: usize,
+    ) -> Result<(), AllocError>
+        requires window { IsWindowIn self.now.lat window }
+        requires level { level < length self.now.lat.layers }
+        ensures { OnOk result
+            (Gains (IsOnLevel self.now.d self.now.lat self.now.item window level)
+            (IsAnchorNode self.now.d self.now.lat self.now.item) found.old.items found.new.items) }
+    {
+        for row in window.bottom..window.top {
+            self.push_row(found, window, level, row)?;
         }
-        Metal::Ban { .. } => Ok(()),
+        Ok(())
+    }
+
+    /// Appends the nodes in the box of two points that anchor the item.
+    fn push_between(&self, found: &mut Vec<u32>, a: Point, b: Point) -> Result<(), AllocError>
+        ensures { OnOk result
+            (Gains (IsAnchorIn self.now.d self.now.lat self.now.item a b)
+            (IsAnchorNode self.now.d self.now.lat self.now.item) found.old.items found.new.items) }
+    {
+        let window = window_of(self.lat, box_between(a, b));
+        for level in 0..self.lat.layers().len() {
+            self.push_level(found, window, level)?;
+        }
+        Ok(())
+    }
+
+    /// Appends the nodes that anchor the item and lie in the box of a segment of a chain.
+    fn push_along(&self, found: &mut Vec<u32>, chain: &[Point]) -> Result<(), AllocError>
+        ensures { OnOk result
+            (Gains (IsAnchorAlong self.now.d self.now.lat self.now.item chain.now)
+            (IsAnchorNode self.now.d self.now.lat self.now.item) found.old.items found.new.items) }
+    {
+        for k in 0..chain.len() {
+            self.push_between(found, chain[k.saturating_sub(1)], chain[k])?;
+        }
+        Ok(())
+    }
+
+    /// Appends the nodes that anchor the item.
+    fn push_anchors(&self, found: &mut Vec<u32>) -> Result<(), AllocError>
+        ensures { OnOk result
+            (Gains (IsAnchorNode self.now.d self.now.lat self.now.item)
+            (IsAnchorNode self.now.d self.now.lat self.now.item) found.old.items found.new.items) }
+    {
+        match &self.item.metal {
+            Metal::Wire { chain, .. } => self.push_along(found, chain.as_slice()),
+            Metal::Via { at, .. } => self.push_between(found, *at, *at),
+            Metal::Pad { pin } => {
+                let at = self.pin_anchor(*pin);
+                self.push_between(found, at, at)
+            }
+            Metal::Ban { .. } => Ok(()),
+        }
     }
 }
 
 /// Appends the nodes that anchor the item with the id.
 fn push_of_id<C: Copper>(
     found: &mut Vec<u32>,
-    lat: &Lattice,
-    d: &Design,
-    c: &C,
+    on: &Ground<'_, C>,
     id: u64,
 ) -> Result<(), AllocError>
-    requires sound { IsSound d.now }
-    requires fits { FitsDesign d.now lat.now }
-    requires serves { C.serves c.now d.now }
-    requires in_order { Ascends (C.items c.now) }
     ensures { OnOk result
-        (Gains (IsAnchorWithId d.now lat.now (C.items c.now) id) (IsAnchorWithId d.now lat.now (C.items c.now) id)
+        (Gains (IsAnchorWithId on.now.d on.now.lat on.now.items id) (IsAnchorWithId on.now.d on.now.lat on.now.items id)
         found.old.items found.new.items) }
 {
-    match c.item(id) {
-        Some(item) => push_anchors(found, lat, d, item),
+    on.in_order();
+    match on.item(id) {
+        Some(item) => {
+            let sought = LatticeItem {
+                lat: on.lat,
+                d: on.d,
+                item,
+            };
+            sought.push_anchors(found)
+        }
         None => Ok(()),
     }
 }
@@ -235,8 +203,9 @@ pub fn anchor_nodes(
     requires item { IsItemOf d.now item.now }
     ensures { IfOk result (AreAnchorsOf d.now lat.now item.now) }
 {
+    let on = LatticeItem { lat, d, item };
     let mut found = Vec::new(alloc);
-    push_anchors(&mut found, lat, d, item)?;
+    on.push_anchors(&mut found)?;
     Ok(ascending(found))
 }
 
@@ -254,9 +223,10 @@ pub fn anchors_among<C: Copper>(
     ensures { IfOk result (AreAnchorsAmong d.now lat.now (C.items c.now) ids.now) }
 {
     c.in_order();
+    let on = Ground { lat, d, c };
     let mut found = Vec::new(alloc);
     for id in ids {
-        push_of_id(&mut found, lat, d, c, *id)?;
+        push_of_id(&mut found, &on, *id)?;
     }
     Ok(ascending(found))
 }

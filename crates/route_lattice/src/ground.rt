@@ -16,9 +16,8 @@ ghost use Rattle.route_lattice.specs.Legal.{IsLegalNode, CanMove};
 
 use crate::legal::{LegalMoves, legal_node};
 use crate::mesh::Lattice;
-use pcb_model::{Copper, Design, Item, Probe, Steps, inside_board, probe_inside};
-use std::marker::{Brand, Model};
-use std::sync::ledger::{Blank, Ledger};
+use pcb_model::{Copper, Design, Item, Probe, inside_board, probe_inside};
+use std::marker::Model;
 
 /// A lattice, the sound design that it is one of, and copper that serves the design.
 #[derive(Drop)]
@@ -96,18 +95,6 @@ impl<'a, C: Copper> Ground<'a, C> {
         self.c.in_order();
     }
 
-    fn block_by<L: Ledger>(&self, net: u32, probe: &Probe, from: u64, blank: Blank) -> Option<u64>
-        requires name { blank.name ≡ L.name }
-        requires parts { blank.parts ≡ L.parts }
-        requires whole { 0 < blank.parts }
-        requires fits { IsProbeFit self.now.d probe.now }
-        ensures { Finds (λ b. ProbeAgrees self.now.d net probe.now b → ⊥) (ProbeAgrees self.now.d net probe.now) from
-            None self.now.items result }
-    {
-        let mut steps: Steps<L> = Steps::new(blank);
-        self.c.next_block(self.d, net, probe, from, &mut steps)
-    }
-
     /// The least id at or above `from` of an item that disagrees with what the probe of the net stands for, or None
     /// exactly where there is none. No step is counted.
     pub fn block_from(&self, net: u32, probe: &Probe, from: u64) -> Option<u64>
@@ -115,19 +102,7 @@ impl<'a, C: Copper> Ground<'a, C> {
         ensures { Finds (λ b. ProbeAgrees self.now.d net probe.now b → ⊥) (ProbeAgrees self.now.d net probe.now) from
             None self.now.items result }
     {
-        self.block_by::<Brand>(net, probe, from, Blank::new(1))
-    }
-
-    fn clash_by<L: Ledger>(&self, item: &Item, from: u64, blank: Blank) -> Option<u64>
-        requires name { blank.name ≡ L.name }
-        requires parts { blank.parts ≡ L.parts }
-        requires whole { 0 < blank.parts }
-        requires fits { IsItemFit item.now }
-        ensures { Finds (λ b. Agrees self.now.d item.now b → ⊥) (Agrees self.now.d item.now) from (Some item.now.id)
-            self.now.items result }
-    {
-        let mut steps: Steps<L> = Steps::new(blank);
-        self.c.next_clash(self.d, item, from, &mut steps)
+        self.c.block_from(self.d, net, probe, from)
     }
 
     /// The least id at or above `from` of an item that disagrees with this one, other than the one with its id, or
@@ -137,19 +112,7 @@ impl<'a, C: Copper> Ground<'a, C> {
         ensures { Finds (λ b. Agrees self.now.d item.now b → ⊥) (Agrees self.now.d item.now) from (Some item.now.id)
             self.now.items result }
     {
-        self.clash_by::<Brand>(item, from, Blank::new(1))
-    }
-
-    fn touch_by<L: Ledger>(&self, item: &Item, from: u64, blank: Blank) -> Option<u64>
-        requires name { blank.name ≡ L.name }
-        requires parts { blank.parts ≡ L.parts }
-        requires whole { 0 < blank.parts }
-        requires fits { IsItemFit item.now }
-        ensures { Finds (AreTouching item.now) (λ b. AreTouching item.now b → ⊥) from (Some item.now.id)
-            self.now.items result }
-    {
-        let mut steps: Steps<L> = Steps::new(blank);
-        self.c.next_touch(item, from, &mut steps)
+        self.c.clash_from(self.d, item, from)
     }
 
     /// The least id at or above `from` of an item of this one's net that touches it, other than the one with its id,
@@ -159,7 +122,7 @@ impl<'a, C: Copper> Ground<'a, C> {
         ensures { Finds (AreTouching item.now) (λ b. AreTouching item.now b → ⊥) from (Some item.now.id)
             self.now.items result }
     {
-        self.touch_by::<Brand>(item, from, Blank::new(1))
+        self.c.touch_from(item, from)
     }
 
     /// Whether the first vertex of each of the item's spines lies inside every boundary.

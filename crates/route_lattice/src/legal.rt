@@ -9,7 +9,6 @@ ghost use Rattle.pcb_model.specs.declared.item.Item.{Item as OneItem};
 ghost use Rattle.pcb_model.specs.declared.design.Design.{Design as TheDesign};
 ghost use Rattle.pcb_model.specs.Bounds.{IsDesignFit, IsProbeFit};
 ghost use Rattle.pcb_model.specs.Rules.{width_for};
-ghost use Rattle.pcb_model.specs.Pairs.{ProbeAgrees};
 ghost use Rattle.pcb_model.specs.Sound.{IsSound};
 ghost use Rattle.route_lattice.specs.Walks.{IsSound as IsGraphSound};
 ghost use Rattle.route_lattice.specs.Mesh.{Mesh, node_count, point_of};
@@ -21,24 +20,8 @@ ghost use Rattle.route_lattice.specs.Legal.{way_between as way_between_points, l
 use crate::mesh::Lattice;
 use crate::moves::{Move, Moves};
 use geo_kernel::{List, Point};
-use pcb_model::{Copper, Design, Probe, Steps, probe_inside, width_of};
+use pcb_model::{Copper, Design, Probe, probe_inside, width_of};
 use std::alloc::{AllocError, Global};
-use std::marker::Brand;
-use std::sync::ledger::{Blank, Ledger};
-
-/// Whether what the probe stands for agrees with all items. It counts its steps by itself.
-fn agrees<C: Copper, L: Ledger>(d: &Design, c: &C, net: u32, p: &Probe, blank: Blank) -> bool
-    requires name { blank.name ≡ L.name }
-    requires parts { blank.parts ≡ L.parts }
-    requires whole { 0 < blank.parts }
-    requires serves { C.serves c.now d.now }
-    requires p_fits { IsProbeFit d.now p.now }
-    ensures yes { OnTrue result ((b : OneItem) → Contains (C.items c.now) b → ProbeAgrees d.now net p.now b) }
-    ensures no { OnFalse result (((b : OneItem) → Contains (C.items c.now) b → ProbeAgrees d.now net p.now b) → ⊥) }
-{
-    let mut steps: Steps<L> = Steps::new(blank);
-    !c.is_blocked(d, net, p, &mut steps)
-}
 
 /// Whether what the probe stands for lies inside every boundary and agrees with all items.
 fn is_legal<C: Copper>(d: &Design, c: &C, net: u32, p: &Probe) -> bool
@@ -50,7 +33,7 @@ fn is_legal<C: Copper>(d: &Design, c: &C, net: u32, p: &Probe) -> bool
     if !probe_inside(d, p) {
         return false;
     }
-    agrees::<C, Brand>(d, c, net, p, Blank::new(1))
+    c.is_clear(d, net, p)
 }
 
 /// Whether the disc of the net's width at a node agrees with all items and lies inside every boundary.

@@ -10,36 +10,32 @@ ghost use Rattle.route_lattice.specs.Ways.{step_at, vias_of, via_at, way as way_
 
 use crate::mesh::Lattice;
 use crate::moves::Move;
-use crate::near::{can_join, padstack_pieces};
+use crate::near::can_join;
 use pcb_model::Design;
+use pcb_model::pieces::padstack_pieces;
 
 impl Lattice {
     /// The node of a signal layer, a y line and an x line, each by its place.
     pub(crate) fn node(&self, level: usize, row: usize, column: usize) -> u32
-        requires few { node_count self.now ≤ 2 ^ 24 }
         requires level { level < length self.now.layers }
         requires row { row < length self.now.ys }
         requires column { column < length self.now.xs }
         ensures value { result ≡ node_at self.now level row column }
         ensures there { result < node_count self.now }
     {
-        number_of(
-            self.xs().len(),
-            self.ys().len(),
-            self.layers().len(),
-            level,
-            row,
-            column,
-        )
+        let _ = self.count();
+        let width = self.xs().len();
+        let height = self.ys().len();
+        ((level * height + row) * width + column) as u32
     }
 
     /// The step of a direction, below 4.
     fn step(&self, node: u32, dir: u32) -> Option<(Move, u32)>
-        requires few { node_count self.now ≤ 2 ^ 24 }
         requires node { node < node_count self.now }
         requires dir { dir < 4 }
         ensures { result ≡ step_at self.now node dir }
     {
+        let _ = self.count();
         let width = self.xs().len();
         let height = self.ys().len();
         let place = node as usize;
@@ -72,7 +68,6 @@ impl Lattice {
 
     /// The node above or below a node, on signal layer `level`.
     pub fn node_on(&self, node: u32, level: usize) -> u32
-        requires few { node_count self.now ≤ 2 ^ 24 }
         requires node { node < node_count self.now }
         requires level { level < length self.now.layers }
         ensures { result ≡ node_at self.now level (row self.now node) (column self.now node) }
@@ -84,8 +79,6 @@ impl Lattice {
 
     /// The via of a padstack to signal layer `level`.
     fn via(&self, d: &Design, node: u32, padstack: u32, level: usize) -> Option<(Move, u32)>
-        requires design { IsDesignFit d.now }
-        requires fits { FitsDesign d.now self.now }
         requires node { node < node_count self.now }
         requires level { level < length self.now.layers }
         ensures { result ≡ via_at d.now self.now node padstack level }
@@ -104,7 +97,7 @@ impl Lattice {
     }
 
     /// How many numbers the moves of a node have for a net.
-    pub(crate) fn way_count(&self, d: &Design, net: u32) -> u32
+    pub fn way_count(&self, d: &Design, net: u32) -> u32
         requires sound { IsSound d.now }
         requires fits { FitsDesign d.now self.now }
         requires net { net < length d.now.nets }
@@ -132,23 +125,4 @@ impl Lattice {
         let padstack = d.nets.as_slice()[net as usize].vias.as_slice()[number / layers];
         self.via(d, node, padstack, number % layers)
     }
-}
-
-/// The number of a node by its places.
-fn number_of(
-    width: usize,
-    height: usize,
-    layers: usize,
-    level: usize,
-    row: usize,
-    column: usize,
-) -> u32
-    requires few { layers * height * width ≤ 2 ^ 24 }
-    requires level { level < layers }
-    requires row { row < height }
-    requires column { column < width }
-    ensures value { result ≡ (level * height + row) * width + column }
-    ensures there { result < layers * height * width }
-{
-    ((level * height + row) * width + column) as u32
 }

@@ -1,6 +1,7 @@
 -- What a search answers over the same moves is the same.
-use Rattle.std.proofs.Common.{ℕ, ◌<◌, List, Result, Ok, Err, sym, subst}
+use Rattle.std.proofs.Common.{ℕ, ◌<◌, Bool, true, false, List, Result, Ok, Err, sym, subst}
 use Rattle.std.specs.Prelude.{IfOk}
+use Rattle.std.specs.Bool.{OnTrue}
 use Rattle.route_lattice.specs.Walks.{MoveGraph, IsWalk, NoneLeads, Answers}
 use Rattle.route_lattice.specs.declared.moves.Walk.{Walk}
 use Rattle.route_lattice.specs.declared.moves.Found.{Found}
@@ -39,6 +40,14 @@ module _ (a b : MoveGraph) (s : SameMoves a b) where
   }
   answers_same starts goals (found.Closed r) h =
       (none_same starts goals h.0, reach_same a b s starts r.nodes h.1)
+
+  -- a test that none does, where memory may be wanting
+  pub shut_same : {E : Type 0} (starts goals : List ℕ) (r : Result Bool E)
+      → IfOk r (λ shut. OnTrue shut (NoneLeads a starts goals))
+      → IfOk r (λ shut. OnTrue shut (NoneLeads b starts goals))
+  shut_same starts goals (Ok true) h = none_same starts goals h
+  shut_same starts goals (Ok false) h = h
+  shut_same starts goals (Err e) h = h
 
   -- a search, where memory may be wanting
   pub ok_same : {E : Type 0} (starts goals : List ℕ) (r : Result Found E) → IfOk r (Answers a starts goals)

@@ -1,7 +1,6 @@
 -- A route past routed items, and what makes way for it, become a least offer.
-use Rattle.std.proofs.Common.{◌≡◌, inl, inr, ℕ, ◌<◌, ◌≤◌, List, [], length, Option, Some, None, refl, sym, ◌∙◌, subst}
+use Rattle.std.proofs.Common.{◌≡◌, inl, inr, ℕ, ◌<◌, ◌≤◌, List, [], length, Option, Some, None, sym, ◌∙◌, subst}
 use Rattle.std.proofs.Common.{arith, All}
-use Rattle.std.specs.Prelude.{slice_get, remove}
 use Rattle.pcb_model.specs.declared.item.Item.{Item}
 use Rattle.pcb_model.specs.declared.item.Metal.{Metal}
 use Rattle.pcb_model.specs.declared.design.Design.{Design}
@@ -9,7 +8,6 @@ use Rattle.pcb_model.specs.Copper.{Ascends}
 use Rattle.pcb_model.specs.Plain.{IsPlainCopper}
 use Rattle.pcb_model.specs.Sound.{IsSound}
 use Rattle.pcb_islands.specs.declared.net.Island.{Island}
-use Rattle.pcb_islands.specs.Islands.{AreIslands}
 use Rattle.route_lattice.specs.declared.moves.Move.{Move}
 use Rattle.route_lattice.specs.Mesh.{Mesh}
 use Rattle.route_lattice.specs.Fits.{FitsDesign}
@@ -28,11 +26,11 @@ use Rattle.least_offer.specs.Together.{StandTogether}
 use Rattle.route_plan.specs.declared.way.Way.{Way}
 use Rattle.route_plan.specs.inner.Ways.{MakesWayOn}
 use Rattle.route_plan.specs.declared.route.Route.{Route}
-use Rattle.route_plan.specs.Plans.{IsSnapOf, CanPlan, IsShutFrom, IsShutIn}
-use Rattle.route_plan.specs.inner.Routes.{IsRoute, IsPassingOffer, IsPassing}
-use Rattle.route_plan.specs.Plans.{IsOfferOf, IsPlanOf, StandsAt}
-use Rattle.route_plan.proofs.Offering.{net_at, joins, least}
-use Rattle.route_plan.proofs.Planning.{on_board, number_is, shut_in, split, some_left}
+use Rattle.route_plan.specs.Plans.{IsSnapOf, CanPlan}
+use Rattle.route_plan.specs.inner.Routes.{IsRoute, IsRouteOffer, MakesWayFor}
+use Rattle.route_plan.specs.Plans.{IsOfferOf, StandsAt}
+use Rattle.route_plan.proofs.Offering.{joins, least}
+use Rattle.route_plan.proofs.Planning.{on_board, number_is, legal_offer}
 use Rattle.route_plan.proofs.Routing.{net_walk_of}
 
 -- ---- the laws
@@ -126,7 +124,7 @@ module _ (d : Design) (m : Mesh) (s : SnapOf) (net via_cost : ℕ) (b : BoardOf)
       → (worker < 16 → place ≡ 0)
       → IsRoute d m s.items net via_cost (Some penalty) island others route
       → MakesWayOn d m s.items (added_from d net 0 route.metals) way
-      → IsPassingOffer s.number worker net penalty route way o → LeastMay → ShovesMay → MadeStand → InWayAlike
+      → IsRouteOffer s.number worker net (Some penalty) route way o → LeastMay → ShovesMay → MadeStand → InWayAlike
       → ShovesAlike
       → IsOfferOf m via_cost b worker net (Some penalty) o × JoinsLeast m via_cost b o island others
   passing worker penalty island others place route way o can of up few stands first r w is law may stand in_way alike =
@@ -175,50 +173,21 @@ module _ (d : Design) (m : Mesh) (s : SnapOf) (net via_cost : ℕ) (b : BoardOf)
         joins m via_cost b o island others place route stands_on route_on is.from_is is.to_is is.add_is takes,
       )
 
-  -- the first island and the others on the snapshot are those on the board
-  pub stands_first : (penalty : Option ℕ) (found others : List Island) (island : Island)
-      → CanPlan d m s net via_cost penalty → IsSnapOf s b → AreIslands d s.items net found
-      → slice_get found 0 ≡ Some island → others ≡ remove found 0 → StandsAt b.design b.items net 0 island others
-  stands_first penalty found others island can of islands first rest = record {
-    found = found;
-    islands = on_board d m s net via_cost b (λ d xs. AreIslands d xs net found) can.own of islands;
-    island_is = first;
-    others_are = rest;
-  }
-
-  -- the first island's offer is the net's
-  pub passing_first : (worker penalty : ℕ) (found others : List Island) (island : Island) (o : Offer)
-      → CanPlan d m s net via_cost (Some penalty) → IsSnapOf s b → Ascends s.items → worker ≤ 16
-      → AreIslands d s.items net found → slice_get found 0 ≡ Some island → others ≡ remove found 0
-      → IsPassing d m s via_cost worker penalty island others o
-      → LeastMay → ShovesMay → MadeStand → InWayAlike → ShovesAlike → IsPlanOf m via_cost b worker net (Some penalty) o
-  passing_first worker penalty found others island o can of up few islands first rest h law may stand in_way alike =
-      let stands = stands_first (Some penalty) found others island can of islands first rest in
-      let own : island.net ≡ net = net_at b.design b.items net 0 island others stands in
-      let made = passing worker penalty island others 0 h.route h.way o can of up few stands (λ w. refl)
-      (subst (λ (n : ℕ). IsRoute d m s.items n via_cost (Some penalty) island others h.route) own h.is_route)
-      (subst (λ (n : ℕ). MakesWayOn d m s.items (added_from d n 0 h.route.metals) h.way) own h.makes_way)
-      (subst (λ (n : ℕ). IsPassingOffer s.number worker n penalty h.route h.way o) own h.offer_is) law may stand
-      in_way alike in
-      record {
-        offer = made.0;
-        first = island;
-        others = others;
-        islands = split b.design b.items net found others island
-            (on_board d m s net via_cost b (λ d xs. AreIslands d xs net found) can.own of islands) first rest;
-        joins = made.1;
-        takes = λ e. absurd (none_some penalty (sym e));
-      }
-
-  -- where the first island is shut, so is the net
-  pub shut_first : (penalty : Option ℕ) (found others : List Island) (island : Island) (nodes : List ℕ)
-      → CanPlan d m s net via_cost penalty → IsSnapOf s b
-      → AreIslands d s.items net found → slice_get found 0 ≡ Some island → others ≡ remove found 0 → 1 < length found
-      → IsShutFrom d m s.items island.net via_cost penalty island others nodes
-      → IsShutIn b.design m b.items net via_cost penalty nodes
-  shut_first penalty found others island nodes can of islands first rest many shut =
-      let stands = stands_first penalty found others island can of islands first rest in
-      let own : island.net ≡ net = net_at b.design b.items net 0 island others stands in
-      shut_in d m s net via_cost b penalty island others nodes can of
-      (split d s.items net found others island islands first rest) (some_left found others island first rest many)
-      (subst (λ (n : ℕ). IsShutFrom d m s.items n via_cost penalty island others nodes) own shut)
+  -- so a route becomes an offer, with a penalty or without
+  pub route_offer : (worker : ℕ) (penalty : Option ℕ) (island : Island) (others : List Island) (place : ℕ)
+      (route : Route) (way : Way) (o : Offer) → CanPlan d m s net via_cost penalty → IsSnapOf s b → Ascends s.items
+      → worker ≤ 16 → StandsAt b.design b.items net place island others → (worker < 16 → place ≡ 0)
+      → IsRoute d m s.items net via_cost penalty island others route
+      → MakesWayFor d m s.items net penalty route.metals way → IsRouteOffer s.number worker net penalty route way o
+      → LeastMay → ShovesMay → MadeStand → InWayAlike → ShovesAlike
+      → IsOfferOf m via_cost b worker net penalty o × (penalty ≡ None → TakesNothing o)
+      × JoinsLeast m via_cost b o island others
+  route_offer worker None island others place route way o can of up few stands first r w is law may stand in_way alike =
+      let made = legal_offer d m s net via_cost b worker island others place route way o can of up few stands first r w
+      is law in
+      (made.0, λ e. made.1, made.2)
+  route_offer worker (Some p) island others place route way o can of up few stands first r w is law may stand in_way
+      alike =
+      let made = passing worker p island others place route way o can of up few stands first r w is law may stand in_way
+      alike in
+      (made.0, λ e. absurd (none_some p (sym e)), made.1)

@@ -2,7 +2,7 @@ mod Missing
 mod Tallied
 mod Telling
 pub mod Serving
-pub mod Seeing
+pub mod Mapping
 pub mod Fitting
 pub mod Standing
 pub mod Moving
@@ -12,6 +12,7 @@ pub mod Offering
 pub mod Anchoring
 pub mod Routing
 pub mod Planning
+pub mod Asking
 pub mod Alike
 pub mod Searching
 pub mod Clearing

@@ -9,23 +9,27 @@ use Rattle.pcb_islands.specs.declared.net.Island.{Island}
 use Rattle.pcb_islands.specs.Islands.{AreIslands}
 use Rattle.route_lattice.specs.Mesh.{Mesh}
 use Rattle.route_lattice.specs.Fits.{FitsDesign}
-use Rattle.route_lattice.specs.Legal.{CanMove}
 use Rattle.pcb_model.specs.Plain.{IsPlainCopper}
 use Rattle.board_offers.specs.declared.offer.Offer.{Offer}
 use Rattle.pcb_board.specs.Boards.{BoardOf, SnapOf}
 use Rattle.pcb_board.specs.Keeping.{IsBoard}
 use Rattle.least_offer.specs.Least.{IsLeastOffer, JoinsLeast, TakesNothing, MayBeMade, Chooses}
 use Rattle.route_plan.specs.declared.route.Route.{Route}
+use Rattle.route_plan.specs.declared.way.Way.{Way}
 use Rattle.route_plan.specs.Plans.{IsSnapOf, CanPlan, IsWhole, IsShutFrom, IsShutIn, IsOfferOf}
-use Rattle.route_plan.specs.inner.Routes.{IsRoute, IsBareOffer}
+use Rattle.route_plan.specs.inner.Searches.{CanWalk}
+use Rattle.route_plan.specs.inner.Routes.{IsRoute, IsRouteOffer}
 use Rattle.route_plan.specs.Plans.{StandsAt, LeadsFrom}
-use Rattle.route_plan.specs.declared.plans.Led.{Led}
+use Rattle.route_plan.specs.declared.plans.FromIsland.{FromIsland}
 use Rattle.route_plan.proofs.Offering.{joins, least, net_at}
 
-pub can_move : (d : Design) (m : Mesh) (s : SnapOf) (net via_cost : ℕ) (penalty : Option ℕ)
-    → CanPlan d m s net via_cost penalty → CanMove d m net via_cost
-can_move d m s net via_cost penalty can =
-    record { sound = can.sound; fits = can.fits; net_there = can.net_there; small_cost = can.small_cost }
+-- what its walks ask
+pub can_walk : (d : Design) (m : Mesh) (s : SnapOf) (net via_cost : ℕ) (penalty : Option ℕ)
+    → CanPlan d m s net via_cost penalty → CanWalk d m net via_cost penalty
+can_walk d m s net via_cost penalty can = record {
+  move = record { sound = can.sound; fits = can.fits; net_there = can.net_there; small_cost = can.small_cost };
+  small_penalty = can.small_penalty;
+}
 
 -- the first island of a net has that net
 pub first_net : (d : Design) (items : List Item) (net : ℕ) (found others : List Island) (island : Island)
@@ -48,29 +52,30 @@ module _ (d : Design) (m : Mesh) (s : SnapOf) (net via_cost : ℕ) (b : BoardOf)
   number_is of = sym (ap (λ (x : SnapOf). x.number) of.is)
 
   -- a route without a penalty becomes an offer
-  pub legal_offer : (worker : ℕ) (island : Island) (others : List Island) (place : ℕ) (route : Route) (o : Offer)
-      (base : ℕ) → CanPlan d m s net via_cost None
+  pub legal_offer : (worker : ℕ) (island : Island) (others : List Island) (place : ℕ) (route : Route) (way : Way)
+      (o : Offer) → CanPlan d m s net via_cost None
       → IsSnapOf s b → Ascends s.items → worker ≤ 16 → StandsAt b.design b.items net place island others
       → (worker < 16 → place ≡ 0)
-      → IsRoute d m s.items net via_cost None island others route → base ≡ s.number
-      → IsBareOffer base worker net None route o
+      → IsRoute d m s.items net via_cost None island others route → (way.rip ≡ []) × (way.shoves ≡ [])
+      → IsRouteOffer s.number worker net None route way o
       → ((m : Mesh) (via_cost : ℕ) (b : BoardOf) (o : Offer) → IsBoard b → Ascends b.items → IsPlainCopper b.design
       → FitsDesign b.design m → o.base ≤ length b.history
       → o.worker ≤ 16 → o.net < length b.design.nets → IsLeastOffer m via_cost b o
       → (o.penalty ≡ None → TakesNothing o) → MayBeMade b o)
-      → IsOfferOf m via_cost b worker net None o × JoinsLeast m via_cost b o island others
-  legal_offer worker island others place route o base can of up few stands first r base_is bare law =
+      → IsOfferOf m via_cost b worker net None o × TakesNothing o × JoinsLeast m via_cost b o island others
+  legal_offer worker island others place route way o can of up few stands first r none bare law =
+      let takes : TakesNothing o = record { no_rip = bare.rip_is ∙ none.0; no_shove = bare.shoves_is ∙ none.1 } in
       let stands_on : StandsAt b.design b.items o.net place island others = subst
       (λ (n : ℕ). StandsAt b.design b.items n place island others) (sym bare.net_is) stands in
       let route_on : IsRoute b.design m b.items o.net via_cost o.penalty island others route =
       subst (λ (p : ℕ × Option ℕ). IsRoute b.design m b.items p.0 via_cost p.1 island others route)
       (λ i. (sym bare.net_is i, sym bare.penalty_is i))
       (on_board (λ d xs. IsRoute d m xs net via_cost None island others route) can.own of r) in
-      let chooses : Chooses m b o o.penalty = subst (Chooses m b o) (sym bare.penalty_is) (λ w. bare.takes) in
+      let chooses : Chooses m b o o.penalty = subst (Chooses m b o) (sym bare.penalty_is) (λ w. takes) in
       let first_on : o.worker < 16 → place ≡ 0 = λ w. first (omega (arith, w, bare.worker_is)) in
       let is_least = least m via_cost b o island others place route stands_on first_on route_on bare.from_is bare.to_is
-      bare.add_is (λ e. bare.takes) chooses in
-      let base_on : o.base ≡ length b.history = bare.base_is ∙ base_is ∙ number_is of in
+      bare.add_is (λ e. takes) chooses in
+      let base_on : o.base ≡ length b.history = bare.base_is ∙ number_is of in
       let up_on : Ascends b.items = on_board (λ d xs. Ascends xs) can.own of up in (
         record {
           base_is = base_on;
@@ -81,32 +86,33 @@ module _ (d : Design) (m : Mesh) (s : SnapOf) (net via_cost : ℕ) (b : BoardOf)
           may = law m via_cost b o of.board up_on of.plain (on_board (λ d xs. FitsDesign d m) can.own of can.fits)
               (omega (arith, base_on)) (omega (arith, few, bare.worker_is))
               (subst (λ (n : ℕ). n < length b.design.nets) (sym bare.net_is)
-              (on_board (λ d xs. net < length d.nets) can.own of can.net_there)) is_least (λ e. bare.takes);
+              (on_board (λ d xs. net < length d.nets) can.own of can.net_there)) is_least (λ e. takes);
         },
+        takes,
         joins m via_cost b o island others place route stands_on route_on bare.from_is bare.to_is bare.add_is
-            (λ e. bare.takes),
+            (λ e. takes),
       )
 
   -- the first island and the others on the snapshot are those on the board
-  pub first_stands : (found others : List Island) (island : Island) → CanPlan d m s net via_cost None → IsSnapOf s b
-      → AreIslands d s.items net found
+  pub first_stands : (penalty : Option ℕ) (found others : List Island) (island : Island)
+      → CanPlan d m s net via_cost penalty → IsSnapOf s b → AreIslands d s.items net found
       → slice_get found 0 ≡ Some island → others ≡ remove found 0 → StandsAt b.design b.items net 0 island others
-  first_stands found others island can of islands first rest = record {
+  first_stands penalty found others island can of islands first rest = record {
     found = found;
     islands = on_board (λ d xs. AreIslands d xs net found) can.own of islands;
     island_is = first;
     others_are = rest;
   }
 
-  -- so what a plan of the first island says on all boards of the snapshot holds on this one
-  pub first_leads : (worker : ℕ) (found others : List Island) (island : Island) (answer : Led)
-      → CanPlan d m s net via_cost None → IsSnapOf s b
-      → AreIslands d s.items net found → slice_get found 0 ≡ Some island → others ≡ remove found 0
+  -- so where the first island leads on all boards of the snapshot it leads on this one
+  pub first_leads : (worker : ℕ) (penalty : Option ℕ) (found others : List Island) (island : Island)
+      (answer : FromIsland) → CanPlan d m s net via_cost penalty → IsSnapOf s b → AreIslands d s.items net found
+      → slice_get found 0 ≡ Some island → others ≡ remove found 0
       → ((place : ℕ) → StandsAt b.design b.items island.net place island others → (worker < 16 → place ≡ 0)
-      → LeadsFrom m via_cost b worker island others answer)
-      → (island.net ≡ net) × LeadsFrom m via_cost b worker island others answer
-  first_leads worker found others island answer can of islands first rest leads =
-      let stands = first_stands found others island can of islands first rest in
+      → LeadsFrom m via_cost b worker penalty island others answer)
+      → (island.net ≡ net) × LeadsFrom m via_cost b worker penalty island others answer
+  first_leads worker penalty found others island answer can of islands first rest leads =
+      let stands = first_stands penalty found others island can of islands first rest in
       let own = net_at b.design b.items net 0 island others stands in
       (own, leads 0 (subst (λ (n : ℕ). StandsAt b.design b.items n 0 island others) (sym own) stands) (λ few. refl))
 
@@ -117,19 +123,6 @@ module _ (d : Design) (m : Mesh) (s : SnapOf) (net via_cost : ℕ) (b : BoardOf)
     islands = on_board
         (λ d xs. AreIslands d xs net found) can.own of islands;
     few = few;
-  }
-
-  pub shut_in : (penalty : Option ℕ) (island : Island) (others : List Island) (nodes : List ℕ)
-      → CanPlan d m s net via_cost penalty → IsSnapOf s b → AreIslands d s.items net (island ∷ others)
-      → 0 < length others
-      → IsShutFrom d m s.items net via_cost penalty island others nodes
-      → IsShutIn b.design m b.items net via_cost penalty nodes
-  shut_in penalty island others nodes can of islands several shut = record {
-    island = island;
-    others = others;
-    islands = on_board (λ d xs. AreIslands d xs net (island ∷ others)) can.own of islands;
-    several = several;
-    shut = on_board (λ d xs. IsShutFrom d m xs net via_cost penalty island others nodes) can.own of shut;
   }
 
 -- the first island, and the others
@@ -148,17 +141,17 @@ split d items net found others island h first rest =
     ∙ ap (λ (xs : List Island). island ∷ xs) (sym rest)) h
 
 -- no walk leads from the first island, so the net is shut in
-pub shut_first : (d : Design) (m : Mesh) (items : List Item) (net via_cost : ℕ) (found others : List Island)
-    (island : Island) (nodes : List ℕ)
+pub shut_first : (d : Design) (m : Mesh) (items : List Item) (net via_cost : ℕ) (penalty : Option ℕ)
+    (found others : List Island) (island : Island) (nodes : List ℕ)
     → AreIslands d items net found → slice_get found 0 ≡ Some island → others ≡ remove found 0 → 0 < length others
-    → island.net ≡ net
-    → IsShutFrom d m items island.net via_cost None island others nodes → IsShutIn d m items net via_cost None nodes
-shut_first d m items net via_cost found others island nodes islands first rest several own shut = record {
+    → island.net ≡ net → IsShutFrom d m items island.net via_cost penalty island others nodes
+    → IsShutIn d m items net via_cost penalty nodes
+shut_first d m items net via_cost penalty found others island nodes islands first rest several own shut = record {
   island = island;
   others = others;
   islands = split d items net found others island islands first rest;
   several = several;
-  shut = subst (λ (n : ℕ). IsShutFrom d m items n via_cost None island others nodes) own shut;
+  shut = subst (λ (n : ℕ). IsShutFrom d m items n via_cost penalty island others nodes) own shut;
 }
 
 pub some_left : (found others : List Island) (island : Island) → slice_get found 0 ≡ Some island → others

@@ -10,9 +10,8 @@ use Rattle.wave_search.specs.Around.{AreAround, low_at}
 use Rattle.wave_search.specs.Bounds.{IsBound}
 use Rattle.cut_certificate.specs.Backwards.{HasMoveTo, IsMutual}
 use Rattle.ripup.specs.Rips.{CanRip, rip_graph}
-use Rattle.pcb_board.specs.Boards.{SnapOf}
-use Rattle.route_plan.specs.Plans.{CanPlan, moves_of}
-use Rattle.route_plan.proofs.Planning.{can_move}
+use Rattle.route_plan.specs.Plans.{moves_of}
+use Rattle.route_plan.specs.inner.Searches.{CanWalk}
 
 -- what the laws on legal moves and on those past routed items say
 abbrev pub LegalSound : Type 0
@@ -44,30 +43,29 @@ rip_back d m items net via_cost penalty back node i move to h k e =
     let way : HasMoveTo (legal_graph d m items net via_cost) to node = back node i move to h k e in
     record { index = way.index; move = way.move; listed = way.listed; leads = way.leads }
 
-module _ (d : Design) (m : Mesh) (s : SnapOf) (net via_cost : ℕ) where
+module _ (d : Design) (m : Mesh) (items : List Item) (net via_cost : ℕ) where
   -- where one leads, one leads back
-  pub moves_back : (q : Option ℕ) → LegalBack → IsMutual (moves_of d m s.items net via_cost q)
-  moves_back None legal = legal d m s.items net via_cost
-  moves_back (Some p) legal = rip_back d m s.items net via_cost p (legal d m s.items net via_cost)
+  pub moves_back : (q : Option ℕ) → LegalBack → IsMutual (moves_of d m items net via_cost q)
+  moves_back None legal = legal d m items net via_cost
+  moves_back (Some p) legal = rip_back d m items net via_cost p (legal d m items net via_cost)
 
   -- the moves are between the nodes of the lattice
-  pub count_is : (q : Option ℕ) → (moves_of d m s.items net via_cost q).count ≡ node_count m
+  pub count_is : (q : Option ℕ) → (moves_of d m items net via_cost q).count ≡ node_count m
   count_is None = refl
   count_is (Some p) = refl
 
-  pub can_rip : (p : ℕ) → CanPlan d m s net via_cost (Some p) → CanRip d m net via_cost p
-  can_rip p can = record { can_move = can_move d m s net via_cost (Some p) can; small_penalty = can.small_penalty }
+  can_rip : (p : ℕ) → CanWalk d m net via_cost (Some p) → CanRip d m net via_cost p
+  can_rip p can = record { can_move = can.move; small_penalty = can.small_penalty }
 
   -- they are such as a search asks for
-  pub moves_sound : (q : Option ℕ) → CanPlan d m s net via_cost q → LegalSound → RipSound
-      → IsSound (moves_of d m s.items net via_cost q)
-  moves_sound None can legal rip = legal d m s.items net via_cost (can_move d m s net via_cost None can)
-  moves_sound (Some p) can legal rip = rip d m s.items net via_cost p (can_rip p can)
+  pub moves_sound : (q : Option ℕ) → CanWalk d m net via_cost q → LegalSound → RipSound
+      → IsSound (moves_of d m items net via_cost q)
+  moves_sound None can legal rip = legal d m items net via_cost can.move
+  moves_sound (Some p) can legal rip = rip d m items net via_cost p (can_rip p can)
 
   -- the way to the nearest of boxes around the goals is a bound
-  pub moves_bound : (q : Option ℕ) (goals : List ℕ) (boxes : List Rect4) → CanPlan d m s net via_cost q → LegalBound
-      → RipBound → AreAround m goals boxes → IsBound (moves_of d m s.items net via_cost q) goals (low_at m boxes)
-  moves_bound None goals boxes can legal rip around =
-      legal d m s.items net via_cost goals boxes (can_move d m s net via_cost None can) around
+  pub moves_bound : (q : Option ℕ) (goals : List ℕ) (boxes : List Rect4) → CanWalk d m net via_cost q → LegalBound
+      → RipBound → AreAround m goals boxes → IsBound (moves_of d m items net via_cost q) goals (low_at m boxes)
+  moves_bound None goals boxes can legal rip around = legal d m items net via_cost goals boxes can.move around
   moves_bound (Some p) goals boxes can legal rip around =
-      rip d m s.items net via_cost p goals boxes (can_rip p can) around
+      rip d m items net via_cost p goals boxes (can_rip p can) around

@@ -17,11 +17,13 @@ use Rattle.board_offers.specs.declared.offer.Offer.{Offer}
 use Rattle.pcb_board.specs.Boards.{BoardOf, SnapOf}
 use Rattle.pcb_board.specs.Keeping.{IsBoard}
 use Rattle.pcb_board.specs.Answers.{snap_of}
-use Rattle.route_plan.specs.declared.plans.Led.{Led}
-use Rattle.route_plan.specs.declared.plans.Led.TheVariants as led
+use Rattle.route_plan.specs.declared.plans.FromIsland.{FromIsland}
+use Rattle.route_plan.specs.declared.plans.FromIsland.TheVariants as from_island
 use Rattle.route_plan.specs.declared.plans.Planned.{Planned}
 use Rattle.route_plan.specs.declared.plans.Planned.TheVariants as planned
 use Rattle.least_offer.specs.Least.{IsLeastOffer, JoinsLeast, MayBeMade, TakesNothing}
+use Rattle.board_offers.specs.declared.offer.TheConstants.{CLOSER}
+use Rattle.route_plan.specs.Planners.{PlannerOf}
 
 -- the snapshot is one of a board of a sound design of plain copper
 pub record IsSnapOf (s : SnapOf) (b : BoardOf) : Type 0 where
@@ -100,13 +102,14 @@ pub record StandsAt (d : Design) (items : List Item) (net place : ℕ) (island :
   pub island_is : slice_get found place ≡ Some island
   pub others_are : others ≡ remove found place
 
--- a least offer from the island to one of the others without a penalty that may be made; or no legal walk leads so, and
--- these are all nodes that legal moves reach from the island's legal anchors
-abbrev pub LeadsFrom : Mesh → ℕ → BoardOf → ℕ → Island → List Island → Led → Type 0
-LeadsFrom m via_cost b worker island others (led.Offer o) = IsOfferOf m via_cost b worker island.net None o
-    × TakesNothing o × JoinsLeast m via_cost b o island others
-LeadsFrom m via_cost b worker island others (led.Shut reach) =
-    IsShutFrom b.design m b.items island.net via_cost None island others reach.nodes
+-- a least offer from the island to one of the others that may be made, and without a penalty takes nothing out; or no
+-- walk leads so, and these are all nodes that moves reach from the island's legal anchors
+abbrev pub LeadsFrom : Mesh → ℕ → BoardOf → ℕ → Option ℕ → Island → List Island → FromIsland → Type 0
+LeadsFrom m via_cost b worker penalty island others (from_island.Offer o) =
+    IsOfferOf m via_cost b worker island.net penalty o × (penalty ≡ None → TakesNothing o)
+    × JoinsLeast m via_cost b o island others
+LeadsFrom m via_cost b worker penalty island others (from_island.Shut reach) =
+    IsShutFrom b.design m b.items island.net via_cost penalty island others reach.nodes
 
 -- the plan of a net on a board
 abbrev pub Plans : Mesh → ℕ → BoardOf → ℕ → ℕ → Option ℕ → Planned → Type 0
@@ -114,3 +117,15 @@ Plans m via_cost b worker net penalty (planned.Offer o) = IsPlanOf m via_cost b 
 Plans m via_cost b worker net penalty
     (planned.Shut reach) = IsShutIn b.design m b.items net via_cost penalty reach.nodes
 Plans m via_cost b worker net penalty planned.Whole = IsWhole b.design b.items net
+
+-- ---- what a planner answers, on each board of its snapshot
+-- the plan of a net
+abbrev pub PlansNet : PlannerOf → ℕ → Option ℕ → Planned → Type 0
+PlansNet p net penalty answer = (b : BoardOf) → IsSnapOf p.snap b
+    → Plans p.lat p.via_cost b p.worker net penalty answer
+
+-- where an island leads, which for a worker's offer is the first of its net
+abbrev pub LeadsOut : PlannerOf → Option ℕ → Island → List Island → FromIsland → Type 0
+LeadsOut p penalty island others answer = (b : BoardOf) (place : ℕ) → IsSnapOf p.snap b
+    → StandsAt b.design b.items island.net place island others → (p.worker < CLOSER → place ≡ 0)
+    → LeadsFrom p.lat p.via_cost b p.worker penalty island others answer

@@ -3,36 +3,32 @@
 
 ghost use Rattle.std.specs.Prelude.{◌≡◌, ◌↔◌, All, IfOk, IsTrue, map};
 ghost use Rattle.pcb_model.specs.declared.item.Item.{Item as OneItem};
-ghost use Rattle.pcb_model.specs.Bounds.{IsItemFit};
-ghost use Rattle.pcb_model.specs.Sound.{IsSound};
-ghost use Rattle.route_lattice.specs.Fits.{FitsDesign};
 ghost use Rattle.least_offer.specs.Together.{StandsWith};
 ghost use Rattle.route_plan.specs.inner.Ways.{shove_of as the_shove, IsReshaped, MovesAll};
 
-use crate::fit::first_fit;
+use crate::fit::NewItems;
 use board_offers::Shoved;
 use geo_kernel::List;
 use least_offer::shoves_are_one;
-use pcb_model::{Copper, Design, Item, Metal, agree, are_touching};
-use route_lattice::Lattice;
+use pcb_model::{Copper, Item, Metal, agree, are_touching};
+use route_lattice::Ground;
 use std::alloc::{AllocError, Global};
 
 /// Whether two moved wires agree, and touch if the wires touched where they were.
-fn stands_with<C: Copper>(d: &Design, c: &C, a: &Item, b: &Item) -> bool
-    requires sound { IsSound d.now }
-    requires serves { C.serves c.now d.now }
-    requires a_moved { IsReshaped d.now (C.items c.now) a.now }
-    requires b_moved { IsReshaped d.now (C.items c.now) b.now }
-    ensures { IsTrue result ↔ StandsWith d.now (C.items c.now) (the_shove a.now) (the_shove b.now) }
+fn stands_with<C: Copper>(on: &Ground<'_, C>, a: &Item, b: &Item) -> bool
+    requires a_moved { IsReshaped on.now.d on.now.items a.now }
+    requires b_moved { IsReshaped on.now.d on.now.items b.now }
+    ensures { IsTrue result ↔ StandsWith on.now.d on.now.items (the_shove a.now) (the_shove b.now) }
 {
-    c.in_order();
-    let Some(a_was) = c.item(a.id) else {
+    on.keeps();
+    on.in_order();
+    let Some(a_was) = on.item(a.id) else {
         unreachable!();
     };
-    let Some(b_was) = c.item(b.id) else {
+    let Some(b_was) = on.item(b.id) else {
         unreachable!();
     };
-    if !agree(d, a, b) {
+    if !agree(on.d, a, b) {
         return false;
     }
     if !are_touching(a_was, b_was) {
@@ -42,67 +38,65 @@ fn stands_with<C: Copper>(d: &Design, c: &C, a: &Item, b: &Item) -> bool
 }
 
 /// Whether each of the moved wires stands with another one.
-fn all_stand_with<C: Copper>(d: &Design, c: &C, moved: &[Item], b: &Item) -> bool
-    requires sound { IsSound d.now }
-    requires serves { C.serves c.now d.now }
-    requires moved { All (IsReshaped d.now (C.items c.now)) moved.now }
-    requires b_moved { IsReshaped d.now (C.items c.now) b.now }
+fn all_stand_with<C: Copper>(on: &Ground<'_, C>, moved: &[Item], b: &Item) -> bool
+    requires moved { All (IsReshaped on.now.d on.now.items) moved.now }
+    requires b_moved { IsReshaped on.now.d on.now.items b.now }
     ensures { IsTrue result
-        ↔ All (λ (a : OneItem). StandsWith d.now (C.items c.now) (the_shove a) (the_shove b.now)) moved.now }
+        ↔ All (λ (a : OneItem). StandsWith on.now.d on.now.items (the_shove a) (the_shove b.now)) moved.now }
 {
     for a in moved {
-        if !stands_with(d, c, a, b) {
+        if !stands_with(on, a, b) {
             return false;
         }
     }
     true
 }
 
-/// Each of the items with these ids moved to its first fit.
-/// None where one has no fit, or two of them don't stand together.
-pub(crate) fn moved_items<C: Copper>(
-    alloc: Global,
-    lat: &Lattice,
-    d: &Design,
-    c: &C,
-    new: &[Item],
-    ids: &[u64],
-) -> Result<Option<List<Item>>, AllocError>
-    requires sound { IsSound d.now }
-    requires fits { FitsDesign d.now lat.now }
-    requires serves { C.serves c.now d.now }
-    requires new_fit { All IsItemFit new.now }
-    ensures { IfOk result (MovesAll d.now lat.now (C.items c.now) new.now ids.now) }
-{
-    c.in_order();
-    shoves_are_one();
-    let mut moved: List<Item> = List::new(alloc);
-    for id in ids {
-        let Some(item) = c.item(*id) else {
-            drop(moved);
-            return Ok(None);
+impl<C: Copper> NewItems<'_, C> {
+    /// Each of the items with these ids moved to its first fit.
+    /// None where one has no fit, or two of them don't stand together.
+    pub(crate) fn moved_items(
+        &self,
+        alloc: Global,
+        ids: &[u64],
+    ) -> Result<Option<List<Item>>, AllocError>
+        ensures { IfOk result (MovesAll self.now.on.d self.now.on.lat self.now.on.items self.now.new ids.now) }
+    {
+        let on = Ground {
+            lat: self.lat,
+            d: self.d,
+            c: self.copper,
         };
-        let fitting = match first_fit(alloc, lat, d, c, new, item) {
-            Ok(Some(fitting)) => fitting,
-            Ok(None) => {
+        on.in_order();
+        shoves_are_one();
+        let mut moved: List<Item> = List::new(alloc);
+        for id in ids {
+            let Some(item) = on.item(*id) else {
                 drop(moved);
                 return Ok(None);
+            };
+            let fitting = match self.first_fit(alloc, item) {
+                Ok(Some(fitting)) => fitting,
+                Ok(None) => {
+                    drop(moved);
+                    return Ok(None);
+                }
+                Err(error) => {
+                    drop(moved);
+                    return Err(error);
+                }
+            };
+            if !all_stand_with(&on, moved.as_slice(), &fitting) {
+                drop((fitting, moved));
+                return Ok(None);
             }
-            Err(error) => {
+            if let Err(error) = moved.push(fitting) {
                 drop(moved);
-                return Err(error);
+                return Err(error.into());
             }
-        };
-        if !all_stand_with(d, c, moved.as_slice(), &fitting) {
-            drop((fitting, moved));
-            return Ok(None);
         }
-        if let Err(error) = moved.push(fitting) {
-            drop(moved);
-            return Err(error.into());
-        }
+        Ok(Some(moved))
     }
-    Ok(Some(moved))
 }
 
 /// The shove that a moved wire stands for.

@@ -1,23 +1,25 @@
-//! A plan of a net on a snapshot: a least walk from its first island to another, and what makes way for it.
+//! The plan of a net on a snapshot: a least walk from its first island to another, and what makes way for it.
 //! A plan takes no turn: what it reads stays as it is while the board goes on.
 
-ghost use Rattle.std.specs.Prelude.{◌≡◌, ◌≤◌, ◌<◌, ℕ, None, Some, IfOk};
+ghost use Rattle.std.specs.Prelude.{◌≡◌, All, IfOk};
 ghost use Rattle.route_lattice.specs.Mesh.{node_count};
-ghost use Rattle.route_lattice.specs.Legal.{legal_graph};
-ghost use Rattle.cut_certificate.specs.Same.{SameMoves};
-ghost use Rattle.pcb_board.specs.Boards.{BoardOf};
-ghost use Rattle.route_plan.specs.Plans.{IsSnapOf, CanPlan, Plans, StandsAt, LeadsFrom};
-ghost use Rattle.route_plan.specs.inner.Routes.{IsBareOffer};
-ghost use Rattle.board_offers.specs.declared.offer.TheConstants.{CLOSER};
+ghost use Rattle.path_wire.specs.Lays.{IsWellLaid};
+ghost use Rattle.route_plan.specs.Plans.{PlansNet, LeadsOut};
+ghost use Rattle.route_plan.specs.inner.Routes.{IsRouteOffer, MakesWayFor};
 
-use crate::route::{Route, Routed, Task};
+use crate::route::{NetSearch, Route, Routed};
+use crate::way::{Way, make_way};
 use geo_kernel::List;
-use least_offer::least_offers_may_be_made;
+use least_offer::{
+    least_offers_may_be_made, made_shoves_stand_together, shoves_are_one, shoves_may_be_made,
+};
+use path_wire::copper_well_laid;
 use pcb_board::{Offer, Snap};
 use pcb_islands::{Island, islands};
-use pcb_model::{Copper, Design};
-use route_lattice::{Lattice, Moves, Reach};
+use pcb_model::{Copper, Design, Metal};
+use route_lattice::{Ground, Lattice, Moves, Reach};
 use std::alloc::{AllocError, Global};
+use std::marker::Model;
 use wave_search::Search;
 
 /// What a plan answers: an offer; all that moves reach from the first island, where no walk leads from it to another;
@@ -29,118 +31,148 @@ pub enum Planned {
     Whole,
 }
 
-/// The offer of a route, which takes nothing out.
-fn bare_offer(
-    alloc: Global,
-    base: u64,
-    worker: u32,
-    net: u32,
-    penalty: Option<u64>,
-    route: Route,
-) -> Offer
-    ensures { IsBareOffer base worker net penalty route result }
-{
-    Offer {
-        base,
-        worker,
-        net,
-        from: route.from,
-        to: route.to,
-        penalty,
-        add: route.metals,
-        rip: List::new(alloc),
-        shoves: List::new(alloc),
-    }
-}
-
-/// A least offer, or all that legal moves reach where no walk leads on.
+/// Where an island leads: a least offer from it, or all that moves reach where no walk leads on.
 #[derive(Drop)]
-pub enum Led {
+pub enum FromIsland {
     Offer(Offer),
     Shut(Reach),
 }
 
-/// What a worker offers to join an island of a net to one of the others by legal moves alone, which are `legal`, on a
-/// snapshot of a board of the design, with memory for searches; or all that legal moves reach from the island, where
-/// no walk leads on.
-pub(crate) fn offer_with<M: Moves>(
-    alloc: Global,
-    search: &mut Search,
-    lat: &Lattice,
-    d: &Design,
-    snap: &Snap,
-    legal: &M,
-    via_cost: u64,
-    worker: u32,
-    island: &Island,
-    others: &List<Island>,
-) -> Result<Led, AllocError>
-    requires can_plan { CanPlan d.now lat.now snap.now island.now.net via_cost None }
-    requires ready { M.ready legal.now }
-    requires legal { SameMoves (M.graph legal.now)
-        (legal_graph d.now lat.now snap.now.items island.now.net via_cost) }
-    requires worker { worker ≤ CLOSER }
-    requires size { search.old ≡ node_count lat.now }
-    ensures leads { IfOk result (λ r. (b : BoardOf) (place : ℕ) → IsSnapOf snap.now b
-        → StandsAt b.design b.items island.now.net place island.now others.now → (worker < CLOSER → place ≡ 0)
-        → LeadsFrom lat.now via_cost b worker island.now others.now r) }
-    ensures size { search.new ≡ search.old }
-{
-    snap.in_order();
-    least_offers_may_be_made();
-    let net = island.net;
-    let task = Task {
-        lat,
-        d,
-        snap,
-        net,
-        via_cost,
-        penalty: None,
-    };
-    match task.route(alloc, search, legal, island, others)? {
-        Routed::Shut(reach) => Ok(Led::Shut(reach)),
-        Routed::Route(route) => {
-            let offer = bare_offer(alloc, snap.number(), worker, net, None, route);
-            Ok(Led::Offer(offer))
-        }
-    }
+/// The plan of a net: what is planned on, a snapshot of a board of the design, and the moves of the net that its
+/// searches go over. A via costs `via_cost` nm, and a routed item in the way of a move `penalty` nm, if routed items
+/// may be passed.
+#[derive(Drop)]
+pub struct NetPlan<'a, M: Moves> {
+    pub(crate) lat: &'a Lattice,
+    pub(crate) d: &'a Design,
+    pub(crate) snap: &'a Snap,
+    pub(crate) moves: &'a M,
+    pub(crate) via_cost: u64,
+    pub(crate) worker: u32,
+    pub(crate) net: u32,
+    pub(crate) penalty: Option<u64>,
 }
 
-/// What a worker offers for a net on a snapshot of a board of the design by legal moves alone, which are `legal`,
-/// with memory for searches.
-pub(crate) fn plan_legal_with<M: Moves>(
-    alloc: Global,
-    search: &mut Search,
-    lat: &Lattice,
-    d: &Design,
-    snap: &Snap,
-    legal: &M,
-    via_cost: u64,
-    worker: u32,
-    net: u32,
-) -> Result<Planned, AllocError>
-    requires can_plan { CanPlan d.now lat.now snap.now net via_cost None }
-    requires ready { M.ready legal.now }
-    requires legal { SameMoves (M.graph legal.now) (legal_graph d.now lat.now snap.now.items net via_cost) }
-    requires worker { worker ≤ CLOSER }
-    requires size { search.old ≡ node_count lat.now }
-    ensures plan { IfOk result (λ p. (b : BoardOf) → IsSnapOf snap.now b → Plans lat.now via_cost b worker net None p) }
-    ensures size { search.new ≡ search.old }
-{
-    snap.in_order();
-    let mut others = islands(alloc, d, snap, net)?;
-    if others.len() <= 1 {
-        drop(others);
-        return Ok(Planned::Whole);
+impl<'a, M: Moves> Model for NetPlan<'a, M> {
+    ghost use Rattle.std.specs.Prelude.{◌≤◌};
+    ghost use Rattle.board_offers.specs.declared.offer.TheConstants.{CLOSER};
+    ghost use Rattle.route_plan.specs.Planners.{NetPlanOf, AreMovesOf, planner_of};
+    ghost use Rattle.route_plan.specs.Plans.{CanPlan, moves_of};
+
+    ghost Value = { NetPlanOf };
+
+    ghost view = { λ s. record {
+      by = planner_of s.lat.now s.snap.now s.via_cost s.worker;
+      net = s.net;
+      penalty = s.penalty;
+    } };
+
+    ghost invariant = { λ s. CanPlan s.d.now s.lat.now s.snap.now s.net s.via_cost s.penalty × (s.worker ≤ CLOSER)
+        × AreMovesOf M.Moves s.moves.now
+        (moves_of s.d.now s.lat.now s.snap.now.items s.net s.via_cost s.penalty) };
+}
+
+impl<M: Moves> NetPlan<'_, M> {
+    /// What makes way for metals of the net: nothing without a penalty.
+    fn way_for(&self, alloc: Global, metals: &List<Metal>) -> Result<Way, AllocError>
+        requires { All (IsWellLaid self.now.by.snap.design self.now.net 0) metals.now }
+        ensures { IfOk result (MakesWayFor self.now.by.snap.design self.now.by.lat self.now.by.snap.items self.now.net
+            self.now.penalty metals.now) }
+    {
+        match self.penalty {
+            None => Ok(Way {
+                rip: List::new(alloc),
+                shoves: List::new(alloc),
+            }),
+            Some(_) => {
+                self.snap.in_order();
+                let on = Ground {
+                    lat: self.lat,
+                    d: self.d,
+                    c: self.snap,
+                };
+                make_way(alloc, &on, self.net, metals)
+            }
+        }
     }
-    let island = others.remove(0);
-    let led = offer_with(
-        alloc, search, lat, d, snap, legal, via_cost, worker, &island, &others,
-    );
-    drop((island, others));
-    match led {
-        Ok(Led::Shut(reach)) => Ok(Planned::Shut(reach)),
-        Ok(Led::Offer(offer)) => Ok(Planned::Offer(offer)),
-        Err(error) => Err(error),
+
+    /// The offer of a route, and of what makes way for it.
+    fn offer_of(&self, route: Route, way: Way) -> Offer
+        ensures { IsRouteOffer self.now.by.snap.number self.now.by.worker self.now.net self.now.penalty route way
+            result }
+    {
+        Offer {
+            base: self.snap.number(),
+            worker: self.worker,
+            net: self.net,
+            from: route.from,
+            to: route.to,
+            penalty: self.penalty,
+            add: route.metals,
+            rip: way.rip,
+            shoves: way.shoves,
+        }
+    }
+
+    /// Where an island of the net leads, with memory for searches.
+    pub(crate) fn lead(
+        &self,
+        alloc: Global,
+        search: &mut Search,
+        island: &Island,
+        others: &List<Island>,
+    ) -> Result<FromIsland, AllocError>
+        requires net { island.now.net ≡ self.now.net }
+        requires size { search.old ≡ node_count self.now.by.lat }
+        ensures leads { IfOk result (LeadsOut self.now.by self.now.penalty island.now others.now) }
+        ensures size { search.new ≡ search.old }
+    {
+        copper_well_laid();
+        least_offers_may_be_made();
+        shoves_may_be_made();
+        made_shoves_stand_together();
+        shoves_are_one();
+        self.snap.in_order();
+        let task = NetSearch {
+            lat: self.lat,
+            d: self.d,
+            copper: self.snap,
+            moves: self.moves,
+            island,
+            others,
+            via_cost: self.via_cost,
+            penalty: self.penalty,
+        };
+        match task.route(alloc, search)? {
+            Routed::Shut(reach) => Ok(FromIsland::Shut(reach)),
+            Routed::Route(route) => match self.way_for(alloc, &route.metals) {
+                Ok(way) => Ok(FromIsland::Offer(self.offer_of(route, way))),
+                Err(error) => {
+                    drop(route);
+                    Err(error)
+                }
+            },
+        }
+    }
+
+    /// What is planned for the net, with memory for searches. `AllocError` comes only for want of memory.
+    pub fn plan(&self, alloc: Global, search: &mut Search) -> Result<Planned, AllocError>
+        requires size { search.old ≡ node_count self.now.by.lat }
+        ensures plan { IfOk result (PlansNet self.now.by self.now.net self.now.penalty) }
+        ensures size { search.new ≡ search.old }
+    {
+        let mut others = islands(alloc, self.d, self.snap, self.net)?;
+        if others.len() <= 1 {
+            drop(others);
+            return Ok(Planned::Whole);
+        }
+        let island = others.remove(0);
+        let led = self.lead(alloc, search, &island, &others);
+        drop((island, others));
+        match led {
+            Ok(FromIsland::Shut(reach)) => Ok(Planned::Shut(reach)),
+            Ok(FromIsland::Offer(offer)) => Ok(Planned::Offer(offer)),
+            Err(error) => Err(error),
+        }
     }
 }

@@ -2,19 +2,18 @@
 //! Where all that is in the way can be shoved, nothing is ripped.
 
 ghost use Rattle.std.specs.Prelude.{All, IfOk};
-ghost use Rattle.pcb_model.specs.Sound.{IsSound};
-ghost use Rattle.route_lattice.specs.Fits.{FitsDesign};
 ghost use Rattle.board_offers.specs.Items.{added_from};
 ghost use Rattle.path_wire.specs.Lays.{IsWellLaid};
 ghost use Rattle.route_plan.specs.inner.Ways.{MakesWayOn};
 
 use crate::added::added_items;
-use crate::moved::{moved_items, shoves_of};
+use crate::fit::NewItems;
+use crate::moved::shoves_of;
 use board_offers::Shoved;
 use geo_kernel::List;
-use pcb_model::{Copper, Design, Metal};
+use pcb_model::{Copper, Metal};
 use ripup::to_rip;
-use route_lattice::Lattice;
+use route_lattice::Ground;
 use std::alloc::{AllocError, Global};
 
 /// What makes way: the ids of items that are ripped, ascending, or wires that are shoved.
@@ -28,27 +27,30 @@ pub(crate) struct Way {
 /// where all of these can be, and together, or else all are ripped. `AllocError` comes only for want of memory.
 pub(crate) fn make_way<C: Copper>(
     alloc: Global,
-    lat: &Lattice,
-    d: &Design,
-    c: &C,
+    on: &Ground<'_, C>,
     net: u32,
     metals: &List<Metal>,
 ) -> Result<Way, AllocError>
-    requires sound { IsSound d.now }
-    requires fits { FitsDesign d.now lat.now }
-    requires serves { C.serves c.now d.now }
-    requires well { All (IsWellLaid d.now net 0) metals.now }
-    ensures { IfOk result (MakesWayOn d.now lat.now (C.items c.now) (added_from d.now net 0 metals.now)) }
+    requires { All (IsWellLaid on.now.d net 0) metals.now }
+    ensures { IfOk result (MakesWayOn on.now.d on.now.lat on.now.items (added_from on.now.d net 0 metals.now)) }
 {
-    let new = added_items(alloc, d, net, metals.as_slice())?;
-    let ids = match to_rip(alloc, d, c, &new) {
+    on.keeps();
+    let new = added_items(alloc, on, net, metals.as_slice())?;
+    let ids = match to_rip(alloc, on.d, on.c, &new) {
         Ok(ids) => ids,
         Err(error) => {
             drop(new);
             return Err(error);
         }
     };
-    let found = moved_items(alloc, lat, d, c, new.as_slice(), ids.as_slice());
+    let among = NewItems {
+        lat: on.lat,
+        d: on.d,
+        copper: on.c,
+        new: new.as_slice(),
+    };
+    let found = among.moved_items(alloc, ids.as_slice());
+    drop(among);
     drop(new);
     match found {
         Ok(Some(moved)) => {

@@ -3,4 +3,4 @@ mod Counting
 mod Worked
 mod Passing
 mod Running
-mod Sights
+mod States

@@ -1,7 +1,7 @@
 -- One pass more.
 use Rattle.std.proofs.Common.{◌≡◌, ◌∙◌, ◌+◌, ◌≤◌, ◌<◌, ℕ, sym, ap, subst, arith, List, []}
 use Rattle.std.proofs.Common.{◌∷◌, ◌++◌, length, Option, Some, inl, inr}
-use Rattle.std.specs.Prelude.{Bool, IfSome, IsTrue, not, slice_get, sum_by}
+use Rattle.std.specs.Prelude.{Bool, IsTrue, not, slice_get, sum_by}
 use Rattle.std.proofs.Math.Seq.{take-length}
 use Rattle.std.proofs.lemmas.Bool.{cases_lt}
 use Rattle.std.proofs.lemmas.List.{length-append, take-append-le}
@@ -9,8 +9,6 @@ use Rattle.std.proofs.lemmas.List.Elements.{All-contains}
 use Rattle.std.proofs.lemmas.List.Sums.{sum_by_push}
 use Rattle.std.proofs.lemmas.Option.{slice_get_within}
 use Rattle.pcb_islands.proofs.Elements.{look_cases as look_last}
-use Rattle.route_plan.specs.declared.sight.Sight.{Sight}
-use Rattle.route_plan.specs.Sights.{IsSeenOn}
 use Rattle.board_offers.specs.declared.offer.Offer.{Offer}
 use Rattle.board_offers.proofs.Lists.{look_cases, in_from}
 use Rattle.pcb_board.specs.declared.answer.Entry.{Entry}
@@ -26,11 +24,9 @@ use Rattle.route_plan.specs.Plans.{IsWhole}
 use Rattle.searcher_pool.specs.Passes.{Between, IsJoinOf, IsPassed, IsShutOn, IsSpent, PassOf}
 use Rattle.searcher_pool.specs.Passes.{Grows as GrowsBy}
 use Rattle.route_run.specs.declared.facts.PassLine.{PassLine}
-use Rattle.route_run.specs.declared.passes.Made.{Made}
 use Rattle.route_run.specs.Runs.{AreLeast, ArePasses, AreTooLate, HadRoom, HasSeveral, IsOpenCount, IsPass}
 use Rattle.route_run.specs.Runs.{IsWorkedOff, RunOf, entries_after, pass_at}
-use Rattle.route_run.specs.declared.passes.Stand.{Stand}
-use Rattle.route_run.specs.inner.Passing.{AreOpenOn, HasPassed, IsMade, IsOneMore, IsReady, MayFollow}
+use Rattle.route_run.specs.inner.Passing.{HasPassed, IsMade, MayFollow}
 
 -- ---- what holds of a board holds when it has grown
 pub grown_by : (p : PassOf) (b c : BoardOf) → GrowsBy p b c → Grows b c
@@ -162,13 +158,14 @@ module _ (b c : BoardOf) (grows : Grows b c) where
   }
 
 -- ---- the pass that was made
-module _ (p : PassOf) (b : BoardOf) (made : Made) (kept : IsBoard b) (is : IsMade p b made) where
-  at_start : board_at made.board (length b.history) ≡ b
-  at_start = board_before b made.board (length b.history) (grown_by p b made.board is.nets.grows) (omega arith)
+module _ (p : PassOf) (b : BoardOf) (new : BoardOf) (line : PassLine) (full : Bool) (kept : IsBoard b)
+    (is : IsMade p b new line full) where
+  at_start : board_at new (length b.history) ≡ b
+  at_start = board_before b new (length b.history) (grown_by p b new is.nets.grows) (omega arith)
       ∙ board_whole b kept
 
   -- a further entry is a join of its workers
-  join_of : (n : ℕ) (e : Entry) → length b.history ≤ n → slice_get made.board.history n ≡ Some e → IsJoinOf p e
+  join_of : (n : ℕ) (e : Entry) → length b.history ≤ n → slice_get new.history n ≡ Some e → IsJoinOf p e
   join_of n e late at = elim (look_cases b.history is.nets.grows.entries n e
       (ap (λ (h : List Entry). slice_get h n) (sym is.nets.grows.history) ∙ at)) [
         | inl there ↦ absurd (let w = slice_get_within b.history n e there in omega (arith, w, late))
@@ -176,17 +173,17 @@ module _ (p : PassOf) (b : BoardOf) (made : Made) (kept : IsBoard b) (is : IsMad
             (in_from is.nets.grows.entries behind.place e behind.there)
       ]
 
-  made_pass : IsPass p made.board (length b.history) made.line
+  made_pass : IsPass p new (length b.history) line
   made_pass = record {
     there = omega (arith, is.commits);
     joins = λ n e late early at. join_of n e late at;
-    worked = λ net lt several. subst (λ to. IsWorkedOff p made.board (length b.history) to net) (sym is.commits)
+    worked = λ net lt several. subst (λ to. IsWorkedOff p new (length b.history) to net) (sym is.commits)
         (is.nets.worked net (subst (λ d. net < length d.nets) is.nets.grows.design lt)
         (subst (λ (x : BoardOf). HasSeveral x.design x.items net) at_start several));
-    leaves = subst (λ to. IsOpenCount made.board.design (board_at made.board to).items made.line.parted)
+    leaves = subst (λ to. IsOpenCount new.design (board_at new to).items line.parted)
         (sym is.commits)
-        (subst (λ (x : BoardOf). IsOpenCount x.design x.items made.line.parted)
-        (sym (board_whole made.board is.nets.board)) is.leaves);
+        (subst (λ (x : BoardOf). IsOpenCount x.design x.items line.parted)
+        (sym (board_whole new is.nets.board)) is.leaves);
   }
 
 -- ---- lines
@@ -232,52 +229,53 @@ passed_none m r b kept new = record {
   no_more = ap length new;
 }
 
-module _ (m : Mesh) (r : RunOf) (b : BoardOf) (lines : List PassLine) (made : Made) (has : HasPassed m r b lines)
+module _ (m : Mesh) (r : RunOf) (b : BoardOf) (lines : List PassLine) (new : BoardOf) (line : PassLine) (full : Bool)
+    (has : HasPassed m r b lines)
     (follow : MayFollow m r b lines) (room : length lines < r.passes)
-    (is : IsMade (pass_at m r.via_cost r.workers (length lines + 1)) b made) where
+    (is : IsMade (pass_at m r.via_cost r.workers (length lines + 1)) b new line full) where
   abbrev The : ℕ → PassOf
   The k = pass_at m r.via_cost r.workers (k + 1)
 
-  grows : Grows b made.board
-  grows = grown_by (The (length lines)) b made.board is.nets.grows
+  grows : Grows b new
+  grows = grown_by (The (length lines)) b new is.nets.grows
 
-  each_more : (k : ℕ) (l : PassLine) → slice_get (lines ++ made.line ∷ []) k ≡ Some l
-      → IsPass (The k) made.board (entries_after (lines ++ made.line ∷ []) k) l
-  each_more k l at = elim (look_last lines made.line k l at) [
+  each_more : (k : ℕ) (l : PassLine) → slice_get (lines ++ line ∷ []) k ≡ Some l
+      → IsPass (The k) new (entries_after (lines ++ line ∷ []) k) l
+  each_more k l at = elim (look_last lines line k l at) [
     | inl there ↦
         let within = slice_get_within lines k l there in
-        subst (λ from. IsPass (The k) made.board from l)
-        (sym (entries_before lines made.line k (omega (arith, within))))
-        (pass_on b made.board grows (The k) (entries_after lines k) l (has.passes.each k l there))
+        subst (λ from. IsPass (The k) new from l)
+        (sym (entries_before lines line k (omega (arith, within))))
+        (pass_on b new grows (The k) (entries_after lines k) l (has.passes.each k l there))
     | inr last ↦
-        let start : length b.history ≡ entries_after (lines ++ made.line ∷ []) k =
-        has.no_more ∙ (sym (entries_before lines made.line (length lines) (omega arith))
-        ∙ ap (entries_after (lines ++ made.line ∷ [])) (sym last.0)) in
-        subst (λ from. IsPass (The k) made.board from l) start
-        (subst (λ (x : PassLine). IsPass (The k) made.board (length b.history) x) last.1
-        (subst (λ i. IsPass (The i) made.board (length b.history) made.line) (sym last.0)
-        (made_pass (The (length lines)) b made has.board is)))
+        let start : length b.history ≡ entries_after (lines ++ line ∷ []) k =
+        has.no_more ∙ (sym (entries_before lines line (length lines) (omega arith))
+        ∙ ap (entries_after (lines ++ line ∷ [])) (sym last.0)) in
+        subst (λ from. IsPass (The k) new from l) start
+        (subst (λ (x : PassLine). IsPass (The k) new (length b.history) x) last.1
+        (subst (λ i. IsPass (The i) new (length b.history) line) (sym last.0)
+        (made_pass (The (length lines)) b new line full has.board is)))
   ]
 
   -- what stands of an earlier pass on the board before stands on the later one
   room_more : (k : ℕ) (l : PassLine) → slice_get lines k ≡ Some l
       → HadRoom (The k) b (entries_after lines k) (entries_after lines k + l.commits)
-      → HadRoom (The k) made.board (entries_after (lines ++ made.line ∷ []) k)
-      (entries_after (lines ++ made.line ∷ []) k + l.commits)
+      → HadRoom (The k) new (entries_after (lines ++ line ∷ []) k)
+      (entries_after (lines ++ line ∷ []) k + l.commits)
   room_more k l there had =
       let within = slice_get_within lines k l there in
-      subst (λ from. HadRoom (The k) made.board from (from + l.commits))
-      (sym (entries_before lines made.line k (omega (arith, within))))
-      (room_on b made.board grows (The k) (entries_after lines k) (entries_after lines k + l.commits) (omega arith)
+      subst (λ from. HadRoom (The k) new from (from + l.commits))
+      (sym (entries_before lines line k (omega (arith, within))))
+      (room_on b new grows (The k) (entries_after lines k) (entries_after lines k + l.commits) (omega arith)
       (has.passes.each k l there).there had)
 
-  goes_on_more : (k : ℕ) (l : PassLine) → slice_get (lines ++ made.line ∷ []) k ≡ Some l
-      → k + 1 < length (lines ++ made.line ∷ []) → (0 < l.parted) × (0 < k → 0 < l.commits)
-      × HadRoom (The k) made.board (entries_after (lines ++ made.line ∷ []) k)
-      (entries_after (lines ++ made.line ∷ []) k + l.commits)
+  goes_on_more : (k : ℕ) (l : PassLine) → slice_get (lines ++ line ∷ []) k ≡ Some l
+      → k + 1 < length (lines ++ line ∷ []) → (0 < l.parted) × (0 < k → 0 < l.commits)
+      × HadRoom (The k) new (entries_after (lines ++ line ∷ []) k)
+      (entries_after (lines ++ line ∷ []) k + l.commits)
   goes_on_more k l at before =
-      let count = one_more lines made.line in
-      elim (look_last lines made.line k l at) [
+      let count = one_more lines line in
+      elim (look_last lines line k l at) [
         | inr last ↦ absurd (omega (arith, before, count, last.0))
         | inl there ↦ elim (cases_lt (k + 1) (length lines)) [
           | inl lt ↦ (
@@ -291,80 +289,61 @@ module _ (m : Mesh) (r : RunOf) (b : BoardOf) (lines : List PassLine) (made : Ma
       ]
 
   -- with a pass more they are passes still
-  more_passed : HasPassed m r made.board (lines ++ made.line ∷ [])
+  more_passed : HasPassed m r new (lines ++ line ∷ [])
   more_passed = record {
     board = is.nets.board;
     passes = record {
-      few = (let count = one_more lines made.line in omega (arith, count, room));
+      few = (let count = one_more lines line in omega (arith, count, room));
       each = each_more;
       goes_on = λ k l at before. (goes_on_more k l at before).0;
       moves = λ k l at some before. (goes_on_more k l at before).1 some;
       room = λ k l at before. (goes_on_more k l at before).2;
     };
-    least = least_on b made.board grows m r.via_cost has.least is.nets.least;
-    no_more = (let more = entries_more lines made.line in omega (arith, more, is.commits, has.no_more));
+    least = least_on b new grows m r.via_cost has.least is.nets.least;
+    no_more = (let more = entries_more lines line in omega (arith, more, is.commits, has.no_more));
   }
 
   -- where a further pass may follow the one that was made
-  follow_last : (0 < made.line.parted) → (0 < length lines → 0 < made.line.commits) → IsTrue (not made.full)
-      → MayFollow m r made.board (lines ++ made.line ∷ [])
-  follow_last more moved other k l at end = elim (look_last lines made.line k l at) [
+  follow_last : (0 < line.parted) → (0 < length lines → 0 < line.commits) → IsTrue (not full)
+      → MayFollow m r new (lines ++ line ∷ [])
+  follow_last more moved other k l at end = elim (look_last lines line k l at) [
     | inl there ↦ absurd
         (let w = slice_get_within lines k l there in
-        let count = one_more lines made.line in
+        let count = one_more lines line in
         omega (arith, w, end, count))
     | inr last ↦
-        let start : length b.history ≡ entries_after (lines ++ made.line ∷ []) k =
-        has.no_more ∙ (sym (entries_before lines made.line (length lines) (omega arith))
-        ∙ ap (entries_after (lines ++ made.line ∷ [])) (sym last.0)) in
-        let had : HadRoom (The (length lines)) made.board (length b.history) (length b.history + made.line.commits) =
-        subst (HadRoom (The (length lines)) made.board (length b.history)) (sym is.commits) (is.nets.room other) in
+        let start : length b.history ≡ entries_after (lines ++ line ∷ []) k =
+        has.no_more ∙ (sym (entries_before lines line (length lines) (omega arith))
+        ∙ ap (entries_after (lines ++ line ∷ [])) (sym last.0)) in
+        let had : HadRoom (The (length lines)) new (length b.history) (length b.history + line.commits) =
+        subst (HadRoom (The (length lines)) new (length b.history)) (sym is.commits) (is.nets.room other) in
         subst (λ (x : PassLine). (0 < x.parted) × (0 < k → 0 < x.commits)
-        × HadRoom (The k) made.board (entries_after (lines ++ made.line ∷ []) k)
-        (entries_after (lines ++ made.line ∷ []) k + x.commits)) last.1 (
+        × HadRoom (The k) new (entries_after (lines ++ line ∷ []) k)
+        (entries_after (lines ++ line ∷ []) k + x.commits)) last.1 (
           more,
           λ some. moved (omega (arith, some, last.0)),
-          subst (λ from. HadRoom (The k) made.board from (from + made.line.commits)) start
-              (subst (λ i. HadRoom (The i) made.board (length b.history) (length b.history + made.line.commits))
+          subst (λ from. HadRoom (The k) new from (from + line.commits)) start
+              (subst (λ i. HadRoom (The i) new (length b.history) (length b.history + line.commits))
               (sym last.0) had),
         )
   ]
 
 -- so it is with the pass of the next number
-pub pass_more : (m : Mesh) (r : RunOf) (b : BoardOf) (lines : List PassLine) (made : Made) (number : ℕ)
+pub pass_more : (m : Mesh) (r : RunOf) (b : BoardOf) (lines : List PassLine) (new : BoardOf) (line : PassLine)
+    (full : Bool) (number : ℕ)
     → HasPassed m r b lines → MayFollow m r b lines → length lines ≡ number → number < r.passes
-    → IsMade (pass_at m r.via_cost r.workers (number + 1)) b made → HasPassed m r made.board (lines ++ made.line ∷ [])
-pass_more m r b lines made number has follow count room is =
-    more_passed m r b lines made has follow (omega (arith, count, room))
-    (subst (λ (k : ℕ). IsMade (pass_at m r.via_cost r.workers (k + 1)) b made) (sym count) is)
+    → IsMade (pass_at m r.via_cost r.workers (number + 1)) b new line full → HasPassed m r new (lines ++ line ∷ [])
+pass_more m r b lines new line full number has follow count room is =
+    more_passed m r b lines new line full has follow (omega (arith, count, room))
+    (subst (λ (k : ℕ). IsMade (pass_at m r.via_cost r.workers (k + 1)) b new line full) (sym count) is)
 
-pub follow_more : (m : Mesh) (r : RunOf) (b : BoardOf) (lines : List PassLine) (made : Made) (number : ℕ)
+pub follow_more : (m : Mesh) (r : RunOf) (b : BoardOf) (lines : List PassLine) (new : BoardOf) (line : PassLine)
+    (full : Bool) (number : ℕ)
     → HasPassed m r b lines → MayFollow m r b lines → length lines ≡ number → number < r.passes
-    → IsMade (pass_at m r.via_cost r.workers (number + 1)) b made → (0 < made.line.parted)
-    → (0 < number → 0 < made.line.commits) → IsTrue (not made.full)
-    → MayFollow m r made.board (lines ++ made.line ∷ [])
-follow_more m r b lines made number has follow count room is more moved other =
-    follow_last m r b lines made has follow (omega (arith, count, room))
-    (subst (λ (k : ℕ). IsMade (pass_at m r.via_cost r.workers (k + 1)) b made) (sym count) is) more
+    → IsMade (pass_at m r.via_cost r.workers (number + 1)) b new line full → (0 < line.parted)
+    → (0 < number → 0 < line.commits) → IsTrue (not full)
+    → MayFollow m r new (lines ++ line ∷ [])
+follow_more m r b lines new line full number has follow count room is more moved other =
+    follow_last m r b lines new line full has follow (omega (arith, count, room))
+    (subst (λ (k : ℕ). IsMade (pass_at m r.via_cost r.workers (k + 1)) b new line full) (sym count) is) more
     (λ some. moved (omega (arith, some, count))) other
-
--- ---- where passes stand behind it
-module _ (p : PassOf) (number : ℕ) (old : BoardOf) (lines : List PassLine) (new : Stand) (more_lines : List PassLine)
-    (more : Bool) (one : IsOneMore p number old lines new more_lines more) where
-  abbrev pub made_by : Made
-  made_by = record { board = new.board; line = one.made.line; open_nets = new.open_nets; full = one.made.full }
-
-  pub made_on : IsMade p old made_by
-  made_on = subst (λ (b : BoardOf). IsMade p old (record made_by { board = b })) (sym one.stands.board_is) (record {
-    nets = one.is.nets;
-    commits = one.is.commits;
-    leaves = one.is.leaves;
-  })
-
-  pub ready_on : IsReady p.lattice new
-  ready_on = record {
-    open_nets = subst (λ (b : BoardOf). AreOpenOn b new.open_nets) (sym one.stands.board_is)
-        (subst (AreOpenOn one.made.board) (sym one.stands.open_nets_are) one.open_nets);
-    last = subst (λ (b : BoardOf). IfSome new.last (IsSeenOn p.lattice b)) (sym one.stands.board_is)
-        (subst (λ (o : Option Sight). IfSome o (IsSeenOn p.lattice one.made.board)) (sym one.stands.last_is) one.seen);
-  }

@@ -26,8 +26,10 @@ use Rattle.route_run.specs.declared.facts.Facts.{Facts}
 use Rattle.route_run.specs.Runs.{AreFacts, AreLeast, ClosesFrom, HaveEnded, IsBest, IsRun, RunOf, complete_from}
 use Rattle.route_run.specs.Runs.{entries_after}
 use Rattle.route_run.specs.inner.Passing.{EndsBy, GoesBack, HasPassed, MayFollow, Stays}
-use Rattle.route_run.specs.inner.Passing.{IsFinished, IsKept, told_of}
+use Rattle.route_run.specs.inner.Passing.{IsFinished, IsKept, IsNew, routed_of}
 use Rattle.route_run.specs.Runs.{IsTask}
+use Rattle.route_run.specs.declared.input.RunInput.{RunInput}
+use Rattle.route_run.specs.Inputs.{CanRun, run_of}
 use Rattle.route_run.specs.declared.run.Kept.{Kept}
 use Rattle.route_run.specs.declared.run.Routed.{Routed}
 use Rattle.route_run.proofs.Best.{no_line}
@@ -250,7 +252,7 @@ pub run_told : (d : Design) (m : Mesh) (r : RunOf) (first : BoardOf) (kept : Kep
 run_told d m r first kept dropped routed begun is board done =
     subst (λ (x : Routed). IsRun d m r x.board x.facts) (sym done.told)
     (is_run d m r first is.passed kept.board done.closed
-    (told_of m dropped kept.lines kept.kept done.closed).facts begun is.same is.has is.ended is.best is.gone board
+    (routed_of m dropped kept.lines kept.kept done.closed).facts begun is.same is.has is.ended is.best is.gone board
     done.out done.board refl refl refl refl refl)
 
 -- ---- what its parts ask for
@@ -260,21 +262,21 @@ pub few_ends : (m : Mesh) (via_cost : ℕ) (b : BoardOf) (closed : Closed) → I
 few_ends m via_cost b closed out board =
     let few = board.sound.parts.few_nets in omega (arith, few, out.ends.all)
 
-pub task_begun : (d : Design) (m : Mesh) (via_cost : ℕ) (first : BoardOf) (dropped : List ℕ)
-    → IsStarted d (2 ^ 19) first dropped → IsTask d m via_cost → IsTask first.design m via_cost
-task_begun d m via_cost first dropped begun task =
-    subst (λ (x : Design). IsTask x m via_cost) (sym (ap (λ (b : BoardOf). b.design) begun.board_is)) task
-
-pub new_begun : (d : Design) (first : BoardOf) (dropped : List ℕ) → IsStarted d (2 ^ 19) first dropped
-    → first.history ≡ []
-new_begun d first dropped begun = ap (λ (b : BoardOf). b.history) begun.board_is
+-- the first board is one of the design, and has no entry
+pub run_begun : (j : RunInput) (d : Design) (first : BoardOf) (dropped : List ℕ) → IsStarted d (2 ^ 19) first dropped
+    → CanRun j d → IsNew j first
+run_begun j d first dropped begun can = record {
+  input = subst (CanRun j) (sym (ap (λ (b : BoardOf). b.design) begun.board_is)) can;
+  none = ap (λ (b : BoardOf). b.history) begun.board_is;
+}
 
 -- the board keeps its design
-pub task_kept : (m : Mesh) (r : RunOf) (first : BoardOf) (kept : Kept) → IsKept m r first kept
-    → IsTask first.design m r.via_cost → IsTask kept.board.design m r.via_cost
-task_kept m r first kept is task =
+pub task_kept : (j : RunInput) (first : BoardOf) (kept : Kept) → IsKept j.lat.now (run_of j) first kept
+    → IsNew j first → IsTask kept.board.design j.lat.now j.via_cost
+task_kept j first kept is begun =
     let back = grows_gone kept.lines kept.kept is.passed kept.board is.gone in
-    subst (λ (x : Design). IsTask x m r.via_cost) (sym (back.design_stays ∙ is.same.design_stays)) task
+    subst (λ (x : Design). IsTask x j.lat.now j.via_cost) (sym (back.design_stays ∙ is.same.design_stays))
+    begun.input.task
 
 -- where passes have ended there is one
 pub some_lines : (r : RunOf) (b : BoardOf) (lines : List PassLine) → HaveEnded r b lines → 0 < length lines

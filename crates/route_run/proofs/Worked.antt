@@ -21,9 +21,10 @@ use Rattle.searcher_pool.specs.declared.log.OfferNote.{OfferNote}
 use Rattle.searcher_pool.specs.declared.log.WorkerLog.{WorkerLog}
 use Rattle.searcher_pool.specs.Passes.{AreAmong, EndsPlace, EndsTask, IsFullAnswer, IsLog, IsPassed, IsSpent, IsStale}
 use Rattle.searcher_pool.specs.Passes.{IsStaleOf, IsTold, MetFull, PassOf, claimed, named}
-use Rattle.route_run.specs.declared.passes.Made.{Made}
+use Rattle.route_run.specs.declared.connections.OpenNets.{OpenNets}
+use Rattle.route_run.specs.declared.facts.PassLine.{PassLine}
 use Rattle.route_run.specs.Runs.{AreTooLate, IsOpenCount, IsTooLate, IsWorkedOff}
-use Rattle.route_run.specs.inner.Passing.{AreOpenNets, AreWorkedOff, IsMade, IsMadeAfter}
+use Rattle.route_run.specs.inner.Passing.{AreOpenNets, AreOpenOn, AreWorkedOff, IsMade}
 use Rattle.route_run.proofs.Counting.{open_count}
 
 -- ---- places in logs
@@ -231,14 +232,11 @@ worked_from p old new full logs count some before kept passed least open_nets sp
 }
 
 -- with its line that is a pass that was made
-pub made_from : (p : PassOf) (old new : BoardOf) (full : Bool) (made : Made) (before : ℕ) → before ≡ length old.history
-    → AreWorkedOff p old new full → IsMadeAfter new full before made → IsMade p old made
-made_from p old new full made before start are is =
-    let counted = open_count made.board.design made.board.items _ _ is.open_nets.are in
-    record {
-      nets = subst (λ (f : Bool). AreWorkedOff p old made.board f) (sym is.full_is)
-          (subst (λ (b : BoardOf). AreWorkedOff p old b full) (sym is.board_is) are);
-      commits = (let end = ap (λ (b : BoardOf). length b.history) is.board_is in
-          omega (arith, start, is.commits_are, end));
-      leaves = subst (IsOpenCount made.board.design made.board.items) (sym is.parted_is) counted;
-    }
+pub made_from : (p : PassOf) (old new : BoardOf) (full : Bool) (line : PassLine) (nets : OpenNets)
+    → AreWorkedOff p old new full → length old.history + line.commits ≡ length new.history → AreOpenOn new nets
+    → line.parted ≡ nets.count → IsMade p old new line full
+made_from p old new full line nets are commits is parted = record {
+  nets = are;
+  commits = commits;
+  leaves = subst (IsOpenCount new.design new.items) (sym parted) (open_count new.design new.items _ _ is.are);
+}

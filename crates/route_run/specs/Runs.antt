@@ -3,6 +3,7 @@ use Rattle.std.specs.Prelude.{◌≡◌, ◌⊎◌, ℕ, ◌+◌, ◌-◌, ◌*�
 use Rattle.std.specs.Prelude.{List, [], ◌∷◌, length, take, sum_by, flat_map, slice_get, Option, Some, None}
 use Rattle.pcb_model.specs.declared.item.Item.{Item}
 use Rattle.pcb_model.specs.declared.design.Design.{Design}
+use Rattle.pcb_model.specs.Plain.{IsPlainCopper}
 use Rattle.pcb_islands.specs.declared.net.Island.{Island}
 use Rattle.pcb_islands.specs.Islands.{AreIslands}
 use Rattle.route_lattice.specs.Mesh.{Mesh, node_count}
@@ -202,7 +203,8 @@ pub record IsRun (d : Design) (m : Mesh) (r : RunOf) (b : BoardOf) (facts : Fact
   pub least : AreLeast m r.via_cost b
   pub facts_are : AreFacts m r.via_cost b from facts
 
--- the lattice fits the design, and the price of a via is small
+-- the design is of plain copper, the lattice fits it, and the price of a via is small
 pub record IsTask (d : Design) (m : Mesh) (via_cost : ℕ) : Type 0 where
+  pub plain : IsPlainCopper d
   pub fits : FitsDesign d m
   pub small_cost : via_cost ≤ 2 ^ 30

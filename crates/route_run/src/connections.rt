@@ -17,8 +17,7 @@ pub(crate) struct OpenNets {
 
 // How many connections of a net are open: its islands less one, and none where it has no island.
 fn open_connections(alloc: Global, snap: &Snap, net: u32) -> Result<u64, AllocError>
-    requires sound { IsSound snap.now.design }
-    requires serves { Serves snap.now.items snap.now.design }
+    requires serves { IsSound snap.now.design × Serves snap.now.items snap.now.design }
     requires net { net < length snap.now.design.nets }
     ensures count { IfOk result (IsOpenNet snap.now.design snap.now.items net) }
     ensures few { IfOk result (λ count. count ≤ 2 ^ 26) }
@@ -29,8 +28,7 @@ fn open_connections(alloc: Global, snap: &Snap, net: u32) -> Result<u64, AllocEr
 
 // Gathers the nets of a snapshot that have several islands, and counts the connections that are open.
 fn gather(alloc: Global, snap: &Snap, nets: &mut Vec<u32>) -> Result<u64, AllocError>
-    requires sound { IsSound snap.now.design }
-    requires serves { Serves snap.now.items snap.now.design }
+    requires serves { IsSound snap.now.design × Serves snap.now.items snap.now.design }
     requires none { (vec_len nets.old ≡ 0) × (nets.old.items ≡ []) }
     ensures few { OnOk result (vec_len nets.new ≤ length snap.now.design.nets) }
     ensures are { IfOk result

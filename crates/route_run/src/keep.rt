@@ -24,8 +24,7 @@ fn better(lines: &[PassLine], place: usize, k: usize) -> usize
 
 /// The first of the passes after which the least is open, counted from 1.
 pub(crate) fn best_of(lines: &[PassLine]) -> u32
-    requires some { 0 < length lines.now }
-    requires few { length lines.now ≤ 99 }
+    requires { (0 < length lines.now) × (length lines.now ≤ 99) }
     ensures { IsBest lines.now result }
 {
     let mut place = 0;

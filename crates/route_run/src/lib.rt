@@ -4,9 +4,12 @@
 
 mod connections;
 mod facts;
+mod input;
 mod keep;
 mod passes;
 mod run;
+mod state;
 
 pub use facts::{Facts, PassLine};
+pub use input::RunInput;
 pub use run::{MOST_ENTRIES, Routed, run_nets};

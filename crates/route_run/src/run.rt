@@ -1,17 +1,15 @@
 //! Routing of a design on a lattice, in order: start, passes, the way back to the best one, closing pass.
 //! What is left are the board and the facts that are told of the run.
 
-ghost use Rattle.std.specs.Prelude.{◌≡◌, ◌≤◌, ◌^◌, [], IfOk, flat_map, length, List as Seq};
+ghost use Rattle.std.specs.Prelude.{◌≡◌, ◌≤◌, ◌^◌, IfOk, flat_map, length, List as Seq};
 ghost use Rattle.pcb_model.specs.Sound.{IsSound};
-ghost use Rattle.pcb_model.specs.Plain.{IsPlainCopper};
 ghost use Rattle.cut_certificate.specs.declared.cut.Cut.{Cut as OneCut};
-ghost use Rattle.closing_pass.specs.Closing.{IsClosedOut};
-ghost use Rattle.route_run.specs.Runs.{IsRun, complete_from, run_from};
-ghost use Rattle.route_run.specs.inner.Passing.{IsKept, IsFinished, told_of};
-ghost use Rattle.route_run.specs.Runs.{IsTask};
-ghost use Rattle.board_offers.specs.declared.offer.TheConstants.{CLOSER};
+ghost use Rattle.route_run.specs.Runs.{IsRun, IsTask, complete_from};
+ghost use Rattle.route_run.specs.Inputs.{CanRun, run_of};
+ghost use Rattle.route_run.specs.inner.Passing.{IsFinished, IsKept, IsNew, routed_of};
 
 use crate::facts::{Facts, PassLine, all_cuts, complete_nets};
+use crate::input::RunInput;
 use crate::keep::{best_of, go_back};
 use crate::passes::make_passes;
 use board_turn::Gate;
@@ -47,34 +45,17 @@ pub(crate) struct Kept {
 fn keep_best<R: Threads + Wait + Sync, G: Gate + Sync>(
     rt: &R,
     alloc: Global,
-    lat: &Lattice,
-    via_cost: u64,
-    workers: u32,
-    passes: u32,
+    input: RunInput<'_>,
     board: Board,
     gate: &G,
 ) -> Result<Kept, AllocError>
-    requires task { IsTask board.design lat.now via_cost }
-    requires workers { (1 ≤ workers) × (workers ≤ CLOSER) }
-    requires passes { (1 ≤ passes) × (passes ≤ 99) }
-    requires new { board.history ≡ [] }
-    ensures { IfOk result (IsKept lat.now (run_from via_cost workers passes) board) }
+    requires { IsNew input board }
+    ensures { IfOk result (IsKept input.entry.lat.now (run_of input.entry) board) }
 {
-    let (board, lines) = make_passes(rt, alloc, lat, via_cost, workers, passes, board, gate)?;
+    let (board, lines) = make_passes(rt, alloc, input, board, gate)?;
     let kept = best_of(lines.as_slice());
     let board = go_back(board, lines.as_slice(), kept)?;
     Ok(Kept { board, lines, kept })
-}
-
-// Makes the closing pass.
-fn close(alloc: Global, board: Board, lat: &Lattice, via_cost: u64) -> Result<Closed, AllocError>
-    requires { IsTask board.design lat.now via_cost }
-    ensures { IfOk result (IsClosedOut lat.now via_cost board) }
-{
-    match close_out(alloc, board, lat, via_cost) {
-        Ok(closed) => Ok(closed),
-        Err(back) => Err(back.cause),
-    }
 }
 
 // How the nets end: the complete ones, and the cuts of the others.
@@ -87,8 +68,8 @@ fn told_ends(alloc: Global, ends: List<List<Cut>>) -> Result<(List<u32>, List<Cu
     Ok((complete, cuts))
 }
 
-// Tells of a run that the closing pass ended.
-fn told(
+// The board and the facts of a run that the closing pass ended.
+fn facts_of(
     alloc: Global,
     lat: &Lattice,
     dropped: List<u64>,
@@ -97,7 +78,7 @@ fn told(
     closed: Closed,
 ) -> Result<Routed, AllocError>
     requires { length closed.ends ≤ 2 ^ 26 }
-    ensures { IfOk result (λ r. r ≡ told_of lat.now dropped lines kept closed) }
+    ensures { IfOk result (λ r. r ≡ routed_of lat.now dropped lines kept closed) }
 {
     let Closed { board, ends, joins } = closed;
     let (complete, cuts) = match told_ends(alloc, ends) {
@@ -121,7 +102,7 @@ fn told(
 }
 
 // Makes the closing pass, and tells of the run.
-fn finish(
+fn close_and_tell(
     alloc: Global,
     lat: &Lattice,
     via_cost: u64,
@@ -132,33 +113,34 @@ fn finish(
     ensures { IfOk result (IsFinished lat.now via_cost best dropped) }
 {
     let Kept { board, lines, kept } = best;
-    let closed = close(alloc, board, lat, via_cost)?;
-    closed.board.keeps();
-    told(alloc, lat, dropped, lines, kept, closed)
+    match close_out(alloc, board, lat, via_cost) {
+        Ok(closed) => {
+            closed.board.keeps();
+            facts_of(alloc, lat, dropped, lines, kept, closed)
+        }
+        Err(back) => {
+            let cause = back.cause;
+            drop((back, lines, dropped));
+            Err(cause)
+        }
+    }
 }
 
-/// Routes the nets of a design on a lattice of it by at most so many passes, each of so many workers, and by the
-/// closing pass. A via costs `via_cost` nm. The gate is called round each offer of a pass. The only error is want of
-/// memory.
+/// Routes the nets of a design on a lattice of it by passes and by the closing pass. The gate is called round each
+/// offer of a pass. The only error is want of memory.
 pub fn run_nets<R: Threads + Wait + Sync, G: Gate + Sync>(
     rt: &R,
     alloc: Global,
-    lat: &Lattice,
+    input: RunInput<'_>,
     design: Design,
-    via_cost: u64,
-    workers: u32,
-    passes: u32,
     gate: &G,
 ) -> Result<Routed, AllocError>
     requires sound { IsSound design }
-    requires plain { IsPlainCopper design }
-    requires task { IsTask design lat.now via_cost }
-    requires workers { (1 ≤ workers) × (workers ≤ CLOSER) }
-    requires passes { (1 ≤ passes) × (passes ≤ 99) }
-    ensures { IfOk result (λ r. IsRun design lat.now (run_from via_cost workers passes) r.board r.facts) }
+    requires input { CanRun input design }
+    ensures { IfOk result (λ r. IsRun design input.entry.lat.now (run_of input.entry) r.board r.facts) }
 {
     let (board, dropped) = Board::start(alloc, design, MOST_ENTRIES)?;
-    let best = keep_best(rt, alloc, lat, via_cost, workers, passes, board, gate)?;
+    let best = keep_best(rt, alloc, input, board, gate)?;
     best.board.keeps();
-    finish(alloc, lat, via_cost, best, dropped)
+    close_and_tell(alloc, input.lat, input.via_cost, best, dropped)
 }

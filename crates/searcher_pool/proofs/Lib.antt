@@ -5,7 +5,7 @@ mod Seen
 mod Knowing
 mod Ending
 mod Steps
-mod Crews
+mod Workers
 mod Together
 mod Entries
 mod Spared

@@ -1,4 +1,4 @@
--- What spares searches: a crew after its work, and how the end of a worker's draws is read.
+-- What spares searches: workers after their work, and how the end of a worker's draws is read.
 use Rattle.std.proofs.Common.{◌≡◌, ◌∙◌, ◌<◌, ℕ, Bool, false, true≢false, sym, ap, subst, arith, List, ◌++◌}
 use Rattle.std.proofs.Common.{length, take, drop, get_or, Result, Ok, Err}
 use Rattle.std.proofs.Math.Seq.{take-append_seam}
@@ -10,20 +10,20 @@ use Rattle.board_turn.specs.Turns.{TurnOf}
 use Rattle.searcher_pool.specs.declared.worker.Worker.{Worker}
 use Rattle.searcher_pool.specs.Passes.{PassOf}
 use Rattle.searcher_pool.specs.inner.Working.{Worked}
-use Rattle.searcher_pool.specs.inner.Crews.{AreFresh, AreBack}
+use Rattle.searcher_pool.specs.inner.Workers.{AreFresh, AreBack}
 
 -- what holds where there is no error holds
 pub without_error : {A E : Type 0} (r : Result A E) (P : Type 0) (b : Bool) → b ≡ is_err r → b ≡ false → OnOk r P → P
 without_error (Ok x) P b is fine p = p
 without_error (Err x) P b is fine p = absurd (true≢false (sym is ∙ fine))
 
--- each of a crew worked
-pub crew_back : (p : PassOf) (t : TurnOf) (c : CounterOf) (old now new : List (CachePadded Worker)) (len : ℕ)
+-- each of the workers worked
+pub workers_back : (p : PassOf) (t : TurnOf) (c : CounterOf) (old now new : List (CachePadded Worker)) (len : ℕ)
     → now ≡ old → len ≡ length now → length new ≡ length now → AreFresh p t c old
     → ((k : ℕ) (d : CachePadded Worker) → k < length now
     → Worked p t c (padded_value (get_or now k d)).pass.name (padded_value (get_or new k d)))
     → AreBack p t c (take len (new ++ drop (length new) old))
-crew_back p t c old now new len same len_is long fresh each = subst (AreBack p t c) (sym whole) (record {
+workers_back p t c old now new len same len_is long fresh each = subst (AreBack p t c) (sym whole) (record {
   count = long ∙ begun.count;
   names = λ k d lt.
       (let within : k < length now = omega (arith, lt, long) in

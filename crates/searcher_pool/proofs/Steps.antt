@@ -1,6 +1,6 @@
 -- What a worker keeps over a call of its pass.
 use Rattle.std.proofs.Common.{◌≡◌, ◌∙◌, ◌<◌, ℕ, refl, sym, ap, subst, arith, List, [], ◌∷◌, ◌++◌, length}
-use Rattle.std.proofs.Common.{inl, inr, Result, Ok, Err, IfOk}
+use Rattle.std.proofs.Common.{inl, inr, Result, Ok, Err, IfOk, IfErr}
 use Rattle.std.proofs.lemmas.List.{append-nil, append_assoc}
 use Rattle.std.specs.Prelude.{Contains}
 use Rattle.std.proofs.lemmas.List.Elements.{Contains-push}
@@ -12,11 +12,13 @@ use Rattle.pcb_board.specs.Answers.{Step, snap_of}
 use Rattle.pcb_board.specs.Keeping.{IsBoard, Grows}
 use Rattle.route_lattice.specs.Mesh.{node_count}
 use Rattle.pcb_board.proofs.Prefix.{board_whole}
-use Rattle.route_plan.specs.Plans.{IsOfferOf, IsShutIn, IsSnapOf, IsWhole}
+use Rattle.route_lattice.specs.declared.moves.Reach.{Reach}
+use Rattle.route_plan.specs.declared.plans.Planned.TheVariants as planned
+use Rattle.route_plan.specs.Plans.{IsOfferOf, IsWhole}
 use Rattle.least_offer.specs.Least.{MayBeMade}
 use Rattle.least_offer.specs.Late.{IsFair}
 use Rattle.board_turn.specs.declared.event.Deed.{Deed}
-use Rattle.board_turn.specs.declared.event.Deed.TheVariants.{Looked, Offered}
+use Rattle.board_turn.specs.declared.event.Deed.TheVariants.{Looked, Offered, Idle}
 use Rattle.board_turn.specs.declared.event.Event.{Event}
 use Rattle.board_turn.specs.Events.{Does, Reaches, IsPrefix}
 use Rattle.board_turn.specs.Turns.{TurnOf, Calls, opening}
@@ -26,9 +28,10 @@ use Rattle.searcher_pool.specs.declared.worker.Worker.{Worker}
 use Rattle.searcher_pool.specs.declared.worker.Attempt.{Attempt}
 use Rattle.searcher_pool.specs.declared.worker.Attempt.TheVariants.{Ended, Joined, Late}
 use Rattle.searcher_pool.specs.Passes.{Between, IsShutOn, PassOf, note_of}
-use Rattle.searcher_pool.specs.inner.Working.{Attempts, EndsSeen, IsAfter, IsDrawn, IsPlanned, IsReady, IsTurnOf}
-use Rattle.searcher_pool.specs.inner.Working.{Knows}
+use Rattle.searcher_pool.specs.inner.Working.{Attempts, EndsSeen, HasMapped, IsAfter, IsDrawn, IsPlanned}
+use Rattle.searcher_pool.specs.inner.Working.{IsQuietAfter, IsReady, IsSnapNow, IsTurnOf, Knows, PlansSeen}
 use Rattle.searcher_pool.specs.inner.Working.{attempt_of}
+use Rattle.searcher_pool.proofs.Following.{BoardsKeep, mapped_still}
 use Rattle.board_turn.proofs.EventLists.{reaches_grows, reaches_one}
 use Rattle.searcher_pool.proofs.Seen.{longer}
 use Rattle.searcher_pool.proofs.Knowing.{fewer_left, fewer_seen, knows_offered, knows_quiet, legal, moved}
@@ -64,12 +67,19 @@ after_on u v w first second = record {
   failed = second.failed ∙ first.failed;
 }
 
+-- what was mapped stays so when the pass has seen more
+mapped_after : (p : PassOf) (t : TurnOf) (v w : Worker) → IsPrefix v.pass.seen w.pass.seen → w.mapped ≡ v.mapped
+    → IsReady p t v → HasMapped p t w.pass.seen w.mapped
+mapped_after p t v w seen same ready = subst (HasMapped p t w.pass.seen) (sym same)
+    (mapped_still p t v.pass.seen w.pass.seen v.mapped seen ready.mapped)
+
 -- the worker is as before but for its pass, its search and its notes
 pub record IsKept (p : PassOf) (v w : Worker) : Type 0 where
   pub number : w.number ≡ v.number
   pub size : w.search ≡ node_count p.lattice
   pub drawn : w.drawn ≡ v.drawn
   pub seat : w.seat ≡ v.seat
+  pub mapped : w.mapped ≡ v.mapped
   pub failed : w.failed ≡ v.failed
 
 pub record Went (p : PassOf) (t : TurnOf) (v w : Worker) : Type 0 where
@@ -83,6 +93,8 @@ quiet p t v w d b ready kept notes silent did calls =
     let k = ready.knows in
     let m = moved p t v.pass w.pass v.drawn.items v.notes.items d b k calls b did in
     let name = ap (λ (x : turn.PassOf). x.name) calls.now_is in
+    let seen : IsPrefix v.pass.seen w.pass.seen = subst (λ (xs : List Event). IsPrefix v.pass.seen xs)
+    (sym (ap (λ (x : turn.PassOf). x.seen) calls.now_is)) m.seen in
     record {
       ready = record {
         number_is = kept.number ∙ ready.number_is ∙ sym name;
@@ -90,11 +102,11 @@ quiet p t v w d b ready kept notes silent did calls =
         knows = subst (λ (xs : List ℕ). Knows p t w.pass xs w.notes.items) (ap (λ (x : _). x.items) (sym kept.drawn))
             (subst (Knows p t w.pass v.drawn.items) (sym notes)
             (knows_quiet p t v.pass w.pass v.drawn.items v.notes.items d b k calls silent did));
+        mapped = mapped_after p t v w seen kept.mapped ready;
       };
       after = record {
         name = name;
-        seen = subst (λ (xs : List Event). IsPrefix v.pass.seen xs)
-            (sym (ap (λ (x : turn.PassOf). x.seen) calls.now_is)) m.seen;
+        seen = seen;
         notes = prefix_same v.notes.items w.notes.items notes;
         drawn = kept.drawn;
         seat = kept.seat;
@@ -105,18 +117,44 @@ quiet p t v w d b ready kept notes silent did calls =
 pub record Tried (p : PassOf) (t : TurnOf) (v w : Worker) (net : ℕ) (a : Answer) : Type 0 where
   pub ready : IsReady p t w
   pub after : IsAfter v w
-  pub attempt : Attempts p t v.pass v.notes.items w.pass w.notes.items net (attempt_of a)
+  pub attempt : Attempts p t v w net (attempt_of a)
+
+-- a snapshot was taken, or memory was wanting
+pub record Looks {E : Type 0} (p : PassOf) (t : TurnOf) (v w : Worker) (r : Result SnapOf E) : Type 0 where
+  pub ready : IsReady p t w
+  pub after : IsQuietAfter v w
+  pub snap : IfOk r (IsSnapNow t w.pass.seen)
+
+pub looked : {E : Type 0} (p : PassOf) (t : TurnOf) (v w : Worker) (r : Result SnapOf E) → IsReady p t v → IsKept p v w
+    → w.notes.items ≡ v.notes.items
+    → IfOk r (λ s. (b : BoardOf) × Calls v.pass w.pass Looked b × (s ≡ snap_of b))
+    → IfErr r (λ e. (b : BoardOf) × Calls v.pass w.pass Idle b) → Looks p t v w r
+looked p t v w (Err e) ready kept notes found (b, calls) =
+    let went = quiet p t v w Idle b ready kept notes refl refl calls in
+    record { ready = went.ready; after = record { after = went.after; same = notes }; snap = tt }
+looked p t v w (Ok s) ready kept notes (b, calls, is) failed =
+    let went = quiet p t v w Looked b ready kept notes refl refl calls in
+    record {
+      ready = went.ready;
+      after = record { after = went.after; same = notes };
+      snap = record {
+        board = b;
+        reached = subst (λ (es : List Event). Reaches (opening t) es b)
+            (sym (ap (λ (x : turn.PassOf). x.seen) calls.now_is))
+            (moved p t v.pass w.pass v.drawn.items v.notes.items Looked b ready.knows calls b refl).reached;
+        is = is;
+      };
+    }
 
 -- a call that makes the offer of a plan
-module _ (p : PassOf) (t : TurnOf) (is_turn : IsTurnOf p t)
-    (keep : (b c : BoardOf) (es : List Event) → IsBoard b → Reaches b es c → IsBoard c)
+module _ (p : PassOf) (t : TurnOf) (is_turn : IsTurnOf p t) (keep : BoardsKeep)
     (late : (b c after : BoardOf) (o : Offer) (a : Answer) → IsBoard b → IsBoard c → Grows b c → MayBeMade b o
     → Step c o a after → IsFair a) where
   -- what the answer makes of the task
   attempted : (v w : Worker) (net : ℕ) (o : Offer) (a : Answer) (b c : BoardOf) → IsReady p t v → o.worker < 16
       → o.net ≡ net → w.notes.items ≡ v.notes.items ++ record { offer = o; answer = a } ∷ []
       → Calls v.pass w.pass (Offered o a) b → Step b o a c → IsFair a
-      → Attempts p t v.pass v.notes.items w.pass w.notes.items net (attempt_of a)
+      → Attempts p t v w net (attempt_of a)
   attempted v w net o (Committed number) b c ready below is notes calls step fair =
       fewer_left t v.pass w.pass o number b c ready.knows.turn_is calls step below
   attempted v w net o (Stale item commit) b c ready below is notes calls step fair =
@@ -142,6 +180,8 @@ module _ (p : PassOf) (t : TurnOf) (is_turn : IsTurnOf p t)
       noted ∙ ap (λ (x : Offer). v.notes.items ++ record { offer = x; answer = a } ∷ []) same in
       let m = moved p t v.pass w.pass v.drawn.items v.notes.items (Offered o a) b k calls c step in
       let name = ap (λ (x : turn.PassOf). x.name) calls.now_is in
+      let seen : IsPrefix v.pass.seen w.pass.seen = subst (λ (xs : List Event). IsPrefix v.pass.seen xs)
+      (sym (ap (λ (x : turn.PassOf). x.seen) calls.now_is)) m.seen in
       let known_is : planned.board ≡ k.board =
       reaches_one (opening t) k.board planned.board v.pass.seen k.reached planned.reached in
       let plan : IsOfferOf p.lattice p.via_cost k.board v.pass.name net p.penalty o =
@@ -163,11 +203,11 @@ module _ (p : PassOf) (t : TurnOf) (is_turn : IsTurnOf p t)
               (subst (Knows p t w.pass v.drawn.items) (sym notes)
               (knows_offered p t v.pass w.pass v.drawn.items v.notes.items o a net b c k calls is_turn board_known
               board_b plan task step fair));
+          mapped = mapped_after p t v w seen kept.mapped ready;
         };
         after = record {
           name = name;
-          seen = subst (λ (xs : List Event). IsPrefix v.pass.seen xs)
-              (sym (ap (λ (x : turn.PassOf). x.seen) calls.now_is)) m.seen;
+          seen = seen;
           notes = (record { offer = o; answer = a } ∷ [], notes);
           drawn = kept.drawn;
           seat = kept.seat;
@@ -177,52 +217,48 @@ module _ (p : PassOf) (t : TurnOf) (is_turn : IsTurnOf p t)
       }
 
 -- an attempt from an earlier moment, between which and the later one no note was made
-pub attempt_on : (p : PassOf) (t : TurnOf) (q r s : turn.PassOf) (notes same after : List OfferNote) (net : ℕ)
-    (a : Attempt) → IsPrefix q.seen r.seen → same ≡ notes → Attempts p t r same s after net a
-    → Attempts p t q notes s after net a
-attempt_on p t q r s notes same after net Ended seen is h = h
-attempt_on p t q r s notes same after net Joined seen is h =
-    let fewer = fewer_seen t q.seen r.seen seen in
+pub attempt_on : (p : PassOf) (t : TurnOf) (u v w : Worker) (net : ℕ) (a : Attempt) → IsQuietAfter u v
+    → Attempts p t v w net a → Attempts p t u w net a
+attempt_on p t u v w net Ended quiet h = h
+attempt_on p t u v w net Joined quiet h =
+    let fewer = fewer_seen t u.pass.seen v.pass.seen quiet.after.seen in
     omega (arith, fewer, h)
-attempt_on p t q r s notes same after net Late seen is (n, more, stale) =
-    (n, more ∙ ap (λ (xs : List OfferNote). xs ++ n ∷ []) is, stale)
+attempt_on p t u v w net Late quiet (n, more, stale) =
+    (n, more ∙ ap (λ (xs : List OfferNote). xs ++ n ∷ []) quiet.same, stale)
 
--- what the snapshot of a call shows
-module _ (p : PassOf) (t : TurnOf) (is_turn : IsTurnOf p t)
-    (keep : (b c : BoardOf) (es : List Event) → IsBoard b → Reaches b es c → IsBoard c) (v : Worker)
-    (r : turn.PassOf) (b : BoardOf) (ready : IsReady p t v) (calls : Calls v.pass r Looked b) where
-  pub board_kept : IsBoard b
-  board_kept = keep (opening t) b calls.events is_turn.board
-      (legal p t v.pass r v.drawn.items v.notes.items Looked b ready.knows calls)
+-- nothing was noted in two steps
+pub quiet_on : (u v w : Worker) → IsQuietAfter u v → IsQuietAfter v w → IsQuietAfter u w
+quiet_on u v w first second = record {
+  after = after_on u v w first.after second.after;
+  same = second.same ∙ first.same;
+}
 
-  pub board_seen : Reaches (opening t) r.seen b
-  board_seen = subst (λ (es : List Event). Reaches (opening t) es b)
-      (sym (ap (λ (x : turn.PassOf). x.seen) calls.now_is))
-      (moved p t v.pass r v.drawn.items v.notes.items Looked b ready.knows calls b refl).reached
-
-  pub snap_is : (s : SnapOf) → s ≡ snap_of b → IsSnapOf s b
-  snap_is s is = record { board = board_kept; is = sym is; plain = board_kept.plain }
-
+-- what a plan says of the board that the worker's pass has seen
+module _ (p : PassOf) (t : TurnOf) (is_turn : IsTurnOf p t) (keep : BoardsKeep) (w : Worker) (net : ℕ) where
   -- what holds of that board holds of some board of the pass
-  shown : (P : BoardOf → Type 0) → P b → (c : BoardOf) → Reaches (opening t) r.seen c
-      → Between P c (length (opening t).history) (length c.history)
-  shown P holds c reached =
-      subst (λ (x : BoardOf). Between P x (length (opening t).history) (length x.history))
-      (reaches_one (opening t) c b r.seen reached board_seen) (record {
-        at = length b.history;
-        late = longer (opening t) b (reaches_grows (opening t) b r.seen board_seen);
-        early = omega arith;
-        holds = subst P (sym (board_whole b board_kept)) holds;
-      })
+  shown : (P : BoardOf → Type 0) → ((c : BoardOf) → Reaches (opening t) w.pass.seen c → P c) → (c : BoardOf)
+      → Reaches (opening t) w.pass.seen c → Between P c (length (opening t).history) (length c.history)
+  shown P holds c reached = record {
+    at = length c.history;
+    late = longer (opening t) c (reaches_grows (opening t) c w.pass.seen reached);
+    early = omega arith;
+    holds = subst P (sym (board_whole c (keep (opening t) c w.pass.seen is_turn.board reached))) (holds c reached);
+  }
 
-  pub ends_whole : (notes : List OfferNote) (net : ℕ) → IsWhole b.design b.items net → EndsSeen p t r notes net
-  ends_whole notes net whole = λ c reached. inl (shown (λ x. IsWhole x.design x.items net) whole c reached)
+  pub ends_whole : PlansSeen p t w net planned.Whole → EndsSeen p t w.pass w.notes.items net
+  ends_whole plan = λ c reached. inl (shown (λ x. IsWhole x.design x.items net) plan c reached)
 
-  pub ends_shut : (notes : List OfferNote) (net : ℕ) (nodes : List ℕ)
-      → IsShutIn b.design p.lattice b.items net p.via_cost p.penalty nodes → EndsSeen p t r notes net
-  ends_shut notes net nodes shut = λ c reached.
+  pub ends_shut : (reach : Reach) → PlansSeen p t w net (planned.Shut reach) → EndsSeen p t w.pass w.notes.items net
+  ends_shut reach plan = λ c reached.
       inr (inl (shown (λ x. IsShutOn p.lattice p.via_cost x net p.penalty)
-      (record { nodes = nodes; shut = shut }) c reached))
+      (λ d there. record { nodes = reach.nodes; shut = plan d there }) c reached))
+
+  pub is_planned : (o : Offer) → IsReady p t w → PlansSeen p t w net (planned.Offer o) → IsPlanned p t w net o
+  is_planned o ready plan = record {
+    board = ready.knows.board;
+    reached = ready.knows.reached;
+    plan = (plan ready.knows.board ready.knows.reached).offer;
+  }
 
 pub on_ok : {A E : Type 0} (P Q : A → Type 0) (r : Result A E) → ((a : A) → P a → Q a) → IfOk r P → IfOk r Q
 on_ok P Q (Ok a) next h = next a h

@@ -30,7 +30,7 @@ use Rattle.searcher_pool.specs.Passes.{PassOf, EndsPlace, EndsTask, Grows, IsFul
 use Rattle.searcher_pool.specs.Passes.{IsSpent, IsStale, IsTold, claimed, commits_in, committed, joins_by}
 use Rattle.searcher_pool.specs.Passes.{note_of, noted}
 use Rattle.searcher_pool.specs.inner.Working.{EndsDrawn, EndsSeen, Knows}
-use Rattle.searcher_pool.specs.inner.Crews.{AreEnded, AreLogsOf, IsLogOf}
+use Rattle.searcher_pool.specs.inner.Workers.{AreEnded, AreLogsOf, IsLogOf}
 use Rattle.board_turn.proofs.EventLists.{reaches_grows, reaches_one, reaches_parts}
 use Rattle.searcher_pool.proofs.Seen.{spent_later}
 use Rattle.searcher_pool.proofs.Knowing.{told_later}

@@ -1,3 +1,4 @@
 -- What private functions give: a reader of the public contracts needs none of it.
-pub mod Crews
+pub mod Pools
 pub mod Working
+pub mod Workers

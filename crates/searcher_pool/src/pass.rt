@@ -1,132 +1,98 @@
 //! A pass: workers share the board by a turn, draw the tasks one after another, and work each off.
+//! Where memory is wanting the board comes back with what was joined.
 
-ghost use Rattle.std.specs.Prelude.{◌≡◌, ◌<◌, ◌≤◌, ◌^◌, IfOk, IfErr, IfSome, false, length, vec_capacity};
-ghost use Rattle.std.specs.Prelude.{vec_len};
-ghost use Rattle.pcb_model.specs.Sound.{IsSound};
+ghost use Rattle.std.specs.Prelude.{◌≡◌, ◌<◌, ◌≤◌, ◌^◌, IfOk, IfErr, false, length};
+ghost use Rattle.std.specs.Prelude.{vec_capacity, vec_len};
 ghost use Rattle.route_lattice.specs.Fits.{FitsDesign};
-ghost use Rattle.move_maps.specs.Maps.{AreMapsOf};
-ghost use Rattle.route_plan.specs.Sights.{IsSeenOn};
 ghost use Rattle.board_turn.specs.Turns.{passes_of, opening};
-ghost use Rattle.searcher_pool.specs.Passes.{IsPassed, Grows};
-ghost use Rattle.searcher_pool.specs.inner.Working.{pass_of, IsTurnOf, HasFixed};
-ghost use Rattle.searcher_pool.specs.Passes.{pass_from, IsTask};
-ghost use Rattle.searcher_pool.specs.inner.Crews.{AreRooms};
+ghost use Rattle.searcher_pool.specs.Passes.{IsPassed, Grows, pass_from, IsTask};
+ghost use Rattle.searcher_pool.specs.Inputs.{pass_of, AreMaps, CanPass};
+ghost use Rattle.searcher_pool.specs.inner.Workers.{AreBuffers};
 ghost use Rattle.board_offers.specs.declared.offer.TheConstants.{CLOSER};
 
-use crate::crew::{Crew, crew_works, dismiss, searches, staff};
+use crate::input::{PassInput, PassMaps};
 use crate::log::WorkerLog;
-use crate::worker::Job;
+use crate::pool::Pool;
+use crate::threads::{Workers, searches};
 use board_turn::{Claimer, Counter, Gate, Pass, Turn};
-use move_maps::MoveMaps;
 use pcb_board::{Board, PassBack};
-use pcb_model::Design;
 use route_lattice::Lattice;
-use route_plan::{Sight, fixed_maps};
+use route_plan::fixed_maps;
 use std::alloc::{AllocError, Global};
 use std::sync::Wait;
 use std::thread::Threads;
 use wave_search::Search;
 
-// What a pass needs beside the turn: memory for searches, workers and logs, and the counter of tasks.
+/// Memory for each worker's searches, room for workers and logs, and the seats at the counter of tasks that no worker
+/// has.
 #[derive(Drop)]
-struct Rooms {
-    searches: Vec<Search>,
-    crew: Crew,
-    logs: Vec<WorkerLog>,
-    counter: Counter,
-    home: Claimer,
+pub(crate) struct Buffers {
+    pub searches: Vec<Search>,
+    pub workers: Workers,
+    pub logs: Vec<WorkerLog>,
+    pub own_claimer: Claimer,
 }
 
-// The maps of the moves on the design's fixed items, where there is a penalty.
-fn fixed_for(
-    alloc: Global,
-    lat: &Lattice,
-    d: &Design,
-    penalty: Option<u64>,
-) -> Result<Option<MoveMaps>, AllocError>
-    requires sound { IsSound d.now }
-    requires fits { FitsDesign d.now lat.now }
-    ensures { IfOk result (λ o. IfSome o (AreMapsOf d.now lat.now d.now.fixed)) }
+// The buffers of a pass, and the counter of its tasks.
+fn make_buffers(alloc: Global, input: PassInput<'_>) -> Result<(Buffers, Counter), AllocError>
+    ensures { IfOk result (λ r. AreBuffers (pass_of input.entry) r.1 r.0
+        × (r.1.tasks ≡ length (pass_of input.entry).tasks)) }
 {
-    match penalty {
-        Some(_) => Ok(Some(fixed_maps(alloc, lat, d)?)),
-        None => Ok(None),
-    }
-}
-
-fn make_rooms(alloc: Global, job: Job<'_>) -> Result<Rooms, AllocError>
-    ensures { IfOk result (AreRooms (pass_of job.entry)) }
-{
-    let searches = searches(alloc, job.workers, job.lat.count())?;
-    let crew = Vec::with_capacity(alloc, job.workers as usize)?;
-    let logs = Vec::with_capacity(alloc, job.workers as usize)?;
-    let (counter, home) = Counter::new(alloc, job.tasks.len() as u64)?;
-    Ok(Rooms {
+    let searches = searches(alloc, input.workers, input.lat.count())?;
+    let workers = Vec::with_capacity(alloc, input.workers as usize)?;
+    let logs = Vec::with_capacity(alloc, input.workers as usize)?;
+    let (counter, own_claimer) = Counter::new(alloc, input.tasks.len() as u64)?;
+    let buffers = Buffers {
         searches,
-        crew,
+        workers,
         logs,
-        counter,
-        home,
-    })
+        own_claimer,
+    };
+    Ok((buffers, counter))
 }
 
-// The pass, once there is room for all. Says whether memory was wanting to a worker.
-fn turn_over<R: Threads + Wait + Sync, G: Gate + Sync>(
-    rt: &R,
-    alloc: Global,
-    job: Job<'_>,
-    turn: Turn,
-    mut passes: Vec<Pass>,
-    rooms: Rooms,
-    gate: &G,
-) -> (Board, Vec<WorkerLog>, bool)
-    requires turn { IsTurnOf (pass_of job) turn }
-    requires fixed { HasFixed job (opening turn).design }
-    requires base { IfSome job.base (λ s. IsSeenOn job.lat.now (opening turn) s.now) }
-    requires some { 0 < job.workers }
-    requires few { length job.tasks.now < 2 ^ 32 }
-    requires passes { (passes.items ≡ passes_of turn 0 (vec_len passes)) × (vec_len passes ≡ job.workers)
-        × (job.workers ≤ vec_capacity passes) }
-    requires rooms { AreRooms (pass_of job) rooms }
-    ensures grows { Grows (pass_of job.entry) (opening turn) result.0 }
-    ensures passed { result.2 ≡ false → IsPassed (pass_of job.entry) (opening turn) result.0 result.1.items }
-{
-    let Rooms {
-        mut searches,
-        mut crew,
-        mut logs,
-        counter,
-        mut home,
-    } = rooms;
-    staff(
-        alloc,
-        job,
-        &turn,
-        &counter,
-        &mut home,
-        &mut passes,
-        &mut searches,
-        &mut crew,
-    );
-    crew_works(rt, alloc, job, &turn, &counter, gate, &mut crew);
-    let failed = dismiss(
-        job,
-        &turn,
-        &counter,
-        &mut home,
-        &mut passes,
-        &mut logs,
-        &mut crew,
-    );
-    let board = turn.close(passes);
-    if failed {
-        return (board, logs, true);
+impl<'a, G: Gate + Sync> Pool<'a, G> {
+    // The pass, once there is room for all. Says whether memory was wanting to a worker.
+    fn work_and_close<R: Threads + Wait + Sync>(
+        self,
+        rt: &R,
+        alloc: Global,
+        mut passes: Vec<Pass>,
+        mut buffers: Buffers,
+    ) -> (Board, Vec<WorkerLog>, bool)
+        requires passes { (passes.items ≡ passes_of self.turn 0 (vec_len passes))
+            × (vec_len passes ≡ self.pass.workers) × (self.pass.workers ≤ vec_capacity passes) }
+        requires buffers { AreBuffers self.pass self.counter buffers }
+        ensures grows { Grows self.entry.pass (opening self.entry.turn) result.0 }
+        ensures passed { result.2 ≡ false
+            → IsPassed self.entry.pass (opening self.entry.turn) result.0 result.1.items }
+    {
+        self.keeps();
+        self.make_workers(alloc, &mut passes, &mut buffers);
+        self.run_workers(rt, alloc, &mut buffers.workers);
+        let failed = self.collect_logs(&mut passes, &mut buffers);
+        let Pool {
+            input: _,
+            turn,
+            counter,
+            gate: _,
+        } = self;
+        let Buffers {
+            searches: _,
+            workers: _,
+            logs,
+            own_claimer,
+        } = buffers;
+        let board = turn.close(passes);
+        if failed {
+            return (board, logs, true);
+        }
+        counter.finish(own_claimer);
+        (board, logs, false)
     }
-    counter.finish(home);
-    (board, logs, false)
 }
 
-/// `run_pass` where something was seen of the board before: each worker begins with a copy of it.
+/// `run_pass` by what is given of it, the maps that were made before it among that.
 ///
 /// # Errors
 ///
@@ -135,53 +101,32 @@ pub fn run_pass_from<R: Threads + Wait + Sync, G: Gate + Sync>(
     rt: &R,
     alloc: Global,
     board: Board,
-    lat: &Lattice,
-    via_cost: u64,
-    workers: u32,
-    tasks: Vec<u32>,
-    penalty: Option<u64>,
-    base: Option<&Sight>,
+    input: PassInput<'_>,
     gate: &G,
 ) -> Result<(Board, Vec<WorkerLog>), PassBack>
-    requires workers { (1 ≤ workers) × (workers ≤ CLOSER) }
-    requires task { IsTask (pass_from lat.now via_cost workers tasks.items penalty) board.design }
-    requires few { vec_len tasks < 2 ^ 32 }
-    requires base { IfSome base (λ s. IsSeenOn lat.now board s.now) }
-    ensures ok { IfOk result
-        (λ r. IsPassed (pass_from lat.now via_cost workers tasks.items penalty) board r.0 r.1.items) }
-    ensures back { IfErr result
-        (λ e. Grows (pass_from lat.now via_cost workers tasks.items penalty) board e.board) }
+    requires input { CanPass input board }
+    ensures ok { IfOk result (λ r. IsPassed (pass_of input.entry) board r.0 r.1.items) }
+    ensures back { IfErr result (λ e. Grows (pass_of input.entry) board e.board) }
 {
     board.keeps();
-    let fixed = match fixed_for(alloc, lat, board.design(), penalty) {
-        Ok(fixed) => fixed,
+    let (buffers, counter) = match make_buffers(alloc, input) {
+        Ok(made) => made,
         Err(cause) => return Err(PassBack { board, cause }),
     };
-    let job = Job {
-        lat,
-        via_cost,
-        workers,
-        tasks: tasks.as_slice(),
-        penalty,
-        base,
-        fixed: fixed.as_ref(),
-    };
-    let rooms = match make_rooms(alloc, job) {
-        Ok(rooms) => rooms,
-        Err(cause) => {
-            drop((fixed, tasks));
-            return Err(PassBack { board, cause });
-        }
-    };
-    let (turn, passes) = match Turn::new(alloc, board, workers) {
+    let (turn, passes) = match Turn::new(alloc, board, input.workers) {
         Ok(made) => made,
         Err(back) => {
-            drop((fixed, tasks, rooms));
+            drop((buffers, counter));
             return Err(back);
         }
     };
-    let (board, logs, failed) = turn_over(rt, alloc, job, turn, passes, rooms, gate);
-    drop((fixed, tasks));
+    let pool = Pool {
+        input,
+        turn,
+        counter,
+        gate,
+    };
+    let (board, logs, failed) = pool.work_and_close(rt, alloc, passes, buffers);
     if failed {
         return Err(PassBack {
             board,
@@ -189,6 +134,27 @@ pub fn run_pass_from<R: Threads + Wait + Sync, G: Gate + Sync>(
         });
     }
     Ok((board, logs))
+}
+
+// The maps of a pass before which none were made: those of the design's fixed items, where there is a penalty.
+fn maps_for(
+    alloc: Global,
+    lat: &Lattice,
+    board: &Board,
+    penalty: Option<u64>,
+) -> Result<PassMaps, AllocError>
+    requires { FitsDesign board.now.design lat.now }
+    ensures { IfOk result (AreMaps lat.now board.now) }
+{
+    board.keeps();
+    let fixed = match penalty {
+        Some(_) => Some(fixed_maps(alloc, lat, board.design())?),
+        None => None,
+    };
+    Ok(PassMaps {
+        mapped: None,
+        fixed,
+    })
 }
 
 /// Makes one pass of so many workers over the tasks, which are nets, with a penalty in nm or without; a via costs
@@ -216,7 +182,22 @@ pub fn run_pass<R: Threads + Wait + Sync, G: Gate + Sync>(
     ensures back { IfErr result
         (λ e. Grows (pass_from lat.now via_cost workers tasks.items penalty) board e.board) }
 {
-    run_pass_from(
-        rt, alloc, board, lat, via_cost, workers, tasks, penalty, None, gate,
-    )
+    let maps = match maps_for(alloc, lat, &board, penalty) {
+        Ok(maps) => maps,
+        Err(cause) => {
+            drop(tasks);
+            return Err(PassBack { board, cause });
+        }
+    };
+    let input = PassInput {
+        lat,
+        via_cost,
+        workers,
+        tasks: tasks.as_slice(),
+        penalty,
+        maps: &maps,
+    };
+    let passed = run_pass_from(rt, alloc, board, input, gate);
+    drop((maps, tasks));
+    passed
 }

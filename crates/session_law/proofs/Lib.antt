@@ -38,8 +38,8 @@ pub mod BackNets
 pub mod BackWhole
 pub mod BackBoards
 pub mod BackLaw
-pub mod RunWires
-pub mod RunDesigns
-pub mod RunOffers
-pub mod RunGiven
-pub mod RunRuns
+pub mod BoardWires
+pub mod BoardDesigns
+pub mod BoardOffers
+pub mod BoardGiven
+pub mod BoardItems

@@ -90,7 +90,7 @@ module _ (d : Design) (m : Mesh) (r : RunOf) (b : BoardOf) (facts : Facts) (few 
   ]
 
   -- so a join without a penalty takes nothing out
-  pub run_takes : (k : ℕ) (o : Offer) (first after : ℕ) → slice_get b.history k ≡ Some (Join o first after)
+  run_takes : (k : ℕ) (o : Offer) (first after : ℕ) → slice_get b.history k ≡ Some (Join o first after)
       → o.penalty ≡ None → TakesNothing o
   run_takes k o first after at none = elim (cases_lt k end) [
     | inl early ↦

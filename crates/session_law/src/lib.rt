@@ -101,23 +101,32 @@ pub fn sessions_read_back()
     sessions_have_trees();
 }
 
-// ---- of a run
-
 /// A design that was read has wiring that reads back: fixed copper has the pieces of its metal, and wires have two
 /// points or more.
 pub fn designs_have_wiring()
     ensures { (text : Seq ℕ) (d : TheDesign) → HasDesign text d → HasWiring d }
 {}
 
-/// Reading the session of a run over a design that was read, on a lattice of it and by at most 16 workers, answers the
-/// printed wiring, item by item in the printed order, or want of memory, whether the fixed wiring is left out or not.
+/// So reading the session of any board of a design that was read answers the printed wiring, or want of memory, where
+/// the board's routed copper is on scale, whether the fixed wiring is left out or not.
+pub fn boards_read_back()
+    ensures { (text : Seq ℕ) (b : BoardOf) (omit_fixed : Bool) (result : Result (Seq OneSesItem) OneSesFault)
+        → HasDesign text b.design → IsBoard b → IsOnScale (scale_of b.design).nm b.items
+        → ReadsSession (session_of b.design b.items omit_fixed) b.design result
+        → TellsWiring b.design b.items omit_fixed result }
+{
+    designs_have_wiring();
+    sessions_read_back();
+}
+
+/// That of a run is on scale: reading the session of a run over a design that was read, on a lattice of it and by at
+/// most 16 workers, answers the printed wiring, or want of memory.
 pub fn runs_read_back()
     ensures { (text : Seq ℕ) (d : TheDesign) (grid : ℕ) (r : RunOf) (b : BoardOf) (facts : RunFacts)
         (omit_fixed : Bool) (result : Result (Seq OneSesItem) OneSesFault) → HasDesign text d → r.workers ≤ CLOSER
         → IsRun d (lattice_of d grid) r b facts → ReadsSession (session_of d b.items omit_fixed) d result
         → TellsWiring d b.items omit_fixed result }
 {
-    designs_have_wiring();
     runs_are_on_scale();
-    sessions_read_back();
+    boards_read_back();
 }

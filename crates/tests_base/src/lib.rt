@@ -21,6 +21,8 @@ mod of_geo_kernel;
 #[cfg(test)]
 mod of_head;
 #[cfg(test)]
+mod of_hosts;
+#[cfg(test)]
 mod of_placement;
 #[cfg(test)]
 mod of_route_words;

@@ -1,7 +1,9 @@
 //! Each desk and each sink once, with ample memory, and their faults.
 //! The host's files are tried in files of its own, in the folder that the tests run in.
 
-use desk_io::{CalmDesk, Desk, DeskFail, HostDesk, HostSink, MemDesk, MemSink, Sink, SinkFail};
+use desk_io::{
+    CalmDesk, Desk, DeskFail, HostDesk, HostSink, MemDesk, MemSink, Sink, SinkFail, WatchedOutput,
+};
 use std::alloc::Global;
 use std::fmt::Display;
 use std::process::Abort;
@@ -180,4 +182,42 @@ fn puts_through(output: &Halting, fails: bool, faults: u64) -> bool {
 fn a_put_fails_where_standard_output_stops_in_the_middle(rt: HostRuntime) {
     assert!(rt; puts_through(&Halting { stop: 0 }, false, 0));
     assert!(rt; puts_through(&Halting { stop: 2 }, true, 1));
+}
+
+/// A standard output that takes nothing, for a reason.
+#[derive(Drop)]
+struct Failing {
+    reason: io::ErrorKind,
+}
+
+impl Print for Failing {
+    fn print<D: Display + Drop>(&self, _value: D) -> io::Result<()> {
+        Err(io::Error::from(self.reason))
+    }
+
+    fn println<D: Display + Drop>(&self, _value: D) -> io::Result<()> {
+        Err(io::Error::from(self.reason))
+    }
+
+    fn write_all(&self, _bytes: &[u8]) -> io::Result<()> {
+        Err(io::Error::from(self.reason))
+    }
+
+    fn write_some(&self, _bytes: &[u8]) -> io::Result<usize> {
+        Err(io::Error::from(self.reason))
+    }
+}
+
+/// Whether a put fails for that reason, and whether it is then told that nobody reads.
+fn tells_of_no_reader(reason: io::ErrorKind, told: bool) -> bool {
+    let failing = Failing { reason };
+    let output = WatchedOutput::new(&failing);
+    let mut sink = HostSink::new(&output);
+    !output.has_no_reader() && puts(&mut sink, "12345", true) && output.has_no_reader() == told
+}
+
+#[test]
+fn an_output_that_nobody_reads_is_told_from_one_that_is_full(rt: HostRuntime) {
+    assert!(rt; tells_of_no_reader(io::ErrorKind::BrokenPipe, true));
+    assert!(rt; tells_of_no_reader(io::ErrorKind::StorageFull, false));
 }

@@ -100,35 +100,107 @@ fn a_board_tells_what_changed_goes_back_and_is_copied(rt: HostRuntime) {
     );
 }
 
-/// The closing pass's offer of the second net's wire from its first pin to another point.
-fn of_closer(base: u64, wire: &'static [(u16, u16)]) -> Join {
-    let mut join = across(base, &[]);
-    join.worker = 16;
-    join.wire = wire;
+/// What an offer has in place of what the second net's straight one has.
+#[derive(Clone, Copy)]
+enum Change {
+    Base(u64),
+    /// The base, and the worker.
+    Made(u64, u32),
+    To(u64),
+    Wire(&'static [(u16, u16)]),
+    Rip(&'static [u64]),
+    Shove(u64, &'static [(u16, u16)]),
+}
+
+fn changed(change: Change) -> Join {
+    let mut join = across(1, &[]);
+    match change {
+        Change::Base(base) => join.base = base,
+        Change::Made(base, worker) => {
+            join.base = base;
+            join.worker = worker;
+        }
+        Change::To(to) => join.to = to,
+        Change::Wire(wire) => join.wire = wire,
+        Change::Rip(rip) => join.rip = rip,
+        Change::Shove(id, chain) => join.shove = Some((id, chain)),
+    }
     join
 }
 
-/// Whether a board that has its one entry is full to workers alone, and names the first clause that fails.
-fn refuses(alloc: Global, board: &mut Board) -> bool {
-    let too_short = &[(5_000, 2_000), (5_000, 3_000)];
-    let outside = &[
-        (5_000, 2_000),
-        (11_000, 2_000),
-        (11_000, 8_000),
-        (5_000, 8_000),
-    ];
-    let steps = [
-        (across(2, &[]), Answer::Full),
-        (of_closer(2, outside), Answer::Malformed { clause: 1 }),
-        (of_closer(1, too_short), Answer::Malformed { clause: 4 }),
-        (of_closer(1, outside), Answer::Wrong { item: 0, commit: 0 }),
-    ];
-    answers(alloc, board, &steps) && stand(board, &[0, 1, 2, 3, 4, 5])
+static REFUSALS: [(Change, Answer); 10] = [
+    (Change::Base(2), Answer::Malformed { clause: 1 }),
+    (Change::To(3), Answer::Malformed { clause: 2 }),
+    (Change::Wire(&[]), Answer::Malformed { clause: 3 }),
+    (
+        Change::Wire(&[(5_000, 2_000), (5_000, 3_000)]),
+        Answer::Malformed { clause: 4 },
+    ),
+    (
+        Change::Wire(&[(11_000, 2_000), (5_000, 2_000), (5_000, 8_000)]),
+        Answer::Malformed { clause: 5 },
+    ),
+    (Change::Rip(&[5, 5]), Answer::Malformed { clause: 6 }),
+    (Change::Rip(&[1]), Answer::Malformed { clause: 7 }),
+    (
+        Change::Shove(0, &[(1_000, 5_000), (9_000, 5_000)]),
+        Answer::Malformed { clause: 8 },
+    ),
+    (
+        Change::Shove(
+            5,
+            &[
+                (1_000, 5_000),
+                (1_000, 6_000),
+                (9_000, 6_000),
+                (9_000, 5_000),
+            ],
+        ),
+        Answer::Malformed { clause: 9 },
+    ),
+    (
+        Change::Wire(&[
+            (5_000, 2_000),
+            (11_000, 2_000),
+            (11_000, 8_000),
+            (5_000, 8_000),
+        ]),
+        Answer::Wrong { item: 0, commit: 0 },
+    ),
+];
+
+/// What a board that has room for no more entries of workers answers to one of them, and to the closing pass.
+static FULL: [(Change, Answer); 2] = [
+    (Change::Base(2), Answer::Full),
+    (Change::Made(2, 16), Answer::Malformed { clause: 1 }),
+];
+
+/// Whether a board of one entry answers so, and stays as it was.
+fn refuses(alloc: Global, board: &mut Board, change: Change, want: Answer) -> bool {
+    answers(alloc, board, &[(changed(change), want)])
+        && stand(board, &[0, 1, 2, 3, 4, 5])
+        && board.history().len() == 1
+}
+
+fn refuses_all(alloc: Global, board: &mut Board, rows: &[(Change, Answer)]) -> bool {
+    for (change, want) in rows {
+        if !refuses(alloc, board, *change, *want) {
+            return false;
+        }
+    }
+    true
 }
 
 #[test]
-fn a_full_board_says_so_to_workers_and_the_first_clause_that_fails_is_named(rt: HostRuntime) {
+fn an_offer_that_is_refused_is_told_its_first_fault_and_changes_nothing(rt: HostRuntime) {
+    let alloc = rt.alloc();
+    let mut board = opened(alloc, CROSS).expect(&rt, "no board");
+    assert!(rt; takes_first(alloc, &mut board) && refuses_all(alloc, &mut board, &REFUSALS));
+}
+
+#[test]
+fn a_full_board_says_so_to_workers_alone(rt: HostRuntime) {
     let alloc = rt.alloc();
     let (mut board, _) = start(alloc, CROSS, 1).expect(&rt, "no board");
-    assert!(rt; takes_first(alloc, &mut board) && refuses(alloc, &mut board));
+    assert!(rt; takes_first(alloc, &mut board) && refuses_all(alloc, &mut board, &FULL));
 }

@@ -131,7 +131,7 @@ fn passed_of<'a>(
     requires fixed { AreMapsOf d.now lat.now d.now.fixed fixed.now }
 {
     let rips = RipMoves::of(lat, d, c, net, 2_000_000, 500_000);
-    match rips_of(alloc, maps, fixed, lat, d, c, net, 2_000_000, 500_000) {
+    match rips_of(alloc, maps, fixed, &rips) {
         Ok(Some(moves)) => {
             let map = moves.fixed;
             seen_by(&moves, &rips, &map.counts)

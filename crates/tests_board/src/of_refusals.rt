@@ -4,7 +4,7 @@
 use crate::calls::{Wanted, leaves};
 use crate::designs::{CROSSING, ON_FRONT, TWO_LAYERS};
 use dsn_route::Status;
-use std::alloc::Global;
+use std::alloc::{AllocError, Global};
 use std::process::Abort;
 use std::sync::Wait;
 use std::thread::Threads;
@@ -167,6 +167,114 @@ fn calls_that_stop_say_why(rt: HostRuntime) {
         let end = (status, line);
         assert!(rt;
             stops(&rt, rt.alloc(), CROSSING, &WIDE, words, end),
+            "{line}"
+        );
+    }
+}
+
+// ---- limits
+
+/// A part of a text: words as they stand, or words so many times, with a number from 0 between their two halves.
+#[derive(Clone, Copy)]
+enum Part {
+    Words(&'static str),
+    Counted(&'static str, &'static str, u32),
+}
+
+const ONE_LAYER: &str =
+    "(pcb b (resolution um 10) (structure (layer A) (boundary (rect A 0 0 9 9)))";
+
+const IMAGE: &str = " (library (padstack P) (image I ";
+
+const PLACES: &str = ")) (placement (component I ";
+
+/// What passes a limit, and what is said of it.
+static LIMITS: [(&[Part], &str); 5] = [
+    (
+        &[
+            Part::Words(ONE_LAYER),
+            Part::Words(IMAGE),
+            Part::Counted("(pin P ", " 0 0)", 1_024),
+            Part::Words(PLACES),
+            Part::Counted("(place ", " 0 0 front 0)", 513),
+            Part::Words(")))"),
+        ],
+        "limit pins 524288\n",
+    ),
+    (
+        &[
+            Part::Words(ONE_LAYER),
+            Part::Words(IMAGE),
+            Part::Counted("(keepout ", " (circle A 1))", 1_025),
+            Part::Words(PLACES),
+            Part::Counted("(place ", " 0 0 front 0)", 2_048),
+            Part::Words(")))"),
+        ],
+        "limit items 2097152\n",
+    ),
+    (
+        &[
+            Part::Words(ONE_LAYER),
+            Part::Words(" (library (padstack P (shape (polygon A 0"),
+            Part::Counted(" ", " 0", 16_385),
+            Part::Words(")))))"),
+        ],
+        "limit vertices 16384\n",
+    ),
+    (
+        &[
+            Part::Words(ONE_LAYER),
+            Part::Words(" (network "),
+            Part::Counted("(net ", ")", 131_073),
+            Part::Words("))"),
+        ],
+        "limit nets 131072\n",
+    ),
+    (
+        &[Part::Counted(
+            "(layer that stands before any board, and is one of more than a file may hold, with the number ",
+            ")",
+            700_000,
+        )],
+        "limit bytes 67108864\n",
+    ),
+];
+
+fn put_part(alloc: Global, text: &mut String, part: Part) -> Result<(), AllocError> {
+    match part {
+        Part::Words(words) => text.push_str(words),
+        Part::Counted(front, back, count) => {
+            for n in 0..count {
+                let piece = format!(in alloc; "{front}{n}{back}")?;
+                text.push_str(piece.as_str())?;
+            }
+            Ok(())
+        }
+    }
+}
+
+fn text_of(alloc: Global, parts: &[Part]) -> Result<String, AllocError> {
+    let mut text = String::new(alloc);
+    for part in parts {
+        put_part(alloc, &mut text, *part)?;
+    }
+    Ok(text)
+}
+
+#[test]
+fn what_passes_a_limit_is_told_with_the_limit(rt: HostRuntime) {
+    for &(parts, line) in &LIMITS {
+        let text = text_of(rt.alloc(), parts).expect(&rt, "no text");
+        let end = (Status::Limit, line);
+        assert!(rt;
+            stops(
+                &rt,
+                rt.alloc(),
+                text.as_str(),
+                &[],
+                "route u.dsn u.ses",
+                end
+            ),
             "{line}"
         );
     }

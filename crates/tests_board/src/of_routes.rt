@@ -2,7 +2,7 @@
 //! Each net gets least walks, or a cut for each of its islands.
 
 use crate::calls::{Wanted, called, leaves};
-use crate::designs::{CROSSING, KICAD, ON_FRONT, TWO_LAYERS};
+use crate::designs::{CROSSING, KICAD, ON_FRONT, TWO_LAYERS, swapped};
 use board_turn::NoGate;
 use dsn_route::Status;
 
@@ -698,32 +698,25 @@ fn a_generated_board_gets_the_short_report_and_one_of_kicad_is_complete(rt: Host
 
 // ---- faults
 
-/// What follows the head in the first half of the report, and the first half of the session.
-const HALF_REPORT: &str = "pass 1 commits 1 open 1
-kept 1
-joins 0
-net A complete
-net B open 2
-cut \"C3-1\" reached 36 blocked 9
-by smd 1
-by smd ";
-
+/// The first half of the session of two pins that face each other; that of their report ends with its head.
 const HALF_SESSION: &str = "(session T
   (base_design T)
   (placement
     (resolution um 10)
     (component P
-      (place C1 10000 50000 front 0)
-      (place C2 90000 50000 front 0)
-      (place C3 50000 20000 front 0)
-      (place C4 50000 80000 front 0)
+      (place C1 20000 50000 front 0)
+      (place C2 80000 50000 front 0)
     )
   )
-";
+  (was_is
+  )
+  (routes
+    (resoluti";
 
-/// Which call of the desk and which put of the sink fails, and what is left then.
-static FAULTS: [((u64, u64), Wanted); 4] = [
+/// The words; which call of the desk and which put of the sink fails; and what is left then.
+static FAULTS: [(&str, (u64, u64), Wanted); 5] = [
     (
+        ROUTE,
         (1, 0),
         Wanted {
             status: Status::ReadFault,
@@ -733,6 +726,7 @@ static FAULTS: [((u64, u64), Wanted); 4] = [
         },
     ),
     (
+        ROUTE,
         (1, 1),
         Wanted {
             status: Status::WriteFault,
@@ -742,6 +736,7 @@ static FAULTS: [((u64, u64), Wanted); 4] = [
         },
     ),
     (
+        ROUTE,
         (2, 0),
         Wanted {
             status: Status::WriteFault,
@@ -751,20 +746,33 @@ static FAULTS: [((u64, u64), Wanted); 4] = [
         },
     ),
     (
+        ROUTE,
         (0, 1),
         Wanted {
             status: Status::WriteFault,
-            report: &[CROSSING_HEAD, HALF_REPORT],
-            session: Some(&[CROSSING_FRONT, STRAIGHT, SESSION_END]),
+            report: &[ONE_NET],
+            session: Some(&[PAIR_SESSION, FACING, SESSION_END]),
             made: Some((1, 1)),
+        },
+    ),
+    (
+        "",
+        (0, 1),
+        Wanted {
+            status: Status::WriteFault,
+            report: &["usag"],
+            session: None,
+            made: None,
         },
     ),
 ];
 
 #[test]
 fn faults_leave_a_front_of_what_was_due(rt: HostRuntime) {
-    for (fails, wanted) in &FAULTS {
-        let left = called(&rt, rt.alloc(), CROSSING.as_bytes(), ROUTE, *fails, &NoGate);
+    let alloc = rt.alloc();
+    let text = swapped(alloc, TWO_LAYERS, &[ON_FRONT]).expect(&rt, "no text");
+    for (line, fails, wanted) in &FAULTS {
+        let left = called(&rt, alloc, text.as_bytes(), line, *fails, &NoGate);
         assert!(rt; left.is(wanted), "{} and {}", fails.0, fails.1);
     }
 }

@@ -2,7 +2,7 @@
 //! Lengths in the texts and in the chains are in um.
 
 use geo_kernel::{List, Point};
-use pcb_board::{Answer, Board, Offer};
+use pcb_board::{Answer, Board, Offer, Shoved};
 use pcb_model::{Copper, Metal};
 use std::alloc::{AllocError, Global};
 
@@ -61,8 +61,8 @@ pub(crate) fn is_chain(chain: &[Point], um: &[(u16, u16)]) -> bool {
     true
 }
 
-/// A list of metals with the one wire of 200 um on the first layer.
-fn wire(alloc: Global, um: &[(u16, u16)]) -> Result<List<Metal>, AllocError> {
+/// A chain of these points, in um.
+fn chain_of(alloc: Global, um: &[(u16, u16)]) -> Result<List<Point>, AllocError> {
     let mut chain = List::new(alloc);
     for (x, y) in um {
         chain.push(Point {
@@ -70,7 +70,16 @@ fn wire(alloc: Global, um: &[(u16, u16)]) -> Result<List<Metal>, AllocError> {
             y: *y as i64 * 1_000,
         })?;
     }
+    Ok(chain)
+}
+
+/// A list of metals with the one wire of 200 um on the first layer; without points it is empty.
+fn wire(alloc: Global, um: &[(u16, u16)]) -> Result<List<Metal>, AllocError> {
     let mut add = List::new(alloc);
+    if um.is_empty() {
+        return Ok(add);
+    }
+    let chain = chain_of(alloc, um)?;
     add.push(Metal::Wire {
         layer: 0,
         width: 200_000,
@@ -79,7 +88,20 @@ fn wire(alloc: Global, um: &[(u16, u16)]) -> Result<List<Metal>, AllocError> {
     Ok(add)
 }
 
-/// An offer of one wire between two items of a net, laid over items that it rips.
+/// A list of the one wire that is shoved, and of its new chain in um.
+fn shoved(
+    alloc: Global,
+    shove: Option<(u64, &'static [(u16, u16)])>,
+) -> Result<List<Shoved>, AllocError> {
+    let mut shoves = List::new(alloc);
+    if let Some((id, um)) = shove {
+        let chain = chain_of(alloc, um)?;
+        shoves.push(Shoved { id, chain })?;
+    }
+    Ok(shoves)
+}
+
+/// An offer of one wire between two items of a net, laid over items that it rips, or over one that it shoves.
 #[derive(Clone, Copy)]
 pub(crate) struct Join {
     pub base: u64,
@@ -89,6 +111,7 @@ pub(crate) struct Join {
     pub to: u64,
     pub wire: &'static [(u16, u16)],
     pub rip: &'static [u64],
+    pub shove: Option<(u64, &'static [(u16, u16)])>,
 }
 
 /// That of worker 0 for the first net, from its first pin straight to its second.
@@ -101,6 +124,7 @@ pub(crate) fn along(base: u64) -> Join {
         to: 2,
         wire: &[(1_000, 5_000), (9_000, 5_000)],
         rip: &[],
+        shove: None,
     }
 }
 
@@ -114,12 +138,14 @@ pub(crate) fn across(base: u64, rip: &'static [u64]) -> Join {
         to: 4,
         wire: &[(5_000, 2_000), (5_000, 8_000)],
         rip,
+        shove: None,
     }
 }
 
 /// The offer, as a board takes it.
 pub(crate) fn offer_of(alloc: Global, join: &Join) -> Result<Offer, AllocError> {
     let rip = List::from_slice(alloc, join.rip)?;
+    let shoves = shoved(alloc, join.shove)?;
     Ok(Offer {
         base: join.base,
         worker: join.worker,
@@ -128,7 +154,7 @@ pub(crate) fn offer_of(alloc: Global, join: &Join) -> Result<Offer, AllocError> 
         to: join.to,
         penalty: None,
         rip,
-        shoves: List::new(alloc),
+        shoves,
         add: wire(alloc, join.wire)?,
     })
 }

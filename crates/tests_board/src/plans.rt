@@ -18,12 +18,12 @@ use pcb_board::{Board, Offer, Shoved, Snap, boards_serve};
 use pcb_islands::{Island, islands};
 use pcb_model::{Copper, Design, Metal};
 use ripup::{RipMoves, rip_graph_sound};
-use route_lattice::{Found, Lattice, LegalMoves, Moves};
-use route_plan::{Planned, plan, plan_with};
+use route_lattice::{Found, Lattice, Moves};
+use route_plan::{Planned, plan};
 use shove::shove_run;
 use std::alloc::Global;
 use std::process::Abort;
-use wave_search::{Search, least_walk};
+use wave_search::least_walk;
 
 // ---- what is planned
 
@@ -101,46 +101,6 @@ fn plans(
         return false;
     }
     match plan(alloc, lat, d, snap, 2_000_000, 0, net, small(penalty)) {
-        Ok(planned) => is_planned(&planned, want),
-        Err(_) => false,
-    }
-}
-
-/// Whether the same is planned by the net's legal moves, which are given.
-fn plans_with(
-    alloc: Global,
-    lat: &Lattice,
-    snap: &Snap,
-    net: u32,
-    penalty: Option<u64>,
-    want: &Want,
-) -> bool
-    requires sound { IsSound snap.now.design }
-    requires plain { IsPlainCopper snap.now.design }
-    requires fits { FitsDesign snap.now.design lat.now }
-    requires serves { Serves snap.now.items snap.now.design }
-{
-    let d = snap.design();
-    if net as usize >= d.nets.len() {
-        return false;
-    }
-    let legal = LegalMoves::of(lat, d, snap, net, 2_000_000);
-    let Ok(mut search) = Search::new(alloc, lat.count()) else {
-        return false;
-    };
-    let penalty = small(penalty);
-    match plan_with(
-        alloc,
-        &mut search,
-        lat,
-        d,
-        snap,
-        &legal,
-        2_000_000,
-        0,
-        net,
-        penalty,
-    ) {
         Ok(planned) => is_planned(&planned, want),
         Err(_) => false,
     }
@@ -310,10 +270,7 @@ fn is_so(alloc: Global, lat: &Lattice, snap: &Snap, tells: &Tells) -> bool
     requires serves { Serves snap.now.items snap.now.design }
 {
     match tells {
-        Tells::Plans(net, penalty, want) => {
-            plans(alloc, lat, snap, *net, *penalty, want)
-                && plans_with(alloc, lat, snap, *net, *penalty, want)
-        }
+        Tells::Plans(net, penalty, want) => plans(alloc, lat, snap, *net, *penalty, want),
         Tells::Cuts(net, at, nodes, blocks) => {
             cuts(alloc, lat, snap, *net, *at, *nodes, *blocks)
         }

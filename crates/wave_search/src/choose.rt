@@ -3,7 +3,6 @@
 //! Nodes are looked at in falling order of rank, so that all ways on from a node are known when it is its turn.
 
 ghost use Rattle.std.specs.Prelude.{◌≡◌, ℕ, ◌^◌, ◌<◌, length, Some};
-ghost use Rattle.route_lattice.specs.Walks.{IsSound};
 ghost use Rattle.wave_search.specs.declared.rows.Label.{Label as TheLabel};
 ghost use Rattle.wave_search.specs.inner.State.{label_at};
 
@@ -60,8 +59,6 @@ impl<'a, M: Moves, B: Bound, T: Ties> Query<'a, M, B, T> {
 
     /// The first move from one node to another; move `guess` is tried before all.
     fn first_to(&self, from: u32, to: u32, guess: u32) -> Option<Move>
-        requires ready { M.ready self.now.m.now }
-        requires sound { IsSound (M.graph self.now.m.now) }
         requires node { from < (M.graph self.now.m.now).count }
     {
         if guess < self.m.arity()
@@ -89,8 +86,6 @@ impl<'a, M: Moves, B: Bound, T: Ties> Query<'a, M, B, T> {
         guess: u32,
         openness: Openness,
     ) -> Result<(), AllocError>
-        requires ready { M.ready self.now.m.now }
-        requires sound { IsSound (M.graph self.now.m.now) }
         requires node { from.node < (M.graph self.now.m.now).count }
         requires small { from.label.price < 2 ^ 60 }
     {
@@ -120,8 +115,6 @@ impl<'a, M: Moves, B: Bound, T: Ties> Query<'a, M, B, T> {
         i: u32,
         openness: Openness,
     ) -> Result<(), AllocError>
-        requires ready { M.ready self.now.m.now }
-        requires sound { IsSound (M.graph self.now.m.now) }
         requires size { length table.now ≡ (M.graph self.now.m.now).count }
         requires small { (v : ℕ) (l : TheLabel) → label_at table.now v ≡ Some l → l.price < 2 ^ 60 }
         requires node { to.node < (M.graph self.now.m.now).count }
@@ -175,8 +168,6 @@ impl<'a, M: Moves, B: Bound, T: Ties> Query<'a, M, B, T> {
         node: u32,
         openness: Openness,
     ) -> Result<(), AllocError>
-        requires ready { M.ready self.now.m.now }
-        requires sound { IsSound (M.graph self.now.m.now) }
         requires size { length table.now ≡ (M.graph self.now.m.now).count }
         requires small { (v : ℕ) (l : TheLabel) → label_at table.now v ≡ Some l → l.price < 2 ^ 60 }
     {
@@ -215,8 +206,6 @@ impl<'a, M: Moves, B: Bound, T: Ties> Query<'a, M, B, T> {
         price: u64,
         openness: Openness,
     ) -> Result<(), AllocError>
-        requires ready { M.ready self.now.m.now }
-        requires sound { IsSound (M.graph self.now.m.now) }
         requires size { length table.now ≡ (M.graph self.now.m.now).count }
         requires small { (v : ℕ) (l : TheLabel) → label_at table.now v ≡ Some l → l.price < 2 ^ 60 }
     {

@@ -12,6 +12,7 @@ mod labels;
 mod marks;
 mod one;
 mod query;
+mod ready;
 mod rows;
 mod search;
 mod stated;

@@ -4,6 +4,7 @@
 ghost use Rattle.std.specs.Prelude.{◌≡◌, ℕ, ◌+◌, ◌*◌, ◌^◌, ◌<◌, ◌≤◌, ◌↔◌, length, [], OnOk, IfOk, IfSome, Contains};
 ghost use Rattle.std.specs.Prelude.{Some, None, All, MatchOption};
 ghost use Rattle.std.specs.Bool.{OnTrue, OnFalse};
+ghost use Rattle.std.proofs.Props.{props};
 ghost use Rattle.route_lattice.specs.Walks.{IsSound, IsWalk, Answers};
 ghost use Rattle.wave_search.specs.Bounds.{IsBound};
 ghost use Rattle.wave_search.specs.declared.rows.Label.{Label as TheLabel};
@@ -19,7 +20,8 @@ use crate::choices::Choices;
 use crate::choose::Openness;
 use crate::front::{Entry, Front};
 use crate::labels::Labels;
-use crate::marks::Marks;
+use crate::marks::Goals;
+use crate::ready::ReadyMoves;
 use crate::rows::Label;
 use crate::ties::Ties;
 use geo_kernel::List;
@@ -100,12 +102,14 @@ pub(crate) struct Done {
 /// What is searched for.
 #[derive(Drop)]
 pub(crate) struct Query<'a, M: Moves, B: Bound, T: Ties> {
-    pub m: &'a M,
+    pub m: &'a ReadyMoves<'a, M>,
     pub b: &'a B,
     pub ties: &'a T,
     pub starts: &'a List<u32>,
-    pub goals: &'a List<u32>,
-    pub marks: &'a Marks,
+    pub goals: &'a Goals<'a>,
+    ghost sound: { IsSound (M.graph m.now) } by { Prim.hlevel props },
+    ghost starts_there: { All (λ s. s < (M.graph m.now).count) starts.now } by { Prim.hlevel props },
+    ghost bound: { IsBound (M.graph m.now) goals.now (B.low_of b.now) } by { Prim.hlevel props },
 }
 
 impl<'a, M: Moves, B: Bound, T: Ties> Query<'a, M, B, T> {
@@ -144,9 +148,6 @@ impl<'a, M: Moves, B: Bound, T: Ties> Query<'a, M, B, T> {
         label: Label,
         i: u32,
     ) -> Result<(), AllocError>
-        requires ready { M.ready self.now.m.now }
-        requires sound { IsSound (M.graph self.now.m.now) }
-        requires bound { IsBound (M.graph self.now.m.now) self.now.goals.now (B.low_of self.now.b.now) }
         requires node { node < (M.graph self.now.m.now).count }
         requires index { i < (M.graph self.now.m.now).arity }
         requires there { label_at table.old node ≡ Some label }
@@ -198,9 +199,6 @@ impl<'a, M: Moves, B: Bound, T: Ties> Query<'a, M, B, T> {
         node: u32,
         label: Label,
     ) -> Result<(), AllocError>
-        requires ready { M.ready self.now.m.now }
-        requires sound { IsSound (M.graph self.now.m.now) }
-        requires bound { IsBound (M.graph self.now.m.now) self.now.goals.now (B.low_of self.now.b.now) }
         requires node { node < (M.graph self.now.m.now).count }
         requires there { label_at table.old node ≡ Some label }
         requires is_done { 0 < label.rank }
@@ -223,8 +221,6 @@ impl<'a, M: Moves, B: Bound, T: Ties> Query<'a, M, B, T> {
 
     /// Labels the starts.
     fn seed(&self, table: &mut Labels, front: &mut Front) -> Result<(), AllocError>
-        requires bound { IsBound (M.graph self.now.m.now) self.now.goals.now (B.low_of self.now.b.now) }
-        requires starts { All (λ s. s < (M.graph self.now.m.now).count) self.now.starts.now }
         requires size { length table.old ≡ (M.graph self.now.m.now).count }
         requires blank { (v : ℕ) → label_at table.old v ≡ None }
         requires none_done { done_count table.old ≡ 0 }
@@ -259,9 +255,6 @@ impl<'a, M: Moves, B: Bound, T: Ties> Query<'a, M, B, T> {
         node: u32,
         last: Label,
     ) -> Result<(), AllocError>
-        requires ready { M.ready self.now.m.now }
-        requires sound { IsSound (M.graph self.now.m.now) }
-        requires bound { IsBound (M.graph self.now.m.now) self.now.goals.now (B.low_of self.now.b.now) }
         requires no_goals { self.now.goals.now ≡ [] }
         requires there { label_at table.old node ≡ Some last }
         requires is_done { 0 < last.rank }
@@ -303,34 +296,30 @@ impl<'a, M: Moves, B: Bound, T: Ties> Query<'a, M, B, T> {
         table: &mut Labels,
         front: &mut Front,
         order: &mut Vec<u32>,
-        node: u32,
-        label: Label,
+        goal: Done,
     ) -> Result<(), AllocError>
-        requires ready { M.ready self.now.m.now }
-        requires sound { IsSound (M.graph self.now.m.now) }
-        requires bound { IsBound (M.graph self.now.m.now) self.now.goals.now (B.low_of self.now.b.now) }
-        requires there { label_at table.old node ≡ Some label }
-        requires is_done { 0 < label.rank }
+        requires there { label_at table.old goal.node ≡ Some goal.label }
+        requires is_done { 0 < goal.label.rank }
         requires state { IsState (M.graph self.now.m.now) self.now.starts.now []
             (B.low_of self.now.b.now) table.old front.old
-            (label.price + B.low_of self.now.b.now node) label.rank node 0 }
+            (goal.label.price + B.low_of self.now.b.now goal.node) goal.label.rank goal.node 0 }
         ensures kept { OnOk result (KeepsDone table.old table.new) }
         ensures exact { OnOk result (IsExact (M.graph self.now.m.now) self.now.starts.now (B.low_of self.now.b.now)
-            table.new label.price) }
+            table.new goal.label.price) }
         ensures roots { OnOk result (Roots (M.graph self.now.m.now) self.now.starts.now table.new) }
         ensures small { OnOk result ((v : ℕ) (l : TheLabel) → label_at table.new v ≡ Some l → l.price < 2 ^ 60) }
         ensures size { length table.new ≡ length table.old }
     {
-        let none = List::new(alloc);
+        let empty = List::new(alloc);
+        let none = Goals::of(alloc, &empty)?;
         let rest = Query {
             m: self.m,
             b: self.b,
             ties: self.ties,
             starts: self.starts,
             goals: &none,
-            marks: self.marks,
         };
-        rest.settle(table, front, order, node, label)
+        rest.settle(table, front, order, goal.node, goal.label)
     }
 
     /// A walk to a goal at the price that costs little by the rule of ties, if the pass of the rule leads to one.
@@ -342,11 +331,8 @@ impl<'a, M: Moves, B: Bound, T: Ties> Query<'a, M, B, T> {
         price: u64,
         openness: Openness,
     ) -> Result<Option<Walk>, AllocError>
-        requires ready { M.ready self.now.m.now }
-        requires sound { IsSound (M.graph self.now.m.now) }
         requires roots { Roots (M.graph self.now.m.now) self.now.starts.now table.now }
         requires small { (v : ℕ) (l : TheLabel) → label_at table.now v ≡ Some l → l.price < 2 ^ 60 }
-        requires marked { (v : ℕ) → Contains self.now.marks.now v → Contains self.now.goals.now v }
         ensures { IfOk result
             (λ o. IfSome o (λ w. IsWalk (M.graph self.now.m.now) self.now.starts.now self.now.goals.now w
             × (w.price ≡ price))) }
@@ -370,10 +356,6 @@ impl<'a, M: Moves, B: Bound, T: Ties> Query<'a, M, B, T> {
         order: &mut Vec<u32>,
         goal: Done,
     ) -> Result<Walk, AllocError>
-        requires ready { M.ready self.now.m.now }
-        requires sound { IsSound (M.graph self.now.m.now) }
-        requires bound { IsBound (M.graph self.now.m.now) self.now.goals.now (B.low_of self.now.b.now) }
-        requires marked { (v : ℕ) → (Contains self.now.marks.now v ↔ Contains self.now.goals.now v) }
         requires first { IsFirstGoal (M.graph self.now.m.now) self.now.starts.now self.now.goals.now
             (B.low_of self.now.b.now) table.old front.old goal.node goal.label }
         ensures walk { IfOk result (IsWalk (M.graph self.now.m.now) self.now.starts.now self.now.goals.now) }
@@ -383,7 +365,7 @@ impl<'a, M: Moves, B: Bound, T: Ties> Query<'a, M, B, T> {
         if !self.ties.tells() {
             return self.trace(alloc, table, goal.node, goal.label);
         }
-        self.settle_rest(alloc, table, front, order, goal.node, goal.label)?;
+        self.settle_rest(alloc, table, front, order, goal)?;
         let done = order.as_slice();
         if let Some(walk) = self.chosen_walk(
             alloc,
@@ -409,13 +391,13 @@ impl<'a, M: Moves, B: Bound, T: Ties> Query<'a, M, B, T> {
     /// Whether the node of an entry, which waited at a price, is a goal. Where the key isn't the price its bound isn't
     /// 0, so it is none.
     fn is_goal(&self, entry: Entry, price: u64) -> bool
-        ensures yes { OnTrue result (Contains self.now.marks.now entry.node) }
-        ensures no { OnFalse result (entry.key ≡ price → Contains self.now.marks.now entry.node → ⊥) }
+        ensures yes { OnTrue result (Contains self.now.goals.now entry.node) }
+        ensures no { OnFalse result (entry.key ≡ price → Contains self.now.goals.now entry.node → ⊥) }
     {
         if entry.key != price {
             return false;
         }
-        self.marks.has(entry.node)
+        self.goals.has(entry.node)
     }
 
     /// Makes nodes done until a goal is, which is given with its label; None where no walk leads to a goal. The nodes
@@ -426,11 +408,6 @@ impl<'a, M: Moves, B: Bound, T: Ties> Query<'a, M, B, T> {
         front: &mut Front,
         order: &mut Vec<u32>,
     ) -> Result<Option<Done>, AllocError>
-        requires ready { M.ready self.now.m.now }
-        requires sound { IsSound (M.graph self.now.m.now) }
-        requires bound { IsBound (M.graph self.now.m.now) self.now.goals.now (B.low_of self.now.b.now) }
-        requires starts { All (λ s. s < (M.graph self.now.m.now).count) self.now.starts.now }
-        requires marked { (v : ℕ) → (Contains self.now.marks.now v ↔ Contains self.now.goals.now v) }
         requires size { length table.old ≡ (M.graph self.now.m.now).count }
         requires blank { (v : ℕ) → label_at table.old v ≡ None }
         requires none_done { done_count table.old ≡ 0 }
@@ -467,11 +444,6 @@ impl<'a, M: Moves, B: Bound, T: Ties> Query<'a, M, B, T> {
 
     /// A least walk, or all that is reached.
     pub(crate) fn run(&self, alloc: Global, table: &mut Labels) -> Result<Found, AllocError>
-        requires ready { M.ready self.now.m.now }
-        requires sound { IsSound (M.graph self.now.m.now) }
-        requires bound { IsBound (M.graph self.now.m.now) self.now.goals.now (B.low_of self.now.b.now) }
-        requires starts { All (λ s. s < (M.graph self.now.m.now).count) self.now.starts.now }
-        requires marked { (v : ℕ) → (Contains self.now.marks.now v ↔ Contains self.now.goals.now v) }
         requires size { length table.old ≡ (M.graph self.now.m.now).count }
         requires blank { (v : ℕ) → label_at table.old v ≡ None }
         requires none_done { done_count table.old ≡ 0 }
@@ -490,11 +462,6 @@ impl<'a, M: Moves, B: Bound, T: Ties> Query<'a, M, B, T> {
 
     /// The stated walk, or all that is reached.
     pub(crate) fn run_stated(&self, alloc: Global, table: &mut Labels) -> Result<Found, AllocError>
-        requires ready { M.ready self.now.m.now }
-        requires sound { IsSound (M.graph self.now.m.now) }
-        requires bound { IsBound (M.graph self.now.m.now) self.now.goals.now (B.low_of self.now.b.now) }
-        requires starts { All (λ s. s < (M.graph self.now.m.now).count) self.now.starts.now }
-        requires marked { (v : ℕ) → (Contains self.now.marks.now v ↔ Contains self.now.goals.now v) }
         requires size { length table.old ≡ (M.graph self.now.m.now).count }
         requires blank { (v : ℕ) → label_at table.old v ≡ None }
         requires none_done { done_count table.old ≡ 0 }

@@ -8,8 +8,9 @@ ghost use Rattle.wave_search.specs.Stated.{AnswersStated};
 
 use crate::bound::{Bound, NoBound};
 use crate::labels::Labels;
-use crate::marks::Marks;
+use crate::marks::Goals;
 use crate::query::Query;
+use crate::ready::ReadyMoves;
 use crate::ties::{NoTies, Ties};
 use geo_kernel::List;
 use route_lattice::{Found, Moves};
@@ -67,14 +68,14 @@ impl Search {
         ensures size { self.new ≡ self.old }
     {
         self.labels.clear();
-        let marks = Marks::of(alloc, goals.as_slice())?;
+        let sought = Goals::of(alloc, goals)?;
+        let ready = ReadyMoves { moves: m };
         let query = Query {
-            m,
+            m: &ready,
             b,
             ties,
             starts,
-            goals,
-            marks: &marks,
+            goals: &sought,
         };
         query.run(alloc, &mut self.labels)
     }
@@ -98,14 +99,14 @@ impl Search {
         ensures size { self.new ≡ self.old }
     {
         self.labels.clear();
-        let marks = Marks::of(alloc, goals.as_slice())?;
+        let sought = Goals::of(alloc, goals)?;
+        let ready = ReadyMoves { moves: m };
         let query = Query {
-            m,
+            m: &ready,
             b,
             ties: &NoTies,
             starts,
-            goals,
-            marks: &marks,
+            goals: &sought,
         };
         query.run_stated(alloc, &mut self.labels)
     }

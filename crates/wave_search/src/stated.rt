@@ -5,8 +5,7 @@
 
 ghost use Rattle.std.specs.Prelude.{◌≡◌, ℕ, ◌^◌, ◌<◌, ◌≤◌, length, [], None, IfOk, OnOk, IfSome, Contains, Some, All};
 ghost use Rattle.std.specs.Prelude.{MatchOption, slice_get, List as Seq, IsTrue, ◌↔◌};
-ghost use Rattle.route_lattice.specs.Walks.{IsSound, Hop, Opens};
-ghost use Rattle.wave_search.specs.Bounds.{IsBound};
+ghost use Rattle.route_lattice.specs.Walks.{Hop, Opens};
 ghost use Rattle.wave_search.specs.declared.rows.Label.{Label as TheLabel};
 ghost use Rattle.wave_search.specs.inner.State.{label_at, IsStep};
 ghost use Rattle.std.specs.List.Sorted.{IsStrictlyIncreasing};
@@ -102,8 +101,6 @@ impl<'a, M: Moves, B: Bound, T: Ties> Query<'a, M, B, T> {
         here: Label,
         i: u32,
     ) -> Option<u32>
-        requires ready { M.ready self.now.m.now }
-        requires sound { IsSound (M.graph self.now.m.now) }
         requires size { length table.now ≡ (M.graph self.now.m.now).count }
         requires marks { length marks.now ≡ (M.graph self.now.m.now).count }
         requires node { node < (M.graph self.now.m.now).count }
@@ -144,8 +141,6 @@ impl<'a, M: Moves, B: Bound, T: Ties> Query<'a, M, B, T> {
         here: Label,
         fresh: &mut Vec<u32>,
     ) -> Result<(), AllocError>
-        requires ready { M.ready self.now.m.now }
-        requires sound { IsSound (M.graph self.now.m.now) }
         requires size { length table.now ≡ (M.graph self.now.m.now).count }
         requires marks { length marks.now ≡ (M.graph self.now.m.now).count }
         requires node { node < (M.graph self.now.m.now).count }
@@ -195,13 +190,12 @@ impl<'a, M: Moves, B: Bound, T: Ties> Query<'a, M, B, T> {
     /// Whether the node is a goal that is done at the price.
     fn ends_at(&self, table: &Labels, node: u32, price: u64) -> bool
         requires size { node < length table.now }
-        requires marked { (v : ℕ) → (Contains self.now.marks.now v ↔ Contains self.now.goals.now v) }
         ensures { IsTrue result ↔ (Contains self.now.goals.now node × IsPriced table.now node price) }
     {
         let Some(label) = done_label(table, node) else {
             return false;
         };
-        label.price == price && self.marks.has(node)
+        label.price == price && self.goals.has(node)
     }
 
     /// The nodes that tight moves lead to from a node, if it is done, and that aren't marked, ascending.
@@ -212,8 +206,6 @@ impl<'a, M: Moves, B: Bound, T: Ties> Query<'a, M, B, T> {
         node: u32,
         fresh: &mut Vec<u32>,
     ) -> Result<(), AllocError>
-        requires ready { M.ready self.now.m.now }
-        requires sound { IsSound (M.graph self.now.m.now) }
         requires size { length table.now ≡ (M.graph self.now.m.now).count }
         requires marks { length marks.now ≡ (M.graph self.now.m.now).count }
         requires node { node < (M.graph self.now.m.now).count }
@@ -235,11 +227,6 @@ impl<'a, M: Moves, B: Bound, T: Ties> Query<'a, M, B, T> {
         pass: &mut Pass,
         price: u64,
     ) -> Result<u32, AllocError>
-        requires ready { M.ready self.now.m.now }
-        requires sound { IsSound (M.graph self.now.m.now) }
-        requires bound { IsBound (M.graph self.now.m.now) self.now.goals.now (B.low_of self.now.b.now) }
-        requires starts { All (λ s. s < (M.graph self.now.m.now).count) self.now.starts.now }
-        requires marked { (v : ℕ) → (Contains self.now.marks.now v ↔ Contains self.now.goals.now v) }
         requires exact { IsExact (M.graph self.now.m.now) self.now.starts.now (B.low_of self.now.b.now) table.now
             price }
         requires small { (v : ℕ) (l : TheLabel) → label_at table.now v ≡ Some l → l.price < 2 ^ 60 }
@@ -277,9 +264,6 @@ impl<'a, M: Moves, B: Bound, T: Ties> Query<'a, M, B, T> {
         nodes: &mut Vec<u32>,
         moves: &mut Vec<Move>,
     ) -> Result<(), AllocError>
-        requires ready { M.ready self.now.m.now }
-        requires sound { IsSound (M.graph self.now.m.now) }
-        requires bound { IsBound (M.graph self.now.m.now) self.now.goals.now (B.low_of self.now.b.now) }
         requires exact { IsExact (M.graph self.now.m.now) self.now.starts.now (B.low_of self.now.b.now) table.now
             price }
         requires small { (v : ℕ) (l : TheLabel) → label_at table.now v ≡ Some l → l.price < 2 ^ 60 }
@@ -325,17 +309,12 @@ impl<'a, M: Moves, B: Bound, T: Ties> Query<'a, M, B, T> {
         order: &mut Vec<u32>,
         goal: Done,
     ) -> Result<Walk, AllocError>
-        requires ready { M.ready self.now.m.now }
-        requires sound { IsSound (M.graph self.now.m.now) }
-        requires bound { IsBound (M.graph self.now.m.now) self.now.goals.now (B.low_of self.now.b.now) }
-        requires starts { All (λ s. s < (M.graph self.now.m.now).count) self.now.starts.now }
-        requires marked { (v : ℕ) → (Contains self.now.marks.now v ↔ Contains self.now.goals.now v) }
         requires first { IsFirstGoal (M.graph self.now.m.now) self.now.starts.now self.now.goals.now
             (B.low_of self.now.b.now) table.old front.old goal.node goal.label }
         ensures stated { IfOk result (IsStated (M.graph self.now.m.now) self.now.starts.now self.now.goals.now) }
         ensures size { length table.new ≡ length table.old }
     {
-        self.settle_rest(alloc, table, front, order, goal.node, goal.label)?;
+        self.settle_rest(alloc, table, front, order, goal)?;
         let mut pass = Pass::new(alloc, self.m.count())?;
         let place = self.pass_to(alloc, table, &mut pass, goal.label.price)?;
         let mut nodes = Vec::new(alloc);

@@ -4,7 +4,7 @@
 ghost use Rattle.std.specs.Prelude.{◌≡◌, ℕ, ◌^◌, ◌<◌, length, [], None, IfOk, OnOk};
 ghost use Rattle.std.specs.Prelude.{IfSome, Contains, Some, MatchOption};
 ghost use Rattle.std.specs.Bool.{OnTrue};
-ghost use Rattle.route_lattice.specs.Walks.{IsSound, IsWalk};
+ghost use Rattle.route_lattice.specs.Walks.{IsWalk};
 ghost use Rattle.wave_search.specs.declared.rows.Label.{Label as TheLabel};
 ghost use Rattle.wave_search.specs.inner.State.{label_at, IsTight, IsTightOf, IsLeastTight, Roots};
 
@@ -21,8 +21,6 @@ use std::alloc::{AllocError, Global};
 impl<'a, M: Moves, B: Bound, T: Ties> Query<'a, M, B, T> {
     /// Move `i` of a node, if it is open and leads to the other node at exactly the other's price.
     fn tight_at(&self, from: u32, before: u64, to: u32, price: u64, i: u32) -> Option<Move>
-        requires ready { M.ready self.now.m.now }
-        requires sound { IsSound (M.graph self.now.m.now) }
         requires node { from < (M.graph self.now.m.now).count }
         requires index { i < (M.graph self.now.m.now).arity }
         requires small { before < 2 ^ 60 }
@@ -47,8 +45,6 @@ impl<'a, M: Moves, B: Bound, T: Ties> Query<'a, M, B, T> {
     /// Of the open moves that lead from a node to another at exactly the other's price the one of the least index; None
     /// where there is none.
     pub(crate) fn tight_to(&self, from: u32, before: u64, to: u32, price: u64) -> Option<Move>
-        requires ready { M.ready self.now.m.now }
-        requires sound { IsSound (M.graph self.now.m.now) }
         requires node { from < (M.graph self.now.m.now).count }
         requires small { before < 2 ^ 60 }
         ensures { MatchOption result (IsTight (M.graph self.now.m.now) from before to price → ⊥)
@@ -71,8 +67,6 @@ impl<'a, M: Moves, B: Bound, T: Ties> Query<'a, M, B, T> {
         nodes: &mut Vec<u32>,
         moves: &mut Vec<Move>,
     ) -> Result<(), AllocError>
-        requires ready { M.ready self.now.m.now }
-        requires sound { IsSound (M.graph self.now.m.now) }
         requires roots { Roots (M.graph self.now.m.now) self.now.starts.now table.now }
         requires small { (v : ℕ) (l : TheLabel) → label_at table.now v ≡ Some l → l.price < 2 ^ 60 }
         requires there { label_at table.now node ≡ Some label }
@@ -111,8 +105,6 @@ impl<'a, M: Moves, B: Bound, T: Ties> Query<'a, M, B, T> {
         node: u32,
         label: Label,
     ) -> Result<Walk, AllocError>
-        requires ready { M.ready self.now.m.now }
-        requires sound { IsSound (M.graph self.now.m.now) }
         requires roots { Roots (M.graph self.now.m.now) self.now.starts.now table.now }
         requires small { (v : ℕ) (l : TheLabel) → label_at table.now v ≡ Some l → l.price < 2 ^ 60 }
         requires there { label_at table.now node ≡ Some label }
@@ -158,11 +150,8 @@ impl<'a, M: Moves, B: Bound, T: Ties> Query<'a, M, B, T> {
         nodes: &mut Vec<u32>,
         moves: &mut Vec<Move>,
     ) -> Result<bool, AllocError>
-        requires ready { M.ready self.now.m.now }
-        requires sound { IsSound (M.graph self.now.m.now) }
         requires roots { Roots (M.graph self.now.m.now) self.now.starts.now table.now }
         requires small { (v : ℕ) (l : TheLabel) → label_at table.now v ≡ Some l → l.price < 2 ^ 60 }
-        requires marked { (v : ℕ) → Contains self.now.marks.now v → Contains self.now.goals.now v }
         requires no_nodes { nodes.old.items ≡ [] }
         requires no_moves { moves.old.items ≡ [] }
         ensures { IfOk result (λ led. OnTrue led (IsWalk (M.graph self.now.m.now) self.now.starts.now
@@ -190,7 +179,7 @@ impl<'a, M: Moves, B: Bound, T: Ties> Query<'a, M, B, T> {
             heading = way.then;
             nodes.push(at)?;
         }
-        if here.price != price || !self.marks.has(at) {
+        if here.price != price || !self.goals.has(at) {
             return Ok(false);
         }
         Ok(true)
@@ -205,11 +194,8 @@ impl<'a, M: Moves, B: Bound, T: Ties> Query<'a, M, B, T> {
         start: Start,
         price: u64,
     ) -> Result<Option<Walk>, AllocError>
-        requires ready { M.ready self.now.m.now }
-        requires sound { IsSound (M.graph self.now.m.now) }
         requires roots { Roots (M.graph self.now.m.now) self.now.starts.now table.now }
         requires small { (v : ℕ) (l : TheLabel) → label_at table.now v ≡ Some l → l.price < 2 ^ 60 }
-        requires marked { (v : ℕ) → Contains self.now.marks.now v → Contains self.now.goals.now v }
         ensures { IfOk result
             (λ o. IfSome o (λ w. IsWalk (M.graph self.now.m.now) self.now.starts.now self.now.goals.now w
             × (w.price ≡ price))) }

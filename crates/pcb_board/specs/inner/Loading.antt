@@ -1,5 +1,5 @@
 -- What loading a design's items keeps: what private functions give.
-use Rattle.std.specs.Prelude.{◌≡◌, ℕ, ◌⊎◌, List, [], ◌∷◌, ◌++◌, take}
+use Rattle.std.specs.Prelude.{◌≡◌, ℕ, ◌⊎◌, List, [], ◌∷◌, ◌++◌}
 use Rattle.pcb_model.specs.declared.item.Item.{Item}
 use Rattle.pcb_model.specs.declared.design.FreeWire.{FreeWire}
 use Rattle.pcb_model.specs.declared.design.Design.{Design}
@@ -18,13 +18,6 @@ pub record IsLoaded (d : Design) (items : List Item) : Type 0 where
 pub record IsKept (d : Design) (l : Loaded) : Type 0 where
   pub held : l.tiles.items ≡ l.given.items
   pub loaded : IsLoaded d l.given.items
-  pub spread : AreTilesOf d l.tiles.area l.tiles.reach
-
--- the first n fixed items are loaded, and nothing else
-pub record AreFixed (d : Design) (n : ℕ) (l : Loaded) : Type 0 where
-  pub tiles : l.tiles.items ≡ take n d.fixed
-  pub given : l.given.items ≡ take n d.fixed
-  pub dropped : l.dropped ≡ []
   pub spread : AreTilesOf d l.tiles.area l.tiles.reach
 
 -- one free item is kept where the list with it is legal, and else its place is listed

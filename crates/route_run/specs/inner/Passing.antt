@@ -1,14 +1,12 @@
 -- What the private functions of a run keep and answer.
-use Rattle.std.specs.Prelude.{◌≡◌, ◌⊎◌, ℕ, ◌+◌, ◌-◌, ◌<◌, ◌≤◌, Bool, IfSome, IsTrue, not, vec_len}
-use Rattle.std.specs.Prelude.{List, [], ◌∷◌, ◌++◌, flat_map, length, sum_by, slice_get, slice_index_or}
-use Rattle.std.specs.Prelude.{All, Contains, Option, Some}
+use Rattle.std.specs.Prelude.{◌≡◌, ◌⊎◌, ℕ, ◌+◌, ◌-◌, ◌<◌, ◌≤◌, Bool, IsTrue, not, vec_len}
+use Rattle.std.specs.Prelude.{List, [], flat_map, length, sum_by, slice_get, slice_index_or}
+use Rattle.std.specs.Prelude.{All, Contains, Some}
 use Rattle.pcb_model.specs.declared.item.Item.{Item}
 use Rattle.pcb_model.specs.declared.design.Design.{Design}
 use Rattle.pcb_islands.specs.declared.net.Island.{Island}
 use Rattle.pcb_islands.specs.Islands.{AreIslands}
 use Rattle.route_lattice.specs.Mesh.{Mesh, node_count}
-use Rattle.route_plan.specs.declared.sight.Sight.{Sight}
-use Rattle.route_plan.specs.Sights.{IsSeenOn}
 use Rattle.board_offers.specs.declared.offer.Offer.{Offer}
 use Rattle.pcb_board.specs.declared.answer.Entry.TheVariants.{Join}
 use Rattle.pcb_board.specs.Boards.{BoardOf, board_at}
@@ -18,13 +16,15 @@ use Rattle.least_offer.specs.Least.{IsLeastOffer}
 use Rattle.cut_certificate.specs.declared.cut.Cut.{Cut}
 use Rattle.closing_pass.specs.declared.closed.Closed.{Closed}
 use Rattle.closing_pass.specs.Closing.{IsClosedOut}
+use Rattle.searcher_pool.specs.declared.input.PassInput.{PassInput}
+use Rattle.searcher_pool.specs.Inputs.{CanPass}
 use Rattle.searcher_pool.specs.Passes.{PassOf, Grows, IsSpent}
 use Rattle.route_run.specs.declared.facts.PassLine.{PassLine}
 use Rattle.route_run.specs.declared.connections.OpenNets.{OpenNets}
-use Rattle.route_run.specs.declared.passes.Made.{Made}
 use Rattle.route_run.specs.declared.run.Kept.{Kept}
 use Rattle.route_run.specs.declared.run.Routed.{Routed}
-use Rattle.route_run.specs.declared.passes.Stand.{Stand}
+use Rattle.route_run.specs.declared.input.RunInput.{RunInput}
+use Rattle.route_run.specs.Inputs.{CanRun}
 use Rattle.route_run.specs.Runs.{RunOf, IsOpenCount, HasSeveral, IsWorkedOff, ArePasses, AreLeast, HaveEnded, IsBest}
 use Rattle.route_run.specs.Runs.{complete_from, entries_after, HadRoom, pass_at}
 
@@ -50,6 +50,21 @@ pub record AreOpenOn (b : BoardOf) (open_nets : OpenNets) : Type 0 where
   pub are : AreOpenNets b.design b.items (length b.design.nets) open_nets.nets.items open_nets.count
 
 -- ---- passes
+-- the pass without its tasks
+abbrev pub untasked : PassOf → PassOf
+untasked p = record p { tasks = [] }
+
+-- a pass may be made on the board, and its tasks are the nets that have several islands there
+pub record CanWorkOff (j : PassInput) (b : BoardOf) : Type 0 where
+  pub input : CanPass j b
+  pub count : ℕ
+  pub open_nets : AreOpenNets b.design b.items (length b.design.nets) j.tasks.now count
+
+-- a run may be made on the board, which has no entry yet
+pub record IsNew (j : RunInput) (b : BoardOf) : Type 0 where
+  pub input : CanRun j b.design
+  pub none : b.history ≡ []
+
 -- The nets with several islands were worked off, by joins of the pass's workers, each of them a least offer. Where the
 -- board was full for an offer, it takes no more, and else no offer met a full board.
 pub record AreWorkedOff (p : PassOf) (old new : BoardOf) (full : Bool) : Type 0 where
@@ -64,47 +79,14 @@ pub record AreWorkedOff (p : PassOf) (old new : BoardOf) (full : Bool) : Type 0 
   pub room : IsTrue (not full) → HadRoom p new (length old.history) (length new.history)
 
 -- a pass was made: its nets were worked off, and its line counts its joins and what is open now
-pub record IsMade (p : PassOf) (old : BoardOf) (made : Made) : Type 0 where
-  pub nets : AreWorkedOff p old made.board made.full
-  pub commits : length old.history + made.line.commits ≡ length made.board.history
-  pub leaves : IsOpenCount made.board.design made.board.items made.line.parted
-
--- the pass's line counts the entries behind those that stood before, and what is open
-pub record IsMadeAfter (board : BoardOf) (full : Bool) (before : ℕ) (made : Made) : Type 0 where
-  pub board_is : made.board ≡ board
-  pub full_is : made.full ≡ full
-  pub commits_are : before + made.line.commits ≡ length board.history
-  pub open_nets : AreOpenOn made.board made.open_nets
-  pub parted_is : made.line.parted ≡ made.open_nets.count
+pub record IsMade (p : PassOf) (old new : BoardOf) (line : PassLine) (full : Bool) : Type 0 where
+  pub nets : AreWorkedOff p old new full
+  pub commits : length old.history + line.commits ≡ length new.history
+  pub leaves : IsOpenCount new.design new.items line.parted
 
 -- why no pass follows the one of this number
 abbrev pub EndsBy : ℕ → PassLine → Bool → Type 0
 EndsBy number line full = (line.parted ≡ 0) ⊎ (((1 < number) × (line.commits ≡ 0)) ⊎ IsTrue full)
-
--- what is open on the board is known, and what was seen before was of it
-pub record IsReady (m : Mesh) (stand : Stand) : Type 0 where
-  pub open_nets : AreOpenOn stand.board stand.open_nets
-  pub last : IfSome stand.last (IsSeenOn m stand.board)
-
--- the line of the pass of this number is the last one, and it is told whether a further one may follow
-pub record StandsAfter (number : ℕ) (made : Made) (last : Option Sight) (lines : List PassLine) (new : Stand)
-    (more_lines : List PassLine) (more : Bool) : Type 0 where
-  pub board_is : new.board ≡ made.board
-  pub open_nets_are : new.open_nets ≡ made.open_nets
-  pub last_is : new.last ≡ last
-  pub lines_are : more_lines ≡ lines ++ made.line ∷ []
-  pub goes_on : IsTrue more → (0 < made.line.parted) × (1 < number → 0 < made.line.commits) × IsTrue (not made.full)
-  pub ended : IsTrue (not more) → EndsBy number made.line made.full
-
--- so it stands after the pass of this number was made
-pub record IsOneMore (p : PassOf) (number : ℕ) (old : BoardOf) (lines : List PassLine) (new : Stand)
-    (more_lines : List PassLine) (more : Bool) : Type 0 where
-  pub made : Made
-  pub is : IsMade p old made
-  pub open_nets : AreOpenOn made.board made.open_nets
-  pub last : Option Sight
-  pub seen : IfSome last (IsSeenOn p.lattice made.board)
-  pub stands : StandsAfter number made last lines new more_lines more
 
 -- passes were made, by least offers, and nothing else stands in the history
 pub record HasPassed (m : Mesh) (r : RunOf) (b : BoardOf) (lines : List PassLine) : Type 0 where
@@ -151,8 +133,8 @@ pub record IsKept (m : Mesh) (r : RunOf) (first : BoardOf) (kept : Kept) : Type 
   pub gone : GoesBack kept.lines kept.kept passed kept.board
 
 -- what is told of a run that the closing pass ended
-abbrev pub told_of : Mesh → List ℕ → List PassLine → ℕ → Closed → Routed
-told_of m dropped lines kept closed = record {
+abbrev pub routed_of : Mesh → List ℕ → List PassLine → ℕ → Closed → Routed
+routed_of m dropped lines kept closed = record {
   board = closed.board;
   facts = record {
     grid = m.grid;
@@ -171,4 +153,4 @@ pub record IsFinished (m : Mesh) (via_cost : ℕ) (kept : Kept) (dropped : List 
   pub closed : Closed
   pub out : IsClosedOut m via_cost kept.board closed
   pub board : IsBoard closed.board
-  pub told : routed ≡ told_of m dropped kept.lines kept.kept closed
+  pub told : routed ≡ routed_of m dropped kept.lines kept.kept closed

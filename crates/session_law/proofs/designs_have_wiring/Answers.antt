@@ -1,4 +1,4 @@
-use Rattle.session_law.proofs.RunDesigns.{wiring_of_read}
+use Rattle.session_law.proofs.BoardDesigns.{wiring_of_read}
 use Rattle.session_law.proofs.designs_have_wiring.Goals as goal
 
 pub returns : goal.returns

@@ -51,9 +51,6 @@ bounds-layers-level c =
     e c.as_slice.ensures c.index-as_slice-net.is
     c.as_slice-2.ensures c.requires.can_move.net_there c.requires.index c.requires.via)
 
-pub node_on-requires-clause-few : goal.node_on-requires-clause-few
-node_on-requires-clause-few c = c.requires.can_move.fits.few_nodes
-
 pub node_on-requires-clause-node : goal.node_on-requires-clause-node
 node_on-requires-clause-node c = c.requires.node
 

@@ -32,7 +32,7 @@ parts c = record {
 pub invariant_of-board : goal.invariant_of-board
 invariant_of-board c =
     let r = c.requires in
-    opened_indexed (opened c) c.args.design c.args.cap c.args.loaded r.sound r.plain r.cap r.loaded (parts c)
+    opened_indexed (opened c) c.args.design c.args.cap c.args.loaded r.sound r.cap r.loaded (parts c)
 
 pub returns : goal.returns
 returns c =
@@ -43,6 +43,6 @@ returns c =
     let r = c.requires in
     record {
       start = l.given.items;
-      starts = starts n d cap l r.sound r.plain r.cap r.loaded (parts c);
-      board_is = opened_view n d cap l r.sound r.plain r.cap r.loaded (parts c);
+      starts = starts n d cap l r.sound r.cap r.loaded (parts c);
+      board_is = opened_view n d cap l r.sound r.cap r.loaded (parts c);
     }

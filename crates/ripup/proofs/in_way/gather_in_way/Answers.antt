@@ -8,7 +8,7 @@ use Rattle.ripup.proofs.in_way.gather_in_way.Goals as goal
 
 pub push_in_way-requires : goal.push_in_way-requires
 push_in_way-requires g c = subst IsItemFit (sym c.item-item.is)
-    (c.requires.fit c.loop-item.item-index c.item-item.result c.loop-item-test.true)
+    (c.requires c.loop-item.item-index c.item-item.result c.loop-item-test.true)
 
 pub loop-item-preserved : goal.loop-item-preserved
 loop-item-preserved g c =

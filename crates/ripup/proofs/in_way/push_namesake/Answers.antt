@@ -1,7 +1,6 @@
 use Rattle.std.proofs.Common.{◌≡◌, ℕ, true≢false, List, length, sym, ◌∙◌, subst, ap}
 use Rattle.pcb_model.specs.declared.item.Item.{Item}
 use Rattle.pcb_model.specs.Pairs.{Agrees}
-use Rattle.pcb_model.specs.Sound.{IsItemOf}
 use Rattle.std.proofs.lemmas.List.Elements.{All-contains}
 use Rattle.ripup.specs.inner.Steps.{AreInWayBelow}
 use Rattle.ripup.proofs.Passing.{same_key}

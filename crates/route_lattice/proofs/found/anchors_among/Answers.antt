@@ -14,3 +14,11 @@ pub returns : goal.returns
 returns g c =
     among_are c.args.d.now c.args.lat.now (g.C.Copper.items c.args.c.now) c.args.ids.now _ _
     (gains_all _ _ _ _ _ _ _ c.loop-id-test.false c.loop-id.invariant) c.ascending.ensures
+
+pub invariant_of-on : goal.invariant_of-on
+invariant_of-on g c = record {
+  sound = c.requires.sound;
+  fits = c.requires.fits;
+  serves = c.requires.serves;
+  in_order = c.in_order.ensures.ascends;
+}

@@ -1,6 +1,5 @@
 use Rattle.std.proofs.Common.{subst, sym}
 use Rattle.route_lattice.specs.Parts.{IsBoxWithin}
-use Rattle.route_lattice.specs.Gather.{least_box}
 use Rattle.route_lattice.proofs.Outlines.{least_within}
 use Rattle.route_lattice.proofs.ruled.least_box.Goals as goal
 

@@ -3,4 +3,4 @@ use Rattle.board_offers.specs.Items.{added_from}
 use Rattle.route_plan.proofs.added.added_items.Given as goal
 
 abbrev pub invariant-loop-i : goal.invariant-loop-i
-invariant-loop-i l = l.items ≡ added_from l.d l.net 0 (take l.i l.metals)
+invariant-loop-i g l = l.items ≡ added_from l.on.d l.net 0 (take l.i l.metals)

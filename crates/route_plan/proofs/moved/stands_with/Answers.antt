@@ -1,43 +1,42 @@
-use Rattle.std.proofs.Common.{refl}
+use Rattle.std.proofs.Common.{◌↔◌, refl, subst, IsTrue}
 use Rattle.std.proofs.lemmas.Bool.{false≢true}
-use Rattle.std.proofs.lemmas.List.Elements.{All-contains}
-use Rattle.pcb_model.specs.Sound.{IsItemOf, Serves}
+use Rattle.pcb_model.specs.Pairs.{Agrees}
+use Rattle.route_lattice.specs.Ground.{GroundOf}
 use Rattle.shove.proofs.Touching.{unless}
 use Rattle.route_plan.proofs.Standing.{stand, agree_so, touch_so}
 use Rattle.route_plan.proofs.moved.stands_with.Goals as goal
 
 pub are_touching-requires-clause-a_fits : goal.are_touching-requires-clause-a_fits
-are_touching-requires-clause-a_fits g c =
-    let items = g.C.Copper.items c.args.c.now in
-    let serves : Serves items c.args.d.now = g.met.C.Copper.serving _ _ c.requires.serves in
-    (All-contains (IsItemOf c.args.d.now) items c.in-Some.a_was.now serves.items_fit c.in-Some.ensures.0).fits
+are_touching-requires-clause-a_fits g c = c.in-Some.ensures.2.fits
 
 pub are_touching-requires-clause-b_fits : goal.are_touching-requires-clause-b_fits
-are_touching-requires-clause-b_fits g c =
-    let items = g.C.Copper.items c.args.c.now in
-    let serves : Serves items c.args.d.now = g.met.C.Copper.serving _ _ c.requires.serves in
-    (All-contains (IsItemOf c.args.d.now) items c.in-Some-item.b_was.now serves.items_fit c.in-Some-item.ensures.0).fits
+are_touching-requires-clause-b_fits g c = c.in-Some-item.ensures.2.fits
 
 pub returns-then-not-are_touching : goal.returns-then-not-are_touching
 returns-then-not-are_touching g c =
-    let items = g.C.Copper.items c.args.c.now in (
-      λ t. stand c.args.d.now items c.in_order.ensures.ascends c.args.a.now c.args.b.now c.in-Some.a_was.now
+    let items = c.args.on.now.items in
+    let agrees = subst (λ (y : GroundOf). IsTrue c.agree.result ↔ Agrees y.d c.args.a.now c.args.b.now) c.on.view_is
+    c.agree.ensures in (
+      λ t. stand c.args.on.now.d items c.in_order.ensures.ascends c.args.a.now c.args.b.now c.in-Some.a_was.now
           c.in-Some-item.b_was.now c.requires.a_moved c.requires.b_moved
           c.in-Some.ensures.0 c.in-Some.ensures.1 c.in-Some-item.ensures.0 c.in-Some-item.ensures.1
-          (c.agree.ensures.0 c.if-not-agree.false)
+          (agrees.0 c.if-not-agree.false)
           (λ touch. absurd (unless c.are_touching.result _ c.are_touching.ensures c.if-not-are_touching.true touch)),
       λ h. refl,
     )
 
 pub returns : goal.returns
 returns g c =
-    let items = g.C.Copper.items c.args.c.now in (
-      λ t. stand c.args.d.now items c.in_order.ensures.ascends c.args.a.now c.args.b.now c.in-Some.a_was.now
+    let items = c.args.on.now.items in
+    let agrees = subst (λ (y : GroundOf). IsTrue c.agree.result ↔ Agrees y.d c.args.a.now c.args.b.now) c.on.view_is
+    c.agree.ensures in (
+      λ t. stand c.args.on.now.d items c.in_order.ensures.ascends c.args.a.now c.args.b.now c.in-Some.a_was.now
           c.in-Some-item.b_was.now c.requires.a_moved c.requires.b_moved
           c.in-Some.ensures.0 c.in-Some.ensures.1 c.in-Some-item.ensures.0 c.in-Some-item.ensures.1
-          (c.agree.ensures.0 c.if-not-agree.false)
+          (agrees.0 c.if-not-agree.false)
           (λ touch. c.are_touching-2.ensures.0 t),
-      λ h. c.are_touching-2.ensures.1 (touch_so c.args.d.now items c.in_order.ensures.ascends c.args.a.now c.args.b.now
+      λ h. c.are_touching-2.ensures.1
+          (touch_so c.args.on.now.d items c.in_order.ensures.ascends c.args.a.now c.args.b.now
           c.in-Some.a_was.now c.in-Some-item.b_was.now c.requires.a_moved c.requires.b_moved
           c.in-Some.ensures.0 c.in-Some.ensures.1 c.in-Some-item.ensures.0 c.in-Some-item.ensures.1 h
           (c.are_touching.ensures.0 c.if-not-are_touching.false)),
@@ -57,10 +56,12 @@ are_touching-requires-2-clause-b_fits g c = c.requires.b_moved.fits
 
 pub returns-then-not-agree : goal.returns-then-not-agree
 returns-then-not-agree g c =
-    let items = g.C.Copper.items c.args.c.now in (
+    let items = c.args.on.now.items in
+    let agrees = subst (λ (y : GroundOf). IsTrue c.agree.result ↔ Agrees y.d c.args.a.now c.args.b.now) c.on.view_is
+    c.agree.ensures in (
       λ t. absurd (false≢true t),
-      λ h. absurd (unless c.agree.result _ c.agree.ensures c.if-not-agree.true
-          (agree_so c.args.d.now items c.in_order.ensures.ascends c.args.a.now c.args.b.now c.in-Some.a_was.now
+      λ h. absurd (unless c.agree.result _ agrees c.if-not-agree.true
+          (agree_so c.args.on.now.d items c.in_order.ensures.ascends c.args.a.now c.args.b.now c.in-Some.a_was.now
           c.in-Some-item.b_was.now c.requires.a_moved c.requires.b_moved c.in-Some.ensures.0 c.in-Some.ensures.1
           c.in-Some-item.ensures.0 c.in-Some-item.ensures.1 h)),
     )

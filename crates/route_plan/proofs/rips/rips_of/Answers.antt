@@ -7,13 +7,15 @@ use Rattle.route_plan.proofs.rips.rips_of.Goals as goal
 
 pub map_of-requires-clause-firsts : goal.map_of-requires-clause-firsts
 map_of-requires-clause-firsts g c =
-    let P : OneMap → Type 0 = λ o. IsMapOf c.args.d.now c.args.lat.now c.args.d.now.fixed o in
-    All-weaker P (λ (o : OneMap). o.first < length c.args.d.now.nets) (λ o h. h.net) c.args.fixed.now
+    let P : OneMap → Type 0 = λ o. IsMapOf c.args.rips.now.legal.d.now c.args.rips.now.legal.lat.now
+    c.args.rips.now.legal.d.now.fixed o in
+    All-weaker P (λ (o : OneMap). o.first < length c.args.rips.now.legal.d.now.nets) (λ o h. h.net) c.args.fixed.now
     c.requires.fixed.each
 
 pub returns-in_default-clause-none : goal.returns-in_default-clause-none
 returns-in_default-clause-none g c =
-    no_map c.args.d.now c.args.lat.now c.args.net c.args.fixed.now c.requires.fixed.mapped c.in_default.ensures.none
+    no_map c.args.rips.now.legal.d.now c.args.rips.now.legal.lat.now c.args.rips.now.legal.net
+    c.args.fixed.now c.requires.fixed.mapped c.in_default.ensures.none
 
 pub map_of-requires-clause-net : goal.map_of-requires-clause-net
 map_of-requires-clause-net g c = c.requires.can_rip.can_move.net_there
@@ -79,7 +81,8 @@ returns-in-Ok-Some-clause-penalty g c = refl
 
 pub returns-in-Ok-Some-clause-rip_maps : goal.returns-in-Ok-Some-clause-rip_maps
 returns-in-Ok-Some-clause-rip_maps g c =
-    let P : OneMap → Type 0 = λ o. IsMapOf c.args.d.now c.args.lat.now c.args.d.now.fixed o in
+    let P : OneMap → Type 0 = λ o. IsMapOf c.args.rips.now.legal.d.now c.args.rips.now.legal.lat.now
+    c.args.rips.now.legal.d.now.fixed o in
     let e = c.in-Ok-Some.ensures in
     let is = c.in-Ok-Some.field-0-is in
     record {

@@ -25,7 +25,7 @@ loop-net-preserved c =
     let count = c.loop-net.count in
     let more = c.in_ok-open.open in
     let one : IsOne d items =
-    λ net found others. c.islands_are_one.ensures d items net found others c.requires.sound c.requires.serves in
+    λ net found others. c.islands_are_one.ensures d items net found others c.requires.serves.0 c.requires.serves.1 in
     let is : IsOpenNet d items net more = c.in_ok-open.ensures.count in
     let are = c.loop-net.invariant.are in
     elim c.if-open-gt0.branch [

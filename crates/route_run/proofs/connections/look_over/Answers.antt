@@ -5,13 +5,9 @@ use Rattle.pcb_board.specs.Boards.{SnapOf}
 use Rattle.route_run.specs.inner.Passing.{AreOpenNets}
 use Rattle.route_run.proofs.connections.look_over.Goals as goal
 
-pub gather-gathered-requires-clause-sound : goal.gather-gathered-requires-clause-sound
-gather-gathered-requires-clause-sound c =
-    subst (λ (s : SnapOf). IsSound s.design) (sym c.in_ok-snap.ensures) c.keeps.ensures.sound
-
 pub gather-gathered-requires-clause-serves : goal.gather-gathered-requires-clause-serves
-gather-gathered-requires-clause-serves c = subst (λ (s : SnapOf). Serves s.items s.design) (sym c.in_ok-snap.ensures)
-    (c.boards_serve.ensures.serves c.args.board.now c.keeps.ensures)
+gather-gathered-requires-clause-serves c = subst (λ (s : SnapOf). IsSound s.design × Serves s.items s.design)
+    (sym c.in_ok-snap.ensures) (c.keeps.ensures.sound, c.boards_serve.ensures.serves c.args.board.now c.keeps.ensures)
 
 pub returns-in-Ok : goal.returns-in-Ok
 returns-in-Ok c =

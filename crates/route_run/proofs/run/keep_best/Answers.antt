@@ -1,18 +1,17 @@
-use Rattle.std.proofs.Common.{◌≡◌, ◌∙◌, ◌<◌, ◌≤◌, List, length, ap, arith, subst, sym}
+use Rattle.std.proofs.Common.{◌≡◌, ◌∙◌, ◌≤◌, List, length, ap, arith, subst, sym}
 use Rattle.route_run.specs.declared.facts.PassLine.{PassLine}
 use Rattle.route_run.specs.Runs.{IsBest, entries_after}
 use Rattle.route_run.specs.inner.Passing.{GoesBack}
 use Rattle.route_run.proofs.Running.{kept_within, some_lines}
 use Rattle.route_run.proofs.run.keep_best.Goals as goal
 
-pub best_of-kept-requires-clause-some : goal.best_of-kept-requires-clause-some
-best_of-kept-requires-clause-some g c = subst (λ (lines : List PassLine). 0 < length lines) (sym c.as_slice.ensures)
-    (some_lines _ c.in_ok-board.board c.in_ok-board.lines c.in_ok-board.ensures.ended)
-
-pub best_of-kept-requires-clause-few : goal.best_of-kept-requires-clause-few
-best_of-kept-requires-clause-few g c =
+pub best_of-kept-requires : goal.best_of-kept-requires
+best_of-kept-requires g c =
     let same = ap (λ (lines : List PassLine). length lines) c.as_slice.ensures in
-    omega (arith, same, c.in_ok-board.ensures.passed.passes.few, c.requires.passes.1)
+    let some = some_lines _ c.in_ok-board.board c.in_ok-board.lines c.in_ok-board.ensures.ended in
+    let few = c.in_ok-board.ensures.passed.passes.few in
+    let most = c.requires.input.few_passes in
+    (omega (arith, same, some), omega (arith, same, few, most))
 
 pub go_back-requires-clause-all : goal.go_back-requires-clause-all
 go_back-requires-clause-all g c =

@@ -1,18 +1,12 @@
-use Rattle.std.proofs.Common.{All, List, sym, ◌∙◌, ap, subst, refl}
+use Rattle.std.proofs.Common.{List, sym, ◌∙◌, ap, refl}
 use Rattle.pcb_model.specs.declared.item.Piece.{Piece}
 use Rattle.pcb_model.specs.Bounds.{IsFit}
 use Rattle.pcb_model.specs.Pieces.{padstack_pieces, moved_piece}
-use Rattle.pcb_model.proofs.Probes.{All-unmap, stack_fit}
+use Rattle.pcb_model.proofs.Probes.{All-unmap}
 use Rattle.route_lattice.specs.Near.{are_near_at}
 use Rattle.route_lattice.proofs.Fitting.{via_probe_fit}
 use Rattle.move_maps.proofs.Painting.{not_both}
 use Rattle.move_maps.proofs.brush.Brush.is_stack_clear.Goals as goal
-
-pub pieces_near-requires-clause-fit : goal.pieces_near-requires-clause-fit
-pieces_near-requires-clause-fit c =
-    let d = c.args.self.now.group.d in
-    subst (λ (ps : List Piece). All IsFit ps) (sym c.pieces.ensures)
-    (stack_fit d c.args.padstack c.told.ensures.can_move.sound.fits)
 
 pub returns-then-not-pieces_near : goal.returns-then-not-pieces_near
 returns-then-not-pieces_near c =

@@ -20,11 +20,13 @@ last v a = omega arith
 pub returns-then-is_out : goal.returns-then-is_out
 returns-then-is_out c =
     let s = c.args.self.now in let t = s.group in
-    let Out : List Window → Type 0 = λ ws. All (λ (w : Window). IsPlaceOut w c.args.column c.args.row) ws in
+    let Out : List Window → Type 0 = λ ws. All (λ (w : Window). IsPlaceOut w c.args.crossing.column
+    c.args.crossing.row) ws in
     let out : Out s.windows = c.is_out.ensures.0 c.if-is_out.true in
-    node_off s.stroke t.d t.lat t.first s.item c.args.node c.args.counts.now (λ i h.
-    c.told.ensures.together.each c.args.node i c.requires.node h
-    (node_out t.lat s.windows c.args.node c.args.column c.args.row c.requires.column c.requires.row
+    node_off s.stroke t.d t.lat t.first s.item c.args.crossing.node c.args.counts.now (λ i h.
+    c.told.ensures.together.each c.args.crossing.node i c.requires.crossing.there h
+    (node_out t.lat s.windows c.args.crossing.node c.args.crossing.column c.args.crossing.row
+    c.requires.crossing.column_is c.requires.crossing.row_is
     out))
 
 pub paint_steps-requires-clause-clear : goal.paint_steps-requires-clause-clear

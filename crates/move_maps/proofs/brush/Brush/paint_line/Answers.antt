@@ -75,8 +75,8 @@ loop-column-preserved c =
     (((c.args.level * c.rows.result + c.args.row) * n + col) * a)
     (((c.args.level * c.rows.result + c.args.row) * n + col + 1) * a) xs ys) ew c.paint_crossing.ensures))
 
-pub overflow_add-start-in-loop-column : goal.overflow_add-start-in-loop-column
-overflow_add-start-in-loop-column c =
+pub overflow_add-crossing : goal.overflow_add-crossing
+overflow_add-crossing c =
     let m = c.args.self.now.group.lat in let r = c.requires in
     let ew = c.columns-width.ensures in
     let k = (place_small (length m.layers) (length m.ys) (length m.xs) c.args.level c.args.row c.loop-column.column
@@ -86,8 +86,8 @@ overflow_add-start-in-loop-column c =
     c.span-span.ensures.span.within)).1 in
     omega (arith, k)
 
-pub overflow_cast-start : goal.overflow_cast-start
-overflow_cast-start c =
+pub overflow_cast-crossing : goal.overflow_cast-crossing
+overflow_cast-crossing c =
     let m = c.args.self.now.group.lat in let r = c.requires in
     let ew = c.columns-width.ensures in
     let k = (place_small (length m.layers) (length m.ys) (length m.xs) c.args.level c.args.row c.loop-column.column
@@ -106,54 +106,31 @@ paint_crossing-requires-clause-clear c =
     (inside c.loop-column.column c.span-span.result.right (length m.xs) c.loop-column-test.true
     c.span-span.ensures.span.within) c.requires.clear
 
-pub paint_crossing-requires-clause-level : goal.paint_crossing-requires-clause-level
-paint_crossing-requires-clause-level c =
-    let m = c.args.self.now.group.lat in
+pub paint_crossing-requires-clause-crossing : goal.paint_crossing-requires-clause-crossing
+paint_crossing-requires-clause-crossing c =
+    let m = c.args.self.now.group.lat in let r = c.requires in
     let eh = c.rows.ensures in
     let ew = c.columns-width.ensures in
     let col = c.loop-column.column in
-    ap (λ n. level m ((c.args.level * n + c.args.row) * c.columns-width.result + col)) eh
-    ∙ (ap (λ n. level m ((c.args.level * length m.ys + c.args.row) * n + col)) ew
-    ∙ level_is (length m.ys) (length m.xs) c.args.level c.args.row col c.requires.row
-    (inside col c.span-span.result.right (length m.xs) c.loop-column-test.true
-    c.span-span.ensures.span.within))
-
-pub paint_crossing-requires-clause-row : goal.paint_crossing-requires-clause-row
-paint_crossing-requires-clause-row c =
-    let m = c.args.self.now.group.lat in
-    let eh = c.rows.ensures in
-    let ew = c.columns-width.ensures in
-    let col = c.loop-column.column in
-    ap (λ n. row m ((c.args.level * n + c.args.row) * c.columns-width.result + col)) eh
-    ∙ (ap (λ n. row m ((c.args.level * length m.ys + c.args.row) * n + col)) ew
-    ∙ row_is (length m.ys) (length m.xs) c.args.level c.args.row col c.requires.row
-    (inside col c.span-span.result.right (length m.xs) c.loop-column-test.true
-    c.span-span.ensures.span.within))
-
-pub paint_crossing-requires-clause-column : goal.paint_crossing-requires-clause-column
-paint_crossing-requires-clause-column c =
-    let m = c.args.self.now.group.lat in
-    let eh = c.rows.ensures in
-    let ew = c.columns-width.ensures in
-    let col = c.loop-column.column in
-    ap (λ n. column m ((c.args.level * n + c.args.row) * c.columns-width.result + col)) eh
-    ∙ (ap (λ n. column m ((c.args.level * length m.ys + c.args.row) * n + col)) ew
-    ∙ column_is (length m.ys) (length m.xs) c.args.level c.args.row col
-    (inside col c.span-span.result.right (length m.xs) c.loop-column-test.true
-    c.span-span.ensures.span.within))
+    let in_line = inside col c.span-span.result.right (length m.xs) c.loop-column-test.true
+    c.span-span.ensures.span.within in
+    record {
+      there = (place_small (length m.layers) (length m.ys) (length m.xs) c.args.level c.args.row col c.rows.result
+          c.columns-width.result c.rows.ensures ew r.some c.told.ensures.can_move.fits.few_nodes r.level r.row
+          in_line).0;
+      level_is = ap (λ n. level m ((c.args.level * n + c.args.row) * c.columns-width.result + col)) eh
+          ∙ (ap (λ n. level m ((c.args.level * length m.ys + c.args.row) * n + col)) ew
+          ∙ level_is (length m.ys) (length m.xs) c.args.level c.args.row col r.row in_line);
+      row_is = ap (λ n. row m ((c.args.level * n + c.args.row) * c.columns-width.result + col)) eh
+          ∙ (ap (λ n. row m ((c.args.level * length m.ys + c.args.row) * n + col)) ew
+          ∙ row_is (length m.ys) (length m.xs) c.args.level c.args.row col r.row in_line);
+      column_is = ap (λ n. column m ((c.args.level * n + c.args.row) * c.columns-width.result + col)) eh
+          ∙ (ap (λ n. column m ((c.args.level * length m.ys + c.args.row) * n + col)) ew
+          ∙ column_is (length m.ys) (length m.xs) c.args.level c.args.row col in_line);
+    }
 
 pub paint_crossing-requires-clause-size : goal.paint_crossing-requires-clause-size
 paint_crossing-requires-clause-size c = c.loop-column.invariant.size ∙ c.requires.size
-
-pub paint_crossing-requires-clause-node : goal.paint_crossing-requires-clause-node
-paint_crossing-requires-clause-node c =
-    let m = c.args.self.now.group.lat in let r = c.requires in
-    let ew = c.columns-width.ensures in
-    (place_small (length m.layers) (length m.ys) (length m.xs) c.args.level c.args.row c.loop-column.column
-    c.rows.result c.columns-width.result c.rows.ensures ew r.some
-    c.told.ensures.can_move.fits.few_nodes r.level r.row
-    (inside c.loop-column.column c.span-span.result.right (length m.xs) c.loop-column-test.true
-    c.span-span.ensures.span.within)).0
 
 pub returns : goal.returns
 returns c =

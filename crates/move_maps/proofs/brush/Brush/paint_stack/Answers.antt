@@ -1,12 +1,10 @@
-use Rattle.std.proofs.Common.{◌≡◌, ℕ, ◌+◌, ◌*◌, ◌≤◌, ◌<◌, ◌^◌, ◌↔◌, IsTrue, true, List, length}
+use Rattle.std.proofs.Common.{◌≡◌, ℕ, ◌+◌, ◌*◌, ◌≤◌, ◌<◌, ◌↔◌, IsTrue, true, List, length}
 use Rattle.std.proofs.Common.{refl, sym, ◌∙◌, subst, arith}
 use Rattle.std.specs.Prelude.{slice_index}
-use Rattle.geo_kernel.specs.Plane.{IsWithin}
 use Rattle.pcb_model.specs.declared.item.Probe.TheVariants as probe
 use Rattle.pcb_model.specs.Pieces.{padstack_pieces}
 use Rattle.route_lattice.specs.Near.{are_near_at}
 use Rattle.route_lattice.specs.Ways.{way_count}
-use Rattle.route_lattice.proofs.Fitting.{point_within}
 use Rattle.move_maps.specs.Clear.{IsClearOf}
 use Rattle.move_maps.proofs.Painting.{begins, goes_on, at_ends}
 use Rattle.move_maps.proofs.brush.Brush.paint_stack.Goals as goal
@@ -32,12 +30,6 @@ next n k l i e = omega (arith, e)
 pub bounds-vias-number : goal.bounds-vias-number
 bounds-vias-number c =
     subst (λ (vs : List ℕ). c.args.number < length vs) (sym c.vias.ensures) c.requires.number
-
-pub is_stack_clear-clear-requires : goal.is_stack_clear-clear-requires
-is_stack_clear-clear-requires c =
-    let t = c.args.self.now.group in let k = c.requires.spot in
-    subst (IsWithin (2 ^ 29)) (sym k.at_is)
-    (point_within t.d t.lat c.args.spot.now.node c.told.ensures.can_move.fits k.there)
 
 pub paint_via-requires-clause-spot : goal.paint_via-requires-clause-spot
 paint_via-requires-clause-spot c = c.requires.spot

@@ -19,9 +19,6 @@ is_step-requires-clause-index g c = c.requires.index
 pub step_to-requires-clause-node : goal.step_to-requires-clause-node
 step_to-requires-clause-node g c = c.requires.node
 
-pub step_to-requires-clause-few : goal.step_to-requires-clause-few
-step_to-requires-clause-few g c = c.requires.ready.0.0.fits.few_nodes
-
 pub step_to-requires-clause-dir : goal.step_to-requires-clause-dir
 step_to-requires-clause-dir g c = (OnTrue_at c.if-is_step.true c.is_step.ensures).is_step
 

@@ -3,17 +3,8 @@ use Rattle.std.proofs.lemmas.Bool.{OnTrue_at}
 use Rattle.route_lattice.specs.Legal.{way_price}
 use Rattle.move_maps.proofs.moves.MapMovesMoves.price.Goals as goal
 
-pub step_price-requires-clause-few : goal.step_price-requires-clause-few
-step_price-requires-clause-few g c = c.requires.ready.0.0.fits.few_nodes
-
 pub step_price-requires-clause-dir : goal.step_price-requires-clause-dir
 step_price-requires-clause-dir g c = (OnTrue_at c.if-is_step.true c.is_step.ensures).is_step
-
-pub step_price-requires-clause-xs : goal.step_price-requires-clause-xs
-step_price-requires-clause-xs g c = c.requires.ready.0.0.fits.xs_within
-
-pub step_price-requires-clause-ys : goal.step_price-requires-clause-ys
-step_price-requires-clause-ys g c = c.requires.ready.0.0.fits.ys_within
 
 pub returns-then-is_step : goal.returns-then-is_step
 returns-then-is_step g c =

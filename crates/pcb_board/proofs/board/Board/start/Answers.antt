@@ -1,6 +1,5 @@
 use Rattle.std.proofs.Common.{[], sym, ◌∙◌, subst}
 use Rattle.pcb_model.specs.declared.design.Design.{Design}
-use Rattle.pcb_model.specs.Plain.{IsPlainCopper}
 use Rattle.pcb_model.specs.Sound.{IsSound}
 use Rattle.pcb_board.specs.Keeping.{IsStarted}
 use Rattle.pcb_board.specs.inner.Loading.{AreLoaded}
@@ -11,9 +10,6 @@ beginning-requires c = subst IsSound (sym (c.get.ensures ∙ c.in_ok-design.ensu
 
 pub opened-requires-clause-sound : goal.opened-requires-clause-sound
 opened-requires-clause-sound c = subst IsSound (sym c.in_ok-design.ensures.ok) c.requires.sound
-
-pub opened-requires-clause-plain : goal.opened-requires-clause-plain
-opened-requires-clause-plain c = subst IsPlainCopper (sym c.in_ok-design.ensures.ok) c.requires.plain
 
 pub opened-requires-clause-loaded : goal.opened-requires-clause-loaded
 opened-requires-clause-loaded c =

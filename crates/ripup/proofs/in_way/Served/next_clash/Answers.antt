@@ -8,4 +8,4 @@ use Rattle.ripup.proofs.in_way.Served.next_clash.Goals as goal
 pub returns : goal.returns
 returns g c =
     subst (λ (s : ServedOf). Finds (λ b. Agrees s.d c.args.item.now b → ⊥) (Agrees s.d c.args.item.now) c.args.from
-    (Some c.args.item.now.id) s.items c.next_clash.result) c.self.view_is c.next_clash.ensures.finds
+    (Some c.args.item.now.id) s.items c.clash_from.result) c.self.view_is c.clash_from.ensures

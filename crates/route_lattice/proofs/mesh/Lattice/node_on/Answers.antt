@@ -11,9 +11,6 @@ nonzero_rem-place-2 c =
     some_width c.args.self.now c.args.node _ _ (size _ _ _ c.len-width.ensures c.xs.ensures)
     (size _ _ _ c.len.ensures c.ys.ensures) c.requires.node
 
-pub node-requires-clause-few : goal.node-requires-clause-few
-node-requires-clause-few c = c.requires.few
-
 pub node-requires-clause-level : goal.node-requires-clause-level
 node-requires-clause-level c = c.requires.level
 

@@ -22,10 +22,12 @@ nonzero_rem-j c =
 pub overflow_add-i : goal.overflow_add-i
 overflow_add-i c =
     let k = column_short c.args.self.now c.args.node _ _ (size _ _ _ c.len-width.ensures c.xs.ensures)
-    (size _ _ _ c.len-height.ensures c.ys.ensures) c.requires.node c.requires.few in omega (arith, k)
+    (size _ _ _ c.len-height.ensures c.ys.ensures) c.requires.node
+    (omega (arith, c.count.ensures.nodes, c.count.ensures.few)) in
+    omega (arith, k)
 
 pub overflow_add-result : goal.overflow_add-result
-overflow_add-result c = omega (arith, c.requires.few, c.requires.node)
+overflow_add-result c = omega (arith, c.count.ensures.nodes, c.count.ensures.few, c.requires.node)
 
 pub overflow_sub-result : goal.overflow_sub-result
 overflow_sub-result c = omega (arith, c.if-i-gt0.true, mod_le c.args.node c.len-width.result)
@@ -33,18 +35,22 @@ overflow_sub-result c = omega (arith, c.if-i-gt0.true, mod_le c.args.node c.len-
 pub overflow_add-j : goal.overflow_add-j
 overflow_add-j c =
     let k = row_short c.args.self.now c.args.node _ _ (size _ _ _ c.len-width.ensures c.xs.ensures)
-    (size _ _ _ c.len-height.ensures c.ys.ensures) c.requires.node c.requires.few in omega (arith, k)
+    (size _ _ _ c.len-height.ensures c.ys.ensures) c.requires.node
+    (omega (arith, c.count.ensures.nodes, c.count.ensures.few)) in
+    omega (arith, k)
 
 pub overflow_add-result-then-j-height : goal.overflow_add-result-then-j-height
 overflow_add-result-then-j-height c =
     let k = above_short c.args.self.now c.args.node _ _ (size _ _ _ c.len-width.ensures c.xs.ensures)
-    (size _ _ _ c.len-height.ensures c.ys.ensures) c.requires.node c.requires.few
+    (size _ _ _ c.len-height.ensures c.ys.ensures) c.requires.node
+    (omega (arith, c.count.ensures.nodes, c.count.ensures.few))
     c.if-j-height.true in omega (arith, k)
 
 pub overflow_cast-result : goal.overflow_cast-result
 overflow_cast-result c =
     let k = above_short c.args.self.now c.args.node _ _ (size _ _ _ c.len-width.ensures c.xs.ensures)
-    (size _ _ _ c.len-height.ensures c.ys.ensures) c.requires.node c.requires.few
+    (size _ _ _ c.len-height.ensures c.ys.ensures) c.requires.node
+    (omega (arith, c.count.ensures.nodes, c.count.ensures.few))
     c.if-j-height.true in omega (arith, k)
 
 pub overflow_sub-result-then-j-gt0 : goal.overflow_sub-result-then-j-gt0
@@ -53,7 +59,7 @@ overflow_sub-result-then-j-gt0 c =
     (size _ _ _ c.len-height.ensures c.ys.ensures) c.requires.node c.if-j-gt0.true
 
 pub overflow_cast-result-then-j-gt0 : goal.overflow_cast-result-then-j-gt0
-overflow_cast-result-then-j-gt0 c = omega (arith, c.requires.few, c.requires.node)
+overflow_cast-result-then-j-gt0 c = omega (arith, c.count.ensures.nodes, c.count.ensures.few, c.requires.node)
 
 pub returns-then-i-width : goal.returns-then-i-width
 returns-then-i-width c =

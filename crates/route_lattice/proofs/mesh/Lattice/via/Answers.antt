@@ -1,42 +1,17 @@
-use Rattle.std.proofs.Common.{◌≡◌, ℕ, ◌<◌, ◌^◌, Bool, true, false, not, cond, List, length, get_or, Some, None}
-use Rattle.std.proofs.Common.{All, ◌==◌, ◌&&◌, true≢false, sym, refl, ap, ap₂, subst, arith, ◌∙◌}
+use Rattle.std.proofs.Common.{◌≡◌, ℕ, ◌<◌, Bool, true, false, not, cond, List, length, get_or, Some, None}
+use Rattle.std.proofs.Common.{◌==◌, ◌&&◌, true≢false, sym, refl, ap, ap₂, subst, arith, ◌∙◌}
 use Rattle.std.proofs.lemmas.Bool.Decides.{nat_tests}
-use Rattle.geo_kernel.specs.Plane.{IsWithin}
 use Rattle.pcb_model.specs.declared.item.Piece.{Piece}
 use Rattle.geo_kernel.specs.declared.point.Point.{Point}
-use Rattle.pcb_model.specs.Bounds.{IsFit}
 use Rattle.pcb_model.specs.Pieces.{padstack_pieces}
-use Rattle.pcb_model.proofs.Probes.{stack_fit}
 use Rattle.route_lattice.specs.declared.moves.Move.TheVariants.{Via}
 use Rattle.route_lattice.specs.Mesh.{point_of, layer_of}
 use Rattle.route_lattice.specs.Ways.{can_join}
-use Rattle.route_lattice.proofs.Fitting.{point_within}
 use Rattle.route_lattice.proofs.mesh.Lattice.via.Goals as goal
 
 pub bounds-as_slice-level : goal.bounds-as_slice-level
 bounds-as_slice-level c =
     subst (λ (ls : List ℕ). c.args.level < length ls) (sym (c.as_slice.ensures ∙ c.layers.ensures)) c.requires.level
-
-pub can_join-requires-clause-fit : goal.can_join-requires-clause-fit
-can_join-requires-clause-fit c =
-    subst (All IsFit) (sym c.padstack_pieces-pieces.ensures) (stack_fit c.args.d.now c.args.padstack c.requires.design)
-
-pub can_join-requires-clause-at_within : goal.can_join-requires-clause-at_within
-can_join-requires-clause-at_within c =
-    subst (IsWithin (2 ^ 29)) (sym c.point.ensures)
-    (point_within c.args.d.now c.args.self.now c.args.node c.requires.fits c.requires.node)
-
-pub node_on-requires-clause-few : goal.node_on-requires-clause-few
-node_on-requires-clause-few c =
-    c.requires.fits.few_nodes
-
-pub node_on-requires-clause-node : goal.node_on-requires-clause-node
-node_on-requires-clause-node c =
-    c.requires.node
-
-pub node_on-requires-clause-level : goal.node_on-requires-clause-level
-node_on-requires-clause-level c =
-    c.requires.level
 
 -- what a test that passes gives
 chosen : {X : Type 0} (b : Bool) (x y : X) → b ≡ true → x ≡ y → Some x ≡ cond b (Some y) None

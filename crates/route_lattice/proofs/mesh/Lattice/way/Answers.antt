@@ -8,12 +8,6 @@ use Rattle.route_lattice.proofs.Steps.{size, div_le}
 use Rattle.route_lattice.proofs.Numbered.{way_steps, way_vias, some_layers, via_there, level_there}
 use Rattle.route_lattice.proofs.mesh.Lattice.way.Goals as goal
 
-pub step-requires-clause-few : goal.step-requires-clause-few
-step-requires-clause-few c = c.requires.fits.few_nodes
-
-pub step-requires-clause-node : goal.step-requires-clause-node
-step-requires-clause-node c = c.requires.node
-
 pub step-requires-clause-dir : goal.step-requires-clause-dir
 step-requires-clause-dir c = c.if-i-lt4.true
 
@@ -22,15 +16,6 @@ overflow_cast-number c = omega (arith, c.ranges.i)
 
 pub offset_bounds-as_slice-net : goal.offset_bounds-as_slice-net
 offset_bounds-as_slice-net c = omega (arith, c.ranges.net)
-
-pub via-requires-clause-design : goal.via-requires-clause-design
-via-requires-clause-design c = c.requires.sound.fits
-
-pub via-requires-clause-fits : goal.via-requires-clause-fits
-via-requires-clause-fits c = c.requires.fits
-
-pub via-requires-clause-node : goal.via-requires-clause-node
-via-requires-clause-node c = c.requires.node
 
 pub returns-then-i-lt4-clause-value : goal.returns-then-i-lt4-clause-value
 returns-then-i-lt4-clause-value c =

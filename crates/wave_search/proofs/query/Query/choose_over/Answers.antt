@@ -2,9 +2,6 @@ use Rattle.std.proofs.Common.{sym, ◌∙◌, arith}
 use Rattle.wave_search.proofs.Table.{within}
 use Rattle.wave_search.proofs.query.Query.choose_over.Goals as goal
 
-pub choose_from-requires-clause-sound : goal.choose_from-requires-clause-sound
-choose_from-requires-clause-sound g c = c.requires.sound
-
 pub choose_from-requires-clause-small : goal.choose_from-requires-clause-small
 choose_from-requires-clause-small g c =
     c.requires.small c.in-Some.node c.in-Some-get.label (sym c.get.ensures ∙ c.in-Some-get.is)

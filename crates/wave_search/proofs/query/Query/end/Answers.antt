@@ -2,16 +2,10 @@ use Rattle.wave_search.proofs.Run.{price_small}
 use Rattle.wave_search.proofs.query.Query.end.Goals as goal
 
 pub trace-requires-clause-small : goal.trace-requires-clause-small
-trace-requires-clause-small g c = price_small c.requires.sound c.requires.first.state
-
-pub chosen_walk-requires-clause-marked : goal.chosen_walk-requires-clause-marked
-chosen_walk-requires-clause-marked g c = λ v m. (c.requires.marked v).0 m
+trace-requires-clause-small g c = price_small c.args.self.now.sound c.requires.first.state
 
 pub chosen_walk-requires-clause-small : goal.chosen_walk-requires-clause-small
 chosen_walk-requires-clause-small g c = c.in_ok-settle_rest.ensures.small
-
-pub chosen_walk-requires-2-clause-marked : goal.chosen_walk-requires-2-clause-marked
-chosen_walk-requires-2-clause-marked g c = λ v m. (c.requires.marked v).0 m
 
 pub chosen_walk-requires-2-clause-small : goal.chosen_walk-requires-2-clause-small
 chosen_walk-requires-2-clause-small g c = c.in_ok-settle_rest.ensures.small

@@ -3,7 +3,7 @@ use Rattle.wave_search.proofs.query.Query.ends_at.Goals as goal
 pub returns-then-label-price : goal.returns-then-label-price
 returns-then-label-price g c = (
   λ h. (
-    (c.requires.marked c.args.node).0 (c.has.ensures.0 h),
+    c.has.ensures.0 h,
     record {
       label = c.in-Some.label;
       there = c.in-Some.ensures.0;
@@ -11,5 +11,5 @@ returns-then-label-price g c = (
       price_is = c.if-label-price.true;
     },
   ),
-  λ p. c.has.ensures.1 ((c.requires.marked c.args.node).1 p.0),
+  λ p. c.has.ensures.1 p.0,
 )

@@ -30,11 +30,8 @@ loop-way-preserved g c = record {
       c.push-in-Some-on.new.self.items c.in_ok-push-3.ensures.items c.in_ok-push-2.ensures.items;
 }
 
-pub tight_to-requires-clause-sound : goal.tight_to-requires-clause-sound
-tight_to-requires-clause-sound g c = c.requires.sound
-
 pub returns : goal.returns
 returns g c =
     passed_walk (g.M.Moves.graph c.args.self.now.m.now) c.args.self.now.starts.now c.args.self.now.goals.now
     c.loop-way.nodes.items c.loop-way.moves.items c.loop-way.at c.loop-way.here.price c.loop-way.invariant.passed
-    (c.requires.marked c.loop-way.at (c.has.ensures.0 c.if-not-has.false)) _ refl refl (sym c.if-here-price.false)
+    (c.has.ensures.0 c.if-not-has.false) _ refl refl (sym c.if-here-price.false)

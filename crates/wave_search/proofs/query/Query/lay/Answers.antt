@@ -202,5 +202,6 @@ returns g c =
     c.node_at.ensures ∙ ap (λ (x : List ℕ). get_or x c.back.at 0) c.as_slice-in-back.ensures.value in
     laying_ends (g.M.Moves.graph c.args.self.now.m.now) c.args.self.now.starts.now c.args.self.now.goals.now
     c.args.table.now c.args.price c.args.pass.now c.args.place l c.back.invariant.small c.node_at.result k_is
-    c.back-test.false (g.B.Bound.low_of c.args.self.now.b.now) c.requires.sound c.requires.bound c.requires.exact
+    c.back-test.false (g.B.Bound.low_of c.args.self.now.b.now) c.args.self.now.sound c.args.self.now.bound
+    c.requires.exact
     c.requires.none_less c.requires.price _ c.reverse.ensures.items c.reverse-2.ensures.items refl

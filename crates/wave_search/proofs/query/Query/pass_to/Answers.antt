@@ -17,7 +17,7 @@ add_all-requires g c = all_below c.as_slice-2.result.now c.args.self.now.starts.
     (g.M.Moves.graph c.args.self.now.m.now).count (length c.args.pass.now.marks.items)
     (λ v h. subst (λ (l : List ℕ). Contains l v) c.as_slice.ensures
     ((c.in_ok-roots.ensures.same v).0 (subst (λ (l : List ℕ). Contains l v) c.as_slice-2.ensures.value h)))
-    c.requires.starts c.requires.blank.size
+    c.args.self.now.starts_there c.requires.blank.size
 
 pub pass-init : goal.pass-init
 pass-init g c =
@@ -34,11 +34,13 @@ pass-init g c =
     (λ v h m. (c.requires.blank.told.marked v m).1))
     (c.in_ok-add_all.ensures.size ∙ c.requires.blank.size)
 
-pub ends_at-requires-clause-size : goal.ends_at-requires-clause-size
-ends_at-requires-clause-size g c = node_there (g.M.Moves.graph c.args.self.now.m.now) c.args.self.now.starts.now
-    c.args.self.now.goals.now c.args.table.now c.args.price c.pass.pass c.pass.k c.pass.invariant
-    c.requires.exact.seeded (omega (arith, c.pass-test.true, c.len.ensures)) c.node_at-node.result
-    (c.node_at-node.ensures ∙ ap (λ (l : List ℕ). get_or l c.pass.k 0) c.as_slice-in-pass.ensures.value)
+pub ends_at-requires : goal.ends_at-requires
+ends_at-requires g c = record {
+  size = node_there (g.M.Moves.graph c.args.self.now.m.now) c.args.self.now.starts.now
+      c.args.self.now.goals.now c.args.table.now c.args.price c.pass.pass c.pass.k c.pass.invariant
+      c.requires.exact.seeded (omega (arith, c.pass-test.true, c.len.ensures)) c.node_at-node.result
+      (c.node_at-node.ensures ∙ ap (λ (l : List ℕ). get_or l c.pass.k 0) c.as_slice-in-pass.ensures.value);
+}
 
 pub new_beyond-requires-clause-node : goal.new_beyond-requires-clause-node
 new_beyond-requires-clause-node g c =
@@ -109,7 +111,8 @@ unreachable-requires g c =
     let at = c.requires.goal in
     let p = some_path graph c.args.self.now.starts.now c.args.self.now.goals.now
     (g.B.Bound.low_of c.args.self.now.b.now)
-    c.args.table.now c.args.price c.requires.sound c.requires.bound c.requires.exact c.requires.none_less at.0 at.1
+    c.args.table.now c.args.price c.args.self.now.sound c.args.self.now.bound c.requires.exact c.requires.none_less
+    at.0 at.1
     at.2 in
     at_end graph c.args.self.now.starts.now c.args.self.now.goals.now c.args.table.now c.args.price c.pass.pass
     c.pass.k c.pass.invariant (omega (arith, c.pass-test.false, c.len.ensures)) at.0 p.0 p.1 (at.1, at.2)

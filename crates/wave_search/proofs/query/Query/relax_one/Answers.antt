@@ -8,12 +8,12 @@ use Rattle.wave_search.proofs.query.Query.relax_one.Goals as goal
 pub overflow_add-price : goal.overflow_add-price
 overflow_add-price g c =
     let room = price_room (g.M.Moves.graph c.args.self.now.m.now) c.args.self.now.starts.now c.args.self.now.goals.now
-    (g.B.Bound.low_of c.args.self.now.b.now) c.requires.sound c.requires.bound _ _ _ _ _ _ c.requires.state
+    (g.B.Bound.low_of c.args.self.now.b.now) c.args.self.now.sound c.args.self.now.bound _ _ _ _ _ _ c.requires.state
     c.args.node c.args.label c.requires.there c.requires.is_done in
     omega (
       arith,
       room,
-      c.requires.sound.small_price c.args.node c.args.i c.price.result c.requires.node
+      c.args.self.now.sound.small_price c.args.node c.args.i c.price.result c.requires.node
           c.requires.index c.price.ensures,
     )
 
@@ -21,7 +21,7 @@ pub get-old-requires : goal.get-old-requires
 get-old-requires g c = omega (
   arith,
   c.requires.state.roots.size,
-  c.requires.sound.leads c.args.node c.args.i c.in-Some.field-0-0 c.in-Some.to c.requires.node c.requires.index
+  c.args.self.now.sound.leads c.args.node c.args.i c.in-Some.field-0-0 c.in-Some.to c.requires.node c.requires.index
       (sym c.at.ensures ∙ c.in-Some.is),
 )
 
@@ -29,14 +29,14 @@ pub let_wait-requires-clause-node : goal.let_wait-requires-clause-node
 let_wait-requires-clause-node g c = omega (
   arith,
   c.requires.state.roots.size,
-  c.requires.sound.leads c.args.node c.args.i c.in-Some.field-0-0 c.in-Some.to c.requires.node c.requires.index
+  c.args.self.now.sound.leads c.args.node c.args.i c.in-Some.field-0-0 c.in-Some.to c.requires.node c.requires.index
       (sym c.at.ensures ∙ c.in-Some.is),
 )
 
 pub let_wait-requires-clause-low : goal.let_wait-requires-clause-low
 let_wait-requires-clause-low g c =
-    let limit = c.requires.bound.limit c.in-Some.to
-    (c.requires.sound.leads c.args.node c.args.i c.in-Some.field-0-0 c.in-Some.to c.requires.node c.requires.index
+    let limit = c.args.self.now.bound.limit c.in-Some.to
+    (c.args.self.now.sound.leads c.args.node c.args.i c.in-Some.field-0-0 c.in-Some.to c.requires.node c.requires.index
     (sym c.at.ensures ∙ c.in-Some.is)) in omega (arith, limit)
 
 pub returns-clause-state : goal.returns-clause-state
@@ -46,7 +46,7 @@ returns-clause-state g c =
     subst (λ (o : Option Label). improves_on (c.args.label.price + c.price.result) o ≡ true) c.get-old.ensures
     (sym c.if-not-improves.ensures) in
     relabelled (g.M.Moves.graph c.args.self.now.m.now) c.args.self.now.starts.now c.args.self.now.goals.now
-    (g.B.Bound.low_of c.args.self.now.b.now) c.requires.sound c.requires.bound
+    (g.B.Bound.low_of c.args.self.now.b.now) c.args.self.now.sound c.args.self.now.bound
     c.args.table.now c.args.front.now
     (c.args.label.price + g.B.Bound.low_of c.args.self.now.b.now c.args.node) c.args.label.rank c.args.node c.args.i
     c.args.label c.requires.state c.requires.there c.requires.is_done refl
@@ -68,7 +68,7 @@ returns-clause-kept g c =
     subst (λ (o : Option Label). improves_on (c.args.label.price + c.price.result) o ≡ true) c.get-old.ensures
     (sym c.if-not-improves.ensures) in
     relabel_keeps (g.M.Moves.graph c.args.self.now.m.now) c.args.self.now.starts.now c.args.self.now.goals.now
-    (g.B.Bound.low_of c.args.self.now.b.now) c.requires.sound c.requires.bound
+    (g.B.Bound.low_of c.args.self.now.b.now) c.args.self.now.sound c.args.self.now.bound
     c.args.table.now c.args.front.now
     (c.args.label.price + g.B.Bound.low_of c.args.self.now.b.now c.args.node) c.args.label.rank c.args.node c.args.i
     c.args.label c.requires.state c.requires.there c.requires.is_done refl
@@ -89,7 +89,7 @@ returns-then-not-improves-clause-state g c =
     subst (λ (o : Option Label). improves_on (c.args.label.price + c.price.result) o ≡ false) c.get-old.ensures
     (sym c.if-not-improves.ensures) in
     unchanged (g.M.Moves.graph c.args.self.now.m.now) c.args.self.now.starts.now c.args.self.now.goals.now
-    (g.B.Bound.low_of c.args.self.now.b.now) c.requires.sound c.requires.bound
+    (g.B.Bound.low_of c.args.self.now.b.now) c.args.self.now.sound c.args.self.now.bound
     c.args.table.now c.args.front.now
     (c.args.label.price + g.B.Bound.low_of c.args.self.now.b.now c.args.node) c.args.label.rank c.args.node c.args.i
     c.args.label c.requires.state c.requires.there
@@ -99,7 +99,7 @@ returns-then-not-improves-clause-state g c =
 pub returns-then-is_done-clause-state : goal.returns-then-is_done-clause-state
 returns-then-is_done-clause-state g c =
     done_before (g.M.Moves.graph c.args.self.now.m.now) c.args.self.now.starts.now c.args.self.now.goals.now
-    (g.B.Bound.low_of c.args.self.now.b.now) c.requires.sound c.requires.bound
+    (g.B.Bound.low_of c.args.self.now.b.now) c.args.self.now.sound c.args.self.now.bound
     c.args.table.now c.args.front.now
     (c.args.label.price + g.B.Bound.low_of c.args.self.now.b.now c.args.node) c.args.label.rank c.args.node c.args.i
     c.args.label c.requires.state c.requires.there refl
@@ -109,22 +109,22 @@ returns-then-is_done-clause-state g c =
 pub let_wait-requires-clause-price : goal.let_wait-requires-clause-price
 let_wait-requires-clause-price g c =
     let room = price_room (g.M.Moves.graph c.args.self.now.m.now) c.args.self.now.starts.now c.args.self.now.goals.now
-    (g.B.Bound.low_of c.args.self.now.b.now) c.requires.sound c.requires.bound _ _ _ _ _ _ c.requires.state
+    (g.B.Bound.low_of c.args.self.now.b.now) c.args.self.now.sound c.args.self.now.bound _ _ _ _ _ _ c.requires.state
     c.args.node c.args.label c.requires.there c.requires.is_done in
     omega (
       arith,
       room,
-      c.requires.sound.small_price c.args.node c.args.i c.price.result c.requires.node
+      c.args.self.now.sound.small_price c.args.node c.args.i c.price.result c.requires.node
           c.requires.index c.price.ensures,
     )
 
 pub let_wait-requires-clause-origin : goal.let_wait-requires-clause-origin
-let_wait-requires-clause-origin g c = omega (arith, c.requires.node, c.requires.sound.nodes)
+let_wait-requires-clause-origin g c = omega (arith, c.requires.node, c.args.self.now.sound.nodes)
 
 pub returns-in_default-clause-state : goal.returns-in_default-clause-state
 returns-in_default-clause-state g c =
     nowhere (g.M.Moves.graph c.args.self.now.m.now) c.args.self.now.starts.now c.args.self.now.goals.now
-    (g.B.Bound.low_of c.args.self.now.b.now) c.requires.sound c.requires.bound
+    (g.B.Bound.low_of c.args.self.now.b.now) c.args.self.now.sound c.args.self.now.bound
     c.args.table.now c.args.front.now
     (c.args.label.price + g.B.Bound.low_of c.args.self.now.b.now c.args.node) c.args.label.rank c.args.node c.args.i
     c.args.label c.requires.state c.requires.there (sym c.at.ensures ∙ c.in_default.is)
@@ -132,7 +132,7 @@ returns-in_default-clause-state g c =
 pub returns-then-not-is_open-clause-state : goal.returns-then-not-is_open-clause-state
 returns-then-not-is_open-clause-state g c =
     shut (g.M.Moves.graph c.args.self.now.m.now) c.args.self.now.starts.now c.args.self.now.goals.now
-    (g.B.Bound.low_of c.args.self.now.b.now) c.requires.sound c.requires.bound
+    (g.B.Bound.low_of c.args.self.now.b.now) c.args.self.now.sound c.args.self.now.bound
     c.args.table.now c.args.front.now
     (c.args.label.price + g.B.Bound.low_of c.args.self.now.b.now c.args.node) c.args.label.rank c.args.node c.args.i
     c.args.label c.requires.state c.requires.there c.if-not-is_open.ensures.shut

@@ -11,7 +11,7 @@ returns-in_default-clause-answers g c =
 pub returns-clause-answers : goal.returns-clause-answers
 returns-clause-answers g c =
     let first = rw c.in-Some.is at c.in_ok-goal.ensures.found in
-    let small = price_small c.requires.sound first.state c.in-Some.goal.node c.in-Some.goal.label first.there in
+    let small = price_small c.args.self.now.sound first.state c.in-Some.goal.node c.in-Some.goal.label first.there in
     record {
       walk = c.in_ok-walk.ensures.walk;
       least = subst (λ (p : ℕ). NoneCostsLess

@@ -1,7 +1,15 @@
-use Rattle.std.proofs.Common.{List, ℕ, subst}
-use Rattle.std.specs.Prelude.{Contains, ◌↔◌}
+use Rattle.std.proofs.Common.{List, ℕ, subst, sym}
+use Rattle.std.specs.Prelude.{IfOk}
+use Rattle.route_lattice.specs.Walks.{Answers}
+use Rattle.wave_search.specs.Bounds.{IsBound}
 use Rattle.wave_search.proofs.search.Search.tied_walk.Goals as goal
 
-pub run-requires-clause-marked : goal.run-requires-clause-marked
-run-requires-clause-marked g c = λ v.
-    subst (λ (xs : List ℕ). Contains c.in_ok-marks.marks v ↔ Contains xs v) c.as_slice.ensures (c.in_ok-marks.ensures v)
+pub invariant_of-query-clause-bound : goal.invariant_of-query-clause-bound
+invariant_of-query-clause-bound g c =
+    subst (λ (xs : List ℕ). IsBound (g.M.Moves.graph c.args.m.now) xs (g.B.Bound.low_of c.args.b.now))
+    (sym c.in_ok-sought.ensures) c.requires.bound
+
+pub returns-clause-answers : goal.returns-clause-answers
+returns-clause-answers g c =
+    subst (λ (xs : List ℕ). IfOk c.run.result (Answers (g.M.Moves.graph c.args.m.now) c.args.starts.now xs))
+    c.in_ok-sought.ensures c.run.ensures.answers

@@ -1,7 +1,0 @@
-use Rattle.std.proofs.Common.{take, All}
-use Rattle.pcb_model.specs.declared.item.Item.{Item}
-use Rattle.pcb_model.specs.Pairs.{Agrees}
-use Rattle.route_plan.proofs.pairs.all_agree_with.Given as goal
-
-abbrev pub invariant-loop-a : goal.invariant-loop-a
-invariant-loop-a l = All (λ (a : Item). Agrees l.d a l.b) (take l.a-index l.items)

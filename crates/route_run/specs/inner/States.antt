@@ -1,0 +1,57 @@
+-- Where passes stand.
+use Rattle.std.specs.Prelude.{◌≡◌, ℕ, ◌<◌, Bool, IsTrue, not, List, [], ◌∷◌, ◌++◌, length, Option}
+use Rattle.route_lattice.specs.Mesh.{Mesh}
+use Rattle.pcb_board.specs.Boards.{BoardOf}
+use Rattle.searcher_pool.specs.declared.input.PassMaps.{PassMaps}
+use Rattle.searcher_pool.specs.Inputs.{AreMaps}
+use Rattle.searcher_pool.specs.Passes.{pass_from}
+use Rattle.route_run.specs.declared.facts.PassLine.{PassLine}
+use Rattle.route_run.specs.declared.connections.OpenNets.{OpenNets}
+use Rattle.route_run.specs.declared.input.RunInput.{RunInput}
+use Rattle.route_run.specs.Runs.{RunOf, pass_at}
+use Rattle.route_run.specs.Inputs.{CanRun, run_of}
+use Rattle.route_run.specs.inner.Passing.{AreOpenOn, EndsBy, HasPassed, IsMade, MayFollow, Stays}
+
+-- what contracts see of it: the lattice, the run, the board, and the lines of the passes that were made
+pub record PassStateOf : Type 0 where
+  pub lattice : Mesh
+  pub run : RunOf
+  pub board : BoardOf
+  pub lines : List PassLine
+
+-- before the first pass
+abbrev pub first_state : RunInput → BoardOf → PassStateOf
+first_state j b = record { lattice = j.lat.now; run = run_of j; board = b; lines = [] }
+
+-- the run may be made on the board's design, it is known what is open on the board, and the maps are of it
+pub record IsState (j : RunInput) (b : BoardOf) (nets : OpenNets) (maps : PassMaps) : Type 0 where
+  pub input : CanRun j b.design
+  pub open_nets : AreOpenOn b nets
+  pub maps_are : AreMaps j.lat.now b maps
+
+-- a pass with this penalty was made, with this line; and whether an offer met a full board
+pub record IsMadeBy (penalty : Option ℕ) (old new : PassStateOf) (line : PassLine) (full : Bool) : Type 0 where
+  pub lattice_is : new.lattice ≡ old.lattice
+  pub run_is : new.run ≡ old.run
+  pub lines_are : new.lines ≡ old.lines
+  pub is : IsMade (pass_from old.lattice old.run.via_cost old.run.workers [] penalty) old.board new.board line full
+
+-- the pass of this number was made, its line is the last one, and it is told whether a further one may follow
+pub record IsOneMore (number : ℕ) (old new : PassStateOf) (more : Bool) : Type 0 where
+  pub line : PassLine
+  pub full : Bool
+  pub lattice_is : new.lattice ≡ old.lattice
+  pub run_is : new.run ≡ old.run
+  pub lines_are : new.lines ≡ old.lines ++ line ∷ []
+  pub is : IsMade (pass_at old.lattice old.run.via_cost old.run.workers number) old.board new.board line full
+  pub goes_on : IsTrue more → (0 < line.parted) × (1 < number → 0 < line.commits) × IsTrue (not full)
+  pub ended : IsTrue (not more) → EndsBy number line full
+
+-- from the first board on so many passes were made, and a further one may follow
+pub record HaveGone (j : RunInput) (first : BoardOf) (number : ℕ) (s : PassStateOf) : Type 0 where
+  pub lattice_is : s.lattice ≡ j.lat.now
+  pub run_is : s.run ≡ run_of j
+  pub passed : HasPassed s.lattice s.run s.board s.lines
+  pub follows : MayFollow s.lattice s.run s.board s.lines
+  pub count : length s.lines ≡ number
+  pub same : Stays first s.board

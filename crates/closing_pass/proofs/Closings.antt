@@ -38,9 +38,6 @@ joins_none worker m via_cost b = record {
   };
 }
 
-pub joins_same : (worker : ℕ) (m : Mesh) (via_cost : ℕ) (b c : BoardOf) → c ≡ b → JoinsBy worker m via_cost b c
-joins_same worker m via_cost b c same = subst (JoinsBy worker m via_cost b) (sym same) (joins_none worker m via_cost b)
-
 -- further entries change no earlier board
 pub board_before : (b c : BoardOf) (more : List Entry) (n : ℕ) → c.design ≡ b.design → c.start ≡ b.start
     → c.cap ≡ b.cap → c.history ≡ b.history ++ more → n ≤ length b.history

@@ -1,5 +1,5 @@
 -- What moves turned round reach, and what that says of walks.
-use Rattle.std.proofs.Common.{◌≡◌, ℕ, ◌<◌, List, [], ◌∷◌, ◌++◌, refl, sym, subst, ◌∙◌, arith}
+use Rattle.std.proofs.Common.{◌≡◌, ℕ, ◌<◌, List, [], ◌∷◌, ◌++◌, refl, sym, subst, arith}
 use Rattle.std.proofs.Common.{length, All, Bool, true, false, not}
 use Rattle.std.specs.Bool.{OnTrue, OnFalse}
 use Rattle.std.specs.Prelude.{Contains}
@@ -19,13 +19,6 @@ pub on_not : (b : Bool) {P Q : Type 0} → OnFalse b P → (P → Q) → OnTrue 
 on_not true p f = tt
 on_not false p f = f p
 
--- moves turned round are such as a flood asks for
-pub backwards_sound : (graph : MoveGraph) → IsSound graph → IsSound (backwards graph)
-backwards_sound graph s = record {
-  nodes = s.nodes;
-  leads = s.leads;
-  small_price = λ node i p h k e. omega (arith, e);
-  one_price = λ node i p q h k e f. e ∙ sym f;
 }
 
 module _ (graph : MoveGraph) (sound : IsSound graph) (turns : IsMutual graph) (goals : List ℕ) where

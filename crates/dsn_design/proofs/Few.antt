@@ -5,7 +5,6 @@ use Rattle.std.proofs.lemmas.List.{length-map}
 use Rattle.std.proofs.lemmas.List.Elements.{All-map, All-weaker}
 use Rattle.dsn_tree.specs.declared.tree.Tree.{Tree}
 use Rattle.dsn_shapes.specs.declared.parts.Layer.{Layer}
-use Rattle.dsn_shapes.specs.declared.parts.Image.{Image}
 use Rattle.dsn_shapes.specs.declared.parts.Library.{Library}
 use Rattle.dsn_shapes.specs.declared.parts.Placing.{Placing}
 use Rattle.dsn_shapes.specs.declared.parts.ReadClass.{ReadClass}
@@ -15,16 +14,14 @@ use Rattle.dsn_shapes.specs.Names.{names_at, stack_names}
 use Rattle.dsn_structure.specs.Layout.{structure_of, structures, value_of as structure_value}
 use Rattle.dsn_structure.specs.Layout.{via_lists as structure_via_lists, via_names, via_words}
 use Rattle.dsn_library.specs.Padstacks.{stack_of}
-use Rattle.dsn_library.specs.Pins.{pin_of}
-use Rattle.dsn_library.specs.Images.{image_of, pins_in}
+use Rattle.dsn_library.specs.Images.{image_of}
 use Rattle.dsn_library.specs.Whole.{images, library_of, padstacks}
 use Rattle.dsn_placement.specs.Places.{places_in}
 use Rattle.dsn_placement.specs.Placing.{components, placing_of}
 use Rattle.dsn_placement.proofs.Sound.{places_count}
 use Rattle.dsn_network.specs.Words.{words_in}
 use Rattle.dsn_network.specs.Classes.{circuits_in, read_class_of, via_lists, via_stack, vias_of}
-use Rattle.dsn_network.specs.Nets.{net_of}
-use Rattle.dsn_network.specs.Whole.{class_lists, net_lists, network_of, value_of}
+use Rattle.dsn_network.specs.Whole.{class_lists, network_of, value_of}
 use Rattle.dsn_design.specs.Sound.{weight}
 use Rattle.dsn_design.proofs.Counted.{count_weight, each_alone, items_from_weight, lists_weight, words_weight}
 
@@ -58,21 +55,6 @@ images_few nm layers pcb n h =
     made_few (image_of nm layers (names_at 1 (padstacks pcb))) (images pcb) n
     (within_section (codes "image" ∷ []) (codes "library" ∷ []) pcb n h)
 
-pins_few : (nm : ℕ) (layers : List Layer) (stacks : List (List ℕ)) (n : ℕ) (t : Tree) → weight (t ∷ []) ≤ n
-    → length (image_of nm layers stacks t).pins ≤ n
-unfolding image_of
-pins_few nm layers stacks n t h =
-    made_few (pin_of nm stacks) (pins_in (t ∷ [])) n (omega (arith, lists_weight (codes "pin" ∷ []) (t ∷ [])))
-
-pub image_pins_few : (nm : ℕ) (layers : List Layer) (pcb : Tree) (n : ℕ) → weight (pcb ∷ []) ≤ n
-    → All (λ (i : Image). length i.pins ≤ n) (library_of nm layers pcb).images
-image_pins_few nm layers pcb n h =
-    let stacks = names_at 1 (padstacks pcb) in
-    All-map (λ (i : Image). length i.pins ≤ n) (image_of nm layers stacks) (images pcb)
-    (All-weaker (λ t. weight (t ∷ []) ≤ n) (λ t. length (image_of nm layers stacks t).pins ≤ n)
-    (pins_few nm layers stacks n) (images pcb)
-    (each_alone (images pcb) n (within_section (codes "image" ∷ []) (codes "library" ∷ []) pcb n h)))
-
 -- ---- the placement
 pub places_few : (nm : ℕ) (st : Structure) (lib : Library) (pcb : Tree) (n : ℕ) → weight (pcb ∷ []) ≤ n
     → length (placing_of nm st lib pcb).places ≤ n
@@ -86,12 +68,6 @@ places_few nm st lib pcb n h =
     )
 
 -- ---- the network
-pub nets_few : (nm : ℕ) (lib : Library) (placing : Placing) (pcb : Tree) (n : ℕ) → weight (pcb ∷ []) ≤ n
-    → length (network_of nm lib placing pcb).nets ≤ n
-unfolding value_of
-nets_few nm lib placing pcb n h =
-    made_few (net_of nm lib placing (class_lists pcb)) (net_lists pcb) n
-    (within_section (codes "net" ∷ []) (codes "network" ∷ []) pcb n h)
 
 pub classes_few : (nm : ℕ) (lib : Library) (placing : Placing) (pcb : Tree) (n : ℕ) → weight (pcb ∷ []) ≤ n
     → length (network_of nm lib placing pcb).classes ≤ n

@@ -25,13 +25,9 @@ use Rattle.dsn_design.specs.declared.parts.Parts.{Parts}
 use Rattle.dsn_design.specs.Fit.{ArePartsFit, IsPlaceWithin, IsStackFit, IsWireFit}
 use Rattle.dsn_design.specs.Sound.{AreFewParts, ArePartsSound, weight}
 use Rattle.dsn_design.proofs.Few.{class_vias_few, classes_few, images_few, places_few, stacks_few, structure_vias_few}
-use Rattle.dsn_design.specs.Reading.{ArePartsOf, in_head, in_structure, in_library, in_placement, in_network, in_wiring}
+use Rattle.dsn_design.specs.Reading.{ArePartsOf, in_structure, in_library, in_placement, in_network, in_wiring}
 use Rattle.dsn_design.specs.Reading.{ReadsHead, ReadsStructure, ReadsLibrary, ReadsPlacing, ReadsNetwork, ReadsWiring}
 use Rattle.dsn_design.specs.Reading.{ReadsParts}
-
-pub fail_head : (pcb : Tree) (f : ReadFault) → ReadsHead pcb (Err f) → ReadsParts pcb (Err f)
-fail_head pcb (Refused r) a = in_head a
-fail_head pcb (Memory e) a = tt
 
 pub fail_structure : (pcb : Tree) (h : Head) (f : ReadFault) → ReadsHead pcb (Ok h) → ReadsStructure pcb h (Err f)
     → ReadsParts pcb (Err f)

@@ -5,7 +5,7 @@ use Rattle.std.specs.Prelude.{Err, IfOk, Ok, Result, filter, sum_by}
 use Rattle.std.specs.Borrow.{Bor}
 use Rattle.std.specs.List.{flat_map}
 use Rattle.std.specs.Str.{bytes_eq}
-use Rattle.std.proofs.lemmas.List.{append-nil, flat_map_more, length-append, length-map, map-append, map_more}
+use Rattle.std.proofs.lemmas.List.{append-nil, length-append, length-map, map-append, map_more}
 use Rattle.std.proofs.lemmas.List.{take_more}
 use Rattle.std.proofs.lemmas.List.Elements.{filter-append}
 use Rattle.std.proofs.lemmas.List.Sums.{sum_by-cons, sum_by_push}
@@ -50,14 +50,6 @@ passed_more same a ys i y old now h e t p =
     ∙ ap (λ cs. couples_with same (take i ys) a ++ cs) (sym none) ∙ sym (with_more same a ys i y h e))
 
 -- ---- the couples of two lists
--- those of one more class list
-pub couples_more : (same : Bool) (xs ys : List ℕ) (i x : ℕ) (now new : List (ℕ × ℕ)) → i < length xs
-    → x ≡ get_or xs i x → now ≡ couples same (take i xs) ys → new ≡ now ++ couples_with same ys x
-    → new ≡ couples same (take (i + 1) xs) ys
-unfolding couples
-couples_more same xs ys i x now new h e p q =
-    q ∙ ap (λ cs. cs ++ couples_with same ys x) p ∙ flat_map_more (couples_with same ys) [] (take i xs) x
-    ∙ ap (flat_map (couples_with same ys)) (ap (λ z. take i xs ++ z ∷ []) e ∙ sym (take_more xs i x h))
 
 -- no class list has the second name
 pub none_between : (same : Bool) (xs ys : List ℕ) → ys ≡ [] → [] ≡ couples same xs ys

@@ -1,13 +1,11 @@
 -- Placed copper fits where the copper of the library does.
 use Rattle.std.proofs.Common.{◌≡◌, ◌≤◌, ◌^◌, ◌∙◌, ap, sym, subst, ℕ, suc, cond, true, List, [], ◌∷◌, Option, Some, None}
-use Rattle.std.proofs.Common.{length, get_or, refl, arith}
+use Rattle.std.proofs.Common.{length, refl, arith}
 use Rattle.std.specs.Prelude.{All, IfSome, is_some, nat_le, slice_get, unsigned_abs}
-use Rattle.std.specs.List.{list_all}
 use Rattle.std.specs.Option.{IsSomeAnd, option_map, option_map_or}
 use Rattle.std.proofs.lemmas.Bool.{and_parts, leb-true}
 use Rattle.std.proofs.lemmas.Option.{cond_some, same_Some}
-use Rattle.std.proofs.lemmas.List.Elements.{All-nil, All-cons, All-head, All-tail, All-weaker}
-use Rattle.std.proofs.lemmas.List.Sums.{AllPass-from_list_all}
+use Rattle.std.proofs.lemmas.List.Elements.{All-nil, All-cons, All-head, All-tail}
 use Rattle.geo_kernel.specs.declared.point.Point.{Point}
 use Rattle.geo_kernel.specs.declared.spine.Spine.{Spine}
 use Rattle.geo_kernel.specs.declared.spine.Spine.TheVariants.{Chain, Area}
@@ -17,18 +15,16 @@ use Rattle.geo_kernel.specs.Spine.{IsSpineWithin, IsWellFormed}
 use Rattle.geo_kernel.specs.Solid.{IsSimple}
 use Rattle.dsn_shapes.specs.declared.parts.LayerShape.{LayerShape}
 use Rattle.dsn_shapes.specs.declared.parts.BanShape.{BanShape}
-use Rattle.dsn_shapes.specs.declared.parts.Image.{Image}
 use Rattle.dsn_shapes.specs.declared.parts.ImagePin.{ImagePin}
 use Rattle.dsn_shapes.specs.declared.parts.Stack.{Stack}
 use Rattle.dsn_shapes.specs.Fits.{IsPlainShape, IsShapeFit}
 use Rattle.dsn_placement.specs.declared.seat.Seat.{Seat}
 use Rattle.dsn_placement.specs.declared.seat.Stand.{Stand}
 use Rattle.dsn_placement.specs.Placed.{flipped, is_near}
-use Rattle.dsn_placement.specs.Copper.{all_or_none, ban_copper, bare_seat, in_image, is_image_placed, is_pin_placed}
-use Rattle.dsn_placement.specs.Copper.{is_spine_placed, layers_at, on_layers, pin_centre, pin_copper, pin_seat}
+use Rattle.dsn_placement.specs.Copper.{all_or_none, ban_copper, bare_seat, in_image}
+use Rattle.dsn_placement.specs.Copper.{layers_at, on_layers, pin_centre, pin_copper, pin_seat}
 use Rattle.dsn_placement.specs.Copper.{placed_shape, placed_spine, seat_point, stack_shapes, with_first}
 use Rattle.pcb_model.proofs.Within.{All-at}
-use Rattle.dsn_placement.proofs.Placed.{ban_there, pin_there}
 
 -- ---- lists of what is there for each
 record Firsts {X : Type 0} (o : Option X) (os : Option (List X)) (xs : List X) : Type 0 where
@@ -208,46 +204,3 @@ pub record IsPinLaid (n : ℕ) (stand : Stand) (stacks : List Stack) (pin : Imag
   pub centre : IsSomeAnd (pin_centre stand pin) (IsWithin (2 ^ 29))
   pub copper : IsSomeAnd (pin_copper n stand stacks pin) (All IsShapeFit)
   pub plain : IsSomeAnd (pin_copper n stand stacks pin) (All IsPlainShape)
-
-pin_laid : (n : ℕ) (stand : Stand) (stacks : List Stack) (pin : ImagePin) → All IsShapeFit (stack_shapes stacks pin)
-    → All IsPlainShape (stack_shapes stacks pin) → is_pin_placed stand stacks pin ≡ true → IsPinLaid n stand stacks pin
-pin_laid n stand stacks pin fit plain h =
-    let b = and_parts (is_some (pin_centre stand pin)) (is_some (pin_copper n stand stacks pin))
-    (sym (pin_there n stand stacks pin) ∙ h) in
-    record {
-      centre = some_and (pin_centre stand pin) (IsWithin (2 ^ 29)) b.0 (centre_within stand pin);
-      copper = some_and (pin_copper n stand stacks pin) (All IsShapeFit) b.1
-          (λ shapes e. pin_fit n stand stacks pin shapes fit e);
-      plain = some_and (pin_copper n stand stacks pin) (All IsPlainShape) b.1
-          (λ shapes e. pin_plain n stand stacks pin shapes plain e);
-    }
-
-pub pins_laid : (n : ℕ) (stand : Stand) (stacks : List Stack) (image : Image)
-    → All (λ (s : Stack). All IsShapeFit s.shapes) stacks → All (λ (s : Stack). All IsPlainShape s.shapes) stacks
-    → is_image_placed stand stacks image ≡ true → All (IsPinLaid n stand stacks) image.pins
-unfolding is_image_placed
-pins_laid n stand stacks image fit plain h =
-    let pins : list_all (is_pin_placed stand stacks) image.pins ≡ true =
-    (and_parts (list_all (is_pin_placed stand stacks) image.pins)
-    (list_all (λ (ban : BanShape). is_spine_placed (bare_seat stand) ban.shape.spine) image.bans) h).0 in
-    All-weaker (λ pin. is_pin_placed stand stacks pin ≡ true) (IsPinLaid n stand stacks)
-    (λ pin e. pin_laid n stand stacks pin (stack_shapes_all IsShapeFit stacks pin fit)
-    (stack_shapes_all IsPlainShape stacks pin plain) e) image.pins
-    (AllPass-from_list_all (is_pin_placed stand stacks) image.pins pins)
-
-ban_laid : (n : ℕ) (stand : Stand) (ban : BanShape) → IsShapeFit ban.shape
-    → is_spine_placed (bare_seat stand) ban.shape.spine ≡ true → IsSomeAnd (ban_copper n stand ban) IsShapeFit
-ban_laid n stand ban fit h =
-    some_and (ban_copper n stand ban) IsShapeFit (sym (ban_there n stand ban) ∙ h)
-    (λ shape e. ban_fit n stand ban shape fit e)
-
--- and a keepout
-pub bans_laid : (n : ℕ) (stand : Stand) (stacks : List Stack) (image : Image)
-    → All (λ (b : BanShape). IsShapeFit b.shape) image.bans → is_image_placed stand stacks image ≡ true
-    → All (λ (b : BanShape). IsSomeAnd (ban_copper n stand b) IsShapeFit) image.bans
-unfolding is_image_placed
-bans_laid n stand stacks image fit h =
-    let placed = AllPass-from_list_all (λ (ban : BanShape). is_spine_placed (bare_seat stand) ban.shape.spine)
-    image.bans (and_parts (list_all (is_pin_placed stand stacks) image.pins)
-    (list_all (λ (ban : BanShape). is_spine_placed (bare_seat stand) ban.shape.spine) image.bans) h).1 in
-    λ k d l. ban_laid n stand (get_or image.bans k d) (fit k d l) (placed k d l)

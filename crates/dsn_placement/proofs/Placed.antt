@@ -4,12 +4,11 @@ use Rattle.std.specs.Prelude.{◌&&◌, is_some}
 use Rattle.std.specs.List.{list_all}
 use Rattle.std.specs.Option.{option_map}
 use Rattle.dsn_shapes.specs.declared.parts.LayerShape.{LayerShape}
-use Rattle.dsn_shapes.specs.declared.parts.BanShape.{BanShape}
 use Rattle.dsn_shapes.specs.declared.parts.Stack.{Stack}
 use Rattle.dsn_shapes.specs.declared.parts.ImagePin.{ImagePin}
 use Rattle.dsn_placement.specs.declared.seat.Seat.{Seat}
 use Rattle.dsn_placement.specs.declared.seat.Stand.{Stand}
-use Rattle.dsn_placement.specs.Copper.{all_or_none, ban_copper, bare_seat, is_pin_placed, is_spine_placed, layers_at}
+use Rattle.dsn_placement.specs.Copper.{all_or_none, is_pin_placed, is_spine_placed, layers_at}
 use Rattle.dsn_placement.specs.Copper.{on_layers, pin_centre, pin_copper, pin_seat, placed_shape, placed_spine}
 use Rattle.dsn_placement.specs.Copper.{stack_shapes, with_first}
 
@@ -42,9 +41,3 @@ pin_there n stand stacks pin =
     (sym (each_there (placed_shape n (pin_seat stand pin))
     (λ (s : LayerShape). is_spine_placed (pin_seat stand pin) s.spine) (shape_there n (pin_seat stand pin))
     (stack_shapes stacks pin)))
-
--- and a keepout
-pub ban_there : (n : ℕ) (stand : Stand) (ban : BanShape) → is_spine_placed (bare_seat stand) ban.shape.spine
-    ≡ is_some (ban_copper n stand ban)
-unfolding ban_copper
-ban_there n stand ban = sym (shape_there n (bare_seat stand) ban.shape)

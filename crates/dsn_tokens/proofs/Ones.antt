@@ -23,9 +23,6 @@ use Rattle.dsn_tokens.specs.declared.token.TokenFault.TheVariants.{QuoteOpen, Ba
 cons_one : {X : Type 0} (x y : X) (xs ys : List X) → x ∷ xs ≡ y ∷ ys → (x ≡ y) × (xs ≡ ys)
 cons_one x y xs ys e = (cc, cc)
 
-cons_none : (b : ℕ) (bytes : List ℕ) → [] ≡ b ∷ bytes → ⊥
-cons_none b bytes e = omega (arith, ap length e)
-
 lacks_stop : (stop : ℕ) (xs rest : List ℕ) → Lacks stop (xs ++ stop ∷ rest) → ⊥
 lacks_stop stop [] rest l = l.0 refl
 lacks_stop stop (x ∷ xs) rest l = lacks_stop stop xs rest l.1

@@ -44,9 +44,6 @@ module _ (n s t p r a b c i j : ℤ) (e : (p +ℤ r) *ℤ b ≡ r *ℤ a +ℤ p 
       ((x0 ⊗ x4 ⊖ x2 ⊗ x4) ⊗ x8 ⊕ (x2 ⊗ x4) ⊗ x9))
       (x4 ⊗ (((x0 ⊖ x1) ⊗ x5 ⊕ x1 ⊗ x7) ⊖ ((x0 ⊖ x2) ⊗ x8 ⊕ x2 ⊗ x9))) tt
 
-less_times : (n s m : ℕ) (z : ℤ) → n * m ≤ s → pos s ≡ z → pos (s - n * m) ≡ z -ℤ pos n *ℤ pos m
-less_times n s m z h e = less s (n * m) h ∙ ap (λ (y : ℤ). y -ℤ pos (n * m)) e
-
 module _ (n s t p r : ℕ) (hs : s ≤ n) (ht : t ≤ n) where
   first_axis : s * (p + r) ≤ n * p → (a b c i j : ℤ) → pos (p + r) *ℤ b ≡ pos r *ℤ a +ℤ pos p *ℤ c →
       apart (n * p) (s * (p + r)) (t * p) a b i j ≡ pos p *ℤ apart n s t a c i j

@@ -83,9 +83,6 @@ some_corner P at v w (x ∷ vs) dir (move.Step next ∷ ms) (b, k, r) =
     either true w rest c = c
     either false w rest c = (w, rest, refl)
 
-chain_links : (p q : Point) (qs : List Point) → chain_segments (p ∷ q ∷ qs) ≡ links p (q ∷ qs)
-chain_links p q qs = refl
-
 -- the segments of the wire of a stretch
 pub chain_has : (P : Segment → Type 0) (at : ℕ → Point)
     → ((dir : ℕ) (a b c : Point) → IsAhead dir a b → IsAhead dir b c → P (segment a b) → P (segment b c)

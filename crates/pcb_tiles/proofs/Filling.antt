@@ -1,12 +1,12 @@
 -- Entries put to their tiles at once: what each step adds, and that the whole is the grid of the items.
 use Rattle.std.proofs.Common.{◌≡◌, ℕ, ◌+◌, ◌*◌, ◌<◌, ◌≤◌, ◌^◌, Bool, true, false, cond, ◌&&◌, List, [], ◌∷◌, ◌++◌}
 use Rattle.std.proofs.Common.{length, map, filter, take, drop, All, get_or, refl, sym, ap, ◌∙◌, subst, arith}
-use Rattle.std.proofs.Common.{true≢false, inl, inr, ◌⊎◌, set, ltb, leb, min}
+use Rattle.std.proofs.Common.{true≢false, inl, inr, ◌⊎◌, ltb, leb, min}
 use Prim.Native.Nat.{zero, suc}
 use Rattle.std.proofs.lemmas.Bool.{le-leb, lt-leb, lt-ltb, le-ltb}
 use Rattle.std.specs.List.{range_with_len}
 use Rattle.std.proofs.Math.Seq.{take-add}
-use Rattle.std.proofs.lemmas.List.{append-nil, ext_get_or, get_or-set_other, get_or-set_same, take_all, take_more}
+use Rattle.std.proofs.lemmas.List.{append-nil, ext_get_or, take_all, take_more}
 use Rattle.std.proofs.lemmas.List.Elements.{All-append, All-cons, All-nil, All-map, All-filter, All-weaker}
 use Rattle.std.proofs.lemmas.List.Elements.{filter-append}
 use Rattle.std.proofs.lemmas.List.FromFn.{get_or-map-range_with_len, length-map-range_with_len}
@@ -21,12 +21,12 @@ use Rattle.pcb_tiles.specs.declared.cells.Entry.{Entry}
 use Rattle.pcb_tiles.specs.declared.fill.Along.{Along}
 use Rattle.pcb_tiles.specs.declared.fill.Along.TheVariants.{Rows, Columns}
 use Rattle.pcb_tiles.specs.declared.block.Block.{Block}
-use Rattle.pcb_tiles.specs.Tiling.{IsArea, IsBlockIn, columns_in, rows_in, has_entry, is_between, own_block}
+use Rattle.pcb_tiles.specs.Tiling.{IsArea, IsBlockIn, columns_in, rows_in, is_between, own_block}
 use Rattle.pcb_tiles.specs.Cells.{entry_of, entries_at, row_at, grid_of, cell_at}
 use Rattle.pcb_tiles.specs.Filling.{IsMade, IsRun, count_along, stands_at, places_along, row_of_tiles}
 use Rattle.pcb_tiles.specs.Kept.{IsSpread}
 use Rattle.pcb_tiles.specs.Shelves.{flat, IsChunk}
-use Rattle.pcb_tiles.proofs.Changes.{kept, left_out, filter_of_map, order_all}
+use Rattle.pcb_tiles.proofs.Changes.{kept, left_out, filter_of_map}
 use Rattle.pcb_tiles.proofs.Nearness.{cases_lt, extent_holds}
 use Rattle.pcb_tiles.proofs.Ranges.{map_range_agree}
 
@@ -110,62 +110,11 @@ is_before first end k = leb first k && ltb k end
 abbrev pub with_one : List Entry → Entry → Bool → List Entry
 with_one cell e t = cond t (cell ++ e ∷ []) cell
 
--- at the start no place has it
-pub run_none : (old : List (List Entry)) (e : Entry) (first k : ℕ)
-    → cell_at old k ≡ with_one (cell_at old k) e (is_before first first k)
-run_none old e first k =
-    let off : is_before first first k ≡ false = elim (cases_lt k first) [
-      | inl l ↦ neither (leb first k) (ltb k first) (inl (lt-leb first k l))
-      | inr l ↦ neither (leb first k) (ltb k first) (inr (le-ltb k first l))
-    ] in
-    sym (ap (with_one (cell_at old k) e) off)
-
--- the next place gets it
-pub run_more : (old cells new : List (List Entry)) (e : Entry) (first at k : ℕ) (cell : List Entry) → first ≤ at
-    → at < length cells → new ≡ set cells at cell → cell ≡ cell_at cells at ++ e ∷ []
-    → ((j : ℕ) → cell_at cells j ≡ with_one (cell_at old j) e (is_before first at j))
-    → cell_at new k ≡ with_one (cell_at old k) e (is_before first (at + 1) k)
-run_more old cells new e first at k cell from less new_is cell_is so_far =
-    let N : ℕ → List (List Entry) → List Entry = λ j xs. cell_at xs j in
-    elim (order_all k at) [
-      | inl same ↦
-          (let P : ℕ → Type 0 = λ j. cell_at new j ≡ with_one (cell_at old j) e (is_before first (at + 1) j) in
-          let W : Bool → List Entry = with_one (cell_at old at) e in
-          let M : List Entry → List Entry = λ xs. xs ++ e ∷ [] in
-          let off : is_before first at at ≡ false =
-          neither (leb first at) (ltb at at) (inr (le-ltb at at (omega arith))) in
-          let on : is_before first (at + 1) at ≡ true =
-          both (leb first at) (ltb at (at + 1)) (le-leb first at from) (lt-ltb at (at + 1) (omega arith)) in
-          subst P (sym same)
-          (ap (N at) new_is ∙ (get_or-set_same cells at cell [] less
-          ∙ (cell_is ∙ (ap M (so_far at ∙ ap W off) ∙ sym (ap W on))))))
-      | inr other ↦
-          (let W : Bool → List Entry = λ b. with_one (cell_at old k) e (leb first k && b) in
-          let test : ltb k at ≡ ltb k (at + 1) = elim other [
-            | inl l ↦ lt-ltb k at l ∙ sym (lt-ltb k (at + 1) (omega (arith, l)))
-            | inr l ↦ le-ltb k at (omega (arith, l)) ∙ sym (le-ltb k (at + 1) (omega (arith, l)))
-          ] in
-          let apart : k ≡ at → ⊥ = λ s. elim other [
-            | inl l ↦ omega (arith, l, s)
-            | inr l ↦ omega (arith, l, s)
-          ] in
-          ap (N k) new_is ∙ (get_or-set_other cells at k cell [] apart ∙ (so_far k ∙ ap W test)))
-    ]
-
 up_to : (k n : ℕ) → ltb k (n + 1) ≡ leb k n
 up_to k n = elim (cases_lt n k) [
   | inl l ↦ le-ltb k (n + 1) (omega (arith, l)) ∙ sym (lt-leb k n l)
   | inr l ↦ lt-ltb k (n + 1) (omega (arith, l)) ∙ sym (le-leb k n l)
 ]
-
--- at the end each place of the run has it
-pub run_all : (old new : List (List Entry)) (e : Entry) (first last end k : ℕ) → end ≡ last + 1
-    → cell_at new k ≡ with_one (cell_at old k) e (is_before first end k)
-    → cell_at new k ≡ with_one (cell_at old k) e (is_between first last k)
-run_all old new e first last end k is h =
-    let W : ℕ → List Entry = λ n. with_one (cell_at old k) e (is_before first n k) in
-    let V : Bool → List Entry = λ b. with_one (cell_at old k) e (leb first k && b) in
-    h ∙ (ap W is ∙ ap V (up_to k last))
 
 -- ---- entries by their places
 added : (p : Entry → Bool) (before : List Entry) (e : Entry) (t : Bool) → p e ≡ t
@@ -174,14 +123,6 @@ added p before e true h = let F : List Entry → List Entry = λ xs. filter p be
     sym (filter-append p before (e ∷ []) ∙ ap F (kept p e [] h))
 added p before e false h = let F : List Entry → List Entry = λ xs. filter p before ++ xs in
     sym (filter-append p before (e ∷ []) ∙ (ap F (left_out p e [] h) ∙ append-nil (filter p before)))
-
--- a place that gets the next entry where it belongs there
-pub place_more : (p : Entry → Bool) (es old new : List Entry) (i : ℕ) (e : Entry) (t : Bool) → i < length es
-    → e ≡ get_or es i e → old ≡ filter p (take i es) → new ≡ cond t (old ++ e ∷ []) old → p e ≡ t
-    → new ≡ filter p (take (i + 1) es)
-place_more p es old new i e t within is before after h =
-    let F : List Entry → List Entry = λ xs. cond t (xs ++ e ∷ []) xs in
-    after ∙ (ap F before ∙ (added p (take i es) e t h ∙ ap (filter p) (sym (one_more es i e within is))))
 
 -- places that have their entries are all places
 pub places_are : (area : Rect4) (along : Along) (es taken : List Entry) (places : List (List Entry))

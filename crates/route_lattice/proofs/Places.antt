@@ -1,7 +1,6 @@
 -- The number of a node and its places.
-use Rattle.std.proofs.Common.{◌≡◌, ℕ, zero, suc, ◌<◌, ◌≤◌, ◌+◌, ◌-◌, ◌*◌, ◌/◌, ◌%◌, arith, ap, ◌∙◌, sym, refl}
+use Rattle.std.proofs.Common.{◌≡◌, ℕ, zero, suc, ◌<◌, ◌+◌, ◌-◌, ◌*◌, ◌/◌, ◌%◌, arith, ap, ◌∙◌, sym, refl}
 use Rattle.std.proofs.lemmas.Nat.{div-add-mod', mod_below, mul-add-lt, div_below}
-use Rattle.std.proofs.Math.Nat.{mul-le-mul_left}
 
 pub back : (w h v : ℕ) → (v / w / h * h + v / w % h) * w + v % w ≡ v
 back w h v = ap (λ n. n * w + v % w) (div-add-mod' (v / w) h) ∙ div-add-mod' v w
@@ -52,10 +51,3 @@ row_below w h n v k =
 pub on_level_below : (w h n l v : ℕ) → l < n → v < n * h * w → (l * h + v / w % h) * w + v % w < n * h * w
 on_level_below w h n l v hl k =
     node_below w h n l (v / w % h) (v % w) hl (row_below w h n v k) (mod_below v w (width_positive w (n * h) v k))
-
-pub rows_below : (w h n l v : ℕ) → l < n → v < n * h * w → l * h + v / w % h < n * h * w
-rows_below w h n l v hl k =
-    let a = mul-add-lt l h (v / w % h) n hl (row_below w h n v k) in
-    let b : 1 ≤ w = width_positive w (n * h) v k in
-    let c = mul-le-mul_left (n * h) b in
-    omega (arith, a, c)

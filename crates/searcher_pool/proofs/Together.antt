@@ -68,13 +68,6 @@ at_place [] k d lt = absurd (omega (arith, lt))
 at_place (x ∷ xs) zero d lt = refl
 at_place (x ∷ xs) (suc k) d lt = at_place xs k d (omega (arith, lt))
 
--- two lists side by side are as long
-as_long : {X Y : Type 0} (R : X → Y → Type 0) (xs : List X) (ys : List Y) → AllZip R xs ys → length xs ≡ length ys
-as_long R [] [] zip = refl
-as_long R [] (y ∷ ys) zip = absurd zip
-as_long R (x ∷ xs) [] zip = absurd zip
-as_long R (x ∷ xs) (y ∷ ys) zip = ap suc (as_long R xs ys zip.1)
-
 -- an element of the first list, and what stands beside it at the same place
 beside_at : {X Y : Type 0} (R : X → Y → Type 0) (xs : List X) (ys : List Y) (k : ℕ) (d : Y) → AllZip R xs ys
     → k < length ys → (x : X) × (get_elem? xs k ≡ maybe.some x) × R x (get_or ys k d)

@@ -39,10 +39,6 @@ no_head_of (h ∷ hs) text = rw (no_head h text, no_head_of hs text) refl
 pub items_are : (head : List ℕ) (ts : List Tree) → items_of (group_tree head ts) ≡ word_tree head ∷ ts
 items_are head ts = ap items_in (outs-Group 0 (word_tree head ∷ ts))
 
--- a group is no word
-group_is_none : (head : List ℕ) (ts : List Tree) → is_word (group_tree head ts) ≡ false
-group_is_none head ts = ap is_word_in (outs-Group 0 (word_tree head ∷ ts))
-
 -- its head
 pub headed : (head own : List ℕ) (ts : List Tree)
     → is_headed head (group_tree own ts) ≡ str_eq_ignore_ascii_case own head
@@ -60,11 +56,6 @@ headed_by (h ∷ hs) own ts = λ i. headed h own ts i || headed_by hs own ts i
 pub word_first : (text : List ℕ) (ts : List Tree)
     → filter is_word (word_tree text ∷ ts) ≡ word_tree text ∷ filter is_word ts
 word_first text ts = ap (λ (b : Bool). cond b (word_tree text ∷ filter is_word ts) (filter is_word ts)) (word_is text)
-
--- a group isn't among them
-pub group_first : (head : List ℕ) (us ts : List Tree) → filter is_word (group_tree head us ∷ ts) ≡ filter is_word ts
-group_first head us ts =
-    ap (λ (b : Bool). cond b (group_tree head us ∷ filter is_word ts) (filter is_word ts)) (group_is_none head us)
 
 -- those of a group
 pub words_are : (head : List ℕ) (ts : List Tree) → words_of (group_tree head ts) ≡ word_tree head ∷ filter is_word ts

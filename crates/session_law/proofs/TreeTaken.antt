@@ -1,5 +1,5 @@
 -- Behind blanks the next token is taken.
-use Rattle.std.proofs.Common.{◌≡◌, ℕ, ◌-◌, ◌≤◌, ◌==◌, Bool, true, false, List, [], ◌∷◌, ◌++◌, length, map}
+use Rattle.std.proofs.Common.{◌≡◌, ℕ, ◌-◌, ◌≤◌, Bool, true, false, List, [], ◌∷◌, ◌++◌, length, map}
 use Rattle.std.proofs.Common.{refl, ap, sym, ◌∙◌, subst, arith, true≢false, append_assoc}
 use Rattle.std.specs.Prelude.{if◌then◌else◌}
 use Rattle.std.specs.List.{AllByRecursion}
@@ -37,15 +37,6 @@ pub record Stands (opened : Bool) (p : Place) (bytes : List ℕ) : Type 0 where
   pub quote_is : p.context.quote ≡ 34
 
 -- ---- gaps
--- nor is one due behind a blank
-no_quote_behind : (line : Line) (b : ℕ) → AwaitsNoQuote line → AwaitsNoQuote (behind_space line (blank b))
-no_quote_behind Fresh b c = tt
-no_quote_behind Begun b c = by (b == 10)
-  where
-    by : (ends : Bool) → AwaitsNoQuote (if ends then Fresh else Begun)
-    by true = tt
-    by false = tt
-no_quote_behind Quoting b c = c
 
 -- blanks are a gap
 gap_is : (line : Line) (gap : List ℕ) → AreBlanks gap → IsGap line (map blank gap)

@@ -170,10 +170,6 @@ below_falls a x y = omega (arith, ints, clamps)
 inside_none : (low high x : ℤ) → low ≤ℤ x → x ≤ℤ high → outside_of low high x ≡ 0
 inside_none low high x h k = omega (arith, above_none low x h, above_none x high k)
 
-outside_small : (low high x : ℤ) → unsigned_abs low ≤ 2 ^ 29 → unsigned_abs high ≤ 2 ^ 29 → unsigned_abs x ≤ 2 ^ 29
-    → outside_of low high x ≤ 2 ^ 30
-outside_small low high x h k l = omega (arith, above_small low x h l, above_small x high l k)
-
 nearer : (low high x y : ℤ) → outside_of low high x ≤ unsigned_abs (y -ℤ x) + outside_of low high y
 nearer low high x y = omega (arith, above_falls low x y, below_falls high x y)
 

@@ -15,9 +15,6 @@ not_both (x ∷ xs) (y ∷ ys) p q = elim p [
   | inr s ↦ elim q [ inl t ↦ omega (arith, s.0, t) | inr t ↦ not_both xs ys s.1 t.1 ]
 ]
 
-not_own : (xs : List ℕ) → IsLower xs xs → ⊥
-not_own xs p = not_both xs xs p p
-
 both_first : (xs ys : List ℕ) → IsFirst xs ys → IsFirst ys xs → xs ≡ ys
 both_first xs ys p q = elim p [
   | inl s ↦ elim q [

@@ -13,8 +13,8 @@ use Rattle.pcb_board.specs.Boards.{BoardOf, given}
 use Rattle.pcb_board.specs.Answers.{Step}
 use Rattle.pcb_board.specs.Keeping.{Grows}
 use Rattle.pcb_board.proofs.Runs.{grows_none, grows_on, step_grows}
-use Rattle.board_turn.specs.declared.event.Deed.{Deed}
-use Rattle.board_turn.specs.declared.event.Deed.TheVariants.{Looked, Offered, Idle}
+use Rattle.board_turn.specs.declared.event.Action.{Action}
+use Rattle.board_turn.specs.declared.event.Action.TheVariants.{Snapped, Offered, NoMemory}
 use Rattle.board_turn.specs.declared.event.Event.{Event}
 use Rattle.board_turn.specs.declared.lock.PassView.{PassView}
 use Rattle.board_turn.specs.Events.{Does, Reaches, Extends, own, IsPrefix, AllNamed, committed_by, committed, offer_in}
@@ -48,17 +48,17 @@ step_one b c d o (Stale item commit) h g = g.2 ∙ sym h.2
 step_one b c d o (Wrong item commit) h g = g.2 ∙ sym h.2
 step_one b c d o (Committed number) h g = g.3 ∙ sym h.3
 
--- a deed has one end
-does_one : (b c d : BoardOf) (x : Deed) → Does b x c → Does b x d → d ≡ c
-does_one b c d Looked h g = g ∙ sym h
+-- an action has one end
+does_one : (b c d : BoardOf) (x : Action) → Does b x c → Does b x d → d ≡ c
+does_one b c d Snapped h g = g ∙ sym h
 does_one b c d (Offered o a) h g = step_one b c d o a h g
-does_one b c d Idle h g = g ∙ sym h
+does_one b c d NoMemory h g = g ∙ sym h
 
 -- events have one end
 pub reaches_one : (b c d : BoardOf) (es : List Event) → Reaches b es c → Reaches b es d → d ≡ c
 reaches_one b c d [] r q = q ∙ sym r
 reaches_one b c d (e ∷ es) r q =
-    let same : q.0 ≡ r.0 = does_one b r.0 q.0 e.deed r.1 q.1 in
+    let same : q.0 ≡ r.0 = does_one b r.0 q.0 e.action r.1 q.1 in
     reaches_one r.0 c d es r.2 (subst (λ (m : BoardOf). Reaches m es d) same q.2)
 
 -- events in two parts
@@ -75,17 +75,17 @@ reaches_whole b m c [] fs r q = subst (λ (x : BoardOf). Reaches x fs c) r q
 reaches_whole b m c (e ∷ es) fs r q = (r.0, r.1, reaches_whole r.0 m c es fs r.2 q)
 
 -- one event more
-pub reaches-snoc : (b m c : BoardOf) (es : List Event) (e : Event) → Reaches b es m → Does m e.deed c
+pub reaches-snoc : (b m c : BoardOf) (es : List Event) (e : Event) → Reaches b es m → Does m e.action c
     → Reaches b (es ++ e ∷ []) c
 reaches-snoc b m c es e r d = reaches_whole b m c es (e ∷ []) r (c, d, refl)
 
--- what a deed adds to the history
-abbrev Adds : BoardOf → Deed → BoardOf → Type 0
+-- what an action adds to the history
+abbrev Adds : BoardOf → Action → BoardOf → Type 0
 Adds b d c = (entries : List Entry)
     × (c.history ≡ b.history ++ entries) × (map offer_in entries ≡ map Some (committed_by d))
 
 -- what changes nothing adds nothing
-adds_none : (b c : BoardOf) (d : Deed) → committed_by d ≡ [] → c ≡ b → Adds b d c
+adds_none : (b c : BoardOf) (d : Action) → committed_by d ≡ [] → c ≡ b → Adds b d c
 adds_none b c d none same =
     ([], ap (λ (x : BoardOf). x.history) same ∙ sym (append-nil b.history), ap (map Some) (sym none))
 
@@ -99,48 +99,48 @@ step_adds b c o (Committed number) h =
     let first = length (given b) in
     (Join o first (first + length (new_items b.design (given b) o)) ∷ [], ap (λ (x : BoardOf). x.history) h.3, refl)
 
--- a deed adds what it commits
-does_adds : (b c : BoardOf) (d : Deed) → Does b d c → Adds b d c
-does_adds b c Looked h = adds_none b c Looked refl h
+-- an action adds what it commits
+does_adds : (b c : BoardOf) (d : Action) → Does b d c → Adds b d c
+does_adds b c Snapped h = adds_none b c Snapped refl h
 does_adds b c (Offered o a) h = step_adds b c o a h
-does_adds b c Idle h = adds_none b c Idle refl h
+does_adds b c NoMemory h = adds_none b c NoMemory refl h
 
 -- the history grows by the offers that were committed
 pub extends : (b c : BoardOf) (es : List Event) → Reaches b es c → Extends b es c
 extends b c [] r = ([], ap (λ (x : BoardOf). x.history) r ∙ sym (append-nil b.history), refl)
 extends b c (e ∷ es) r =
-    let first = does_adds b r.0 e.deed r.1 in
+    let first = does_adds b r.0 e.action r.1 in
     let more = extends r.0 c es r.2 in
     let offers : map offer_in first.0 ++ map offer_in more.0
-    ≡ map Some (committed_by e.deed) ++ map Some (committed es) = λ i. first.2 i ++ more.2 i in (
+    ≡ map Some (committed_by e.action) ++ map Some (committed es) = λ i. first.2 i ++ more.2 i in (
       first.0 ++ more.0,
       more.1 ∙ ap (λ (h : List Entry). h ++ more.0) first.1 ∙ append_assoc b.history first.0 more.0,
-      map-append offer_in first.0 more.0 ∙ offers ∙ sym (map-append Some (committed_by e.deed) (committed es)),
+      map-append offer_in first.0 more.0 ∙ offers ∙ sym (map-append Some (committed_by e.action) (committed es)),
     )
 
--- a board grows by a deed
-does_grows : (b c : BoardOf) (d : Deed) → Does b d c → Grows b c
-does_grows b c Looked h = grows_none b c h
+-- a board grows by an action
+does_grows : (b c : BoardOf) (d : Action) → Does b d c → Grows b c
+does_grows b c Snapped h = grows_none b c h
 does_grows b c (Offered o a) h = step_grows b c o a h
-does_grows b c Idle h = grows_none b c h
+does_grows b c NoMemory h = grows_none b c h
 
 -- a board grows by events
 pub reaches_grows : (b c : BoardOf) (es : List Event) → Reaches b es c → Grows b c
 reaches_grows b c [] r = grows_none b c r
-reaches_grows b c (e ∷ es) r = grows_on b r.0 c (does_grows b r.0 e.deed r.1) (reaches_grows r.0 c es r.2)
+reaches_grows b c (e ∷ es) r = grows_on b r.0 c (does_grows b r.0 e.action r.1) (reaches_grows r.0 c es r.2)
 
 -- what a step keeps, events keep
 module _ (P : BoardOf → Type 0) (keeps : (b c : BoardOf) (o : Offer) (a : Answer) → P b → Step b o a c → P c) where
-  -- one deed keeps it
-  does_keeps : (b c : BoardOf) (d : Deed) → P b → Does b d c → P c
-  does_keeps b c Looked p h = subst P (sym h) p
+  -- one action keeps it
+  does_keeps : (b c : BoardOf) (d : Action) → P b → Does b d c → P c
+  does_keeps b c Snapped p h = subst P (sym h) p
   does_keeps b c (Offered o a) p h = keeps b c o a p h
-  does_keeps b c Idle p h = subst P (sym h) p
+  does_keeps b c NoMemory p h = subst P (sym h) p
 
   -- all events keep it
   pub reaches_keeps : (b c : BoardOf) (es : List Event) → P b → Reaches b es c → P c
   reaches_keeps b c [] p r = subst P (sym r) p
-  reaches_keeps b c (e ∷ es) p r = reaches_keeps r.0 c es (does_keeps b r.0 e.deed p r.1) r.2
+  reaches_keeps b c (e ∷ es) p r = reaches_keeps r.0 c es (does_keeps b r.0 e.action p r.1) r.2
 
 -- ---- names and what was seen
 pub named_snoc : (n : ℕ) (es : List Event) (e : Event) → AllNamed n es → e.name < n → AllNamed n (es ++ e ∷ [])

@@ -12,7 +12,7 @@ use Rattle.atomic_table.specs.Table.{State, Me, Act, keeps, takes, gives, step, 
 use Rattle.atomic_table.specs.Table.{carried_after}
 use Rattle.atomic_table.proofs.Lists.{at_set, at_snoc, at_longer, set_again, set_else, exchanged}
 use Rattle.pcb_board.specs.Boards.{BoardOf}
-use Rattle.board_turn.specs.declared.event.Deed.{Deed}
+use Rattle.board_turn.specs.declared.event.Action.{Action}
 use Rattle.board_turn.specs.declared.event.Event.{Event}
 use Rattle.board_turn.specs.declared.lock.Opening.{Opening}
 use Rattle.board_turn.specs.declared.lock.PassView.{PassView}
@@ -276,8 +276,8 @@ role_on events more serving ps (Holds t) never it = absurd (never t refl)
 next_served : (x : ℕ) → x + 1 < 2 ^ 64 → (x + 1) % 2 ^ 64 ≡ x + 1
 next_served x h = omega arith
 
--- the holder notes its deed, and gives the board back
-given : (k : Opening) (s : Lock_state) (id : ℕ) (p : PassView) (t : ℕ) (d : Deed) (b c : BoardOf) (h : Kept k s)
+-- the holder notes its action, and gives the board back
+given : (k : Opening) (s : Lock_state) (id : ℕ) (p : PassView) (t : ℕ) (d : Action) (b c : BoardOf) (h : Kept k s)
     → get_elem? s.views id ≡ maybe.some (view_of k (p ∷ []) (Holds t)) → Reaches k.board.value p.seen b → Does b d c
     → Kept k record {
       words = set s.words 1 ((slice_index s.words 1 + 1) % 2 ^ 64);
@@ -356,7 +356,7 @@ given k s id p t d b c h at legal did =
     last_seen (x ∷ xs) = x.seen
 
 -- the addition keeps the rule, at the seat as it stands
-gives_at : (k : Opening) (slots id : ℕ) (p : PassView) (t : ℕ) (d : Deed) (b c : BoardOf)
+gives_at : (k : Opening) (slots id : ℕ) (p : PassView) (t : ℕ) (d : Action) (b c : BoardOf)
     → Reaches k.board.value p.seen b → Does b d c
     → Allows (Kept k) slots id (view_of k (p ∷ []) (Holds t), (0, Some c) ∷ []) 1 (λ n. (n + 1) % 2 ^ 64)
     (Advances d (step slots 1 1 0 maybe.none) (view_of k (p ∷ []) (Holds t), (0, Some c) ∷ []))
@@ -373,7 +373,7 @@ gives_at k slots id p t d b c legal did s h homes at small =
     )
 
 -- the addition to the served number keeps the rule
-pub advances : (k : Opening) (slots id : ℕ) (me : Me Slot View) (p : PassView) (t : ℕ) (d : Deed) (b c : BoardOf)
+pub advances : (k : Opening) (slots id : ℕ) (me : Me Slot View) (p : PassView) (t : ℕ) (d : Action) (b c : BoardOf)
     → me ≡ (view_of k (p ∷ []) (Holds t), (0, Some c) ∷ []) → Reaches k.board.value p.seen b → Does b d c
     → Allows (Kept k) slots id me 1 (λ n. (n + 1) % 2 ^ 64) (Advances d (step slots 1 1 0 maybe.none) me)
 advances k slots id me p t d b c is legal did = subst

@@ -3,7 +3,7 @@ use Rattle.std.proofs.Common.{◌≡◌, ℕ, List, [], ◌∷◌, ◌++◌, map
 use Rattle.std.proofs.Common.{sym, ap, ◌∙◌, subst, Some, None}
 use Rattle.atomic_table.specs.Table.{Me, rest}
 use Rattle.pcb_board.specs.Boards.{BoardOf}
-use Rattle.board_turn.specs.declared.event.Deed.{Deed}
+use Rattle.board_turn.specs.declared.event.Action.{Action}
 use Rattle.board_turn.specs.declared.lock.Opening.{Opening}
 use Rattle.board_turn.specs.declared.lock.PassView.{PassView}
 use Rattle.board_turn.specs.declared.lock.Role.{Role}
@@ -67,8 +67,8 @@ taken_is k p t now after b s e f =
     } in
     subst (λ (x : PassView × BoardOf). HasTaken k p x.0 x.1) (λ i. (sym (ap pass_at e) i, g i)) at
 
--- a pass that took the board and noted a deed made a call
-calls_are : (z : TableId) (k : Opening) (p q r : PassView) (d : Deed) (b : BoardOf) → HasTaken k p q b
+-- a pass that took the board and noted an action made a call
+calls_are : (z : TableId) (k : Opening) (p q r : PassView) (d : Action) (b : BoardOf) → HasTaken k p q b
     → r ≡ with_event q d → Calls (pass_of z k p) (pass_of z k r) d b
 calls_are z k p q r d b t e =
     let named : ℕ → PassOf = λ n.
@@ -83,7 +83,7 @@ calls_are z k p q r d b t e =
 
 -- the whole call, from the pass before to the seat after
 pub calls_of : (z y : TableId) (k j : Opening) (p p' q : PassView) (m : Me Slot View) (old : PassOf) (turn : TurnOf)
-    (x : TableId) (d : Deed) (b : BoardOf)
+    (x : TableId) (d : Action) (b : BoardOf)
     → pass_of z j p ≡ old → old.turn ≡ turn → record { table = x; key = k } ≡ turn → y ≡ z → p' ≡ p → HasTaken k p' q b
     → HasRole k Free m → pass_at m ≡ with_event q d → Calls old (pass_of y (key_of m.0.opening) (pass_at m)) d b
 calls_of z y k j p p' q m old turn x d b is of turn_is yz pp took at then =

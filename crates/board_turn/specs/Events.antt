@@ -6,23 +6,23 @@ use Rattle.pcb_board.specs.declared.answer.Entry.{Entry}
 use Rattle.pcb_board.specs.declared.answer.Entry.TheVariants.{Join, Back}
 use Rattle.pcb_board.specs.Boards.{BoardOf}
 use Rattle.pcb_board.specs.Answers.{Step}
-use Rattle.board_turn.specs.declared.event.Deed.{Deed}
-use Rattle.board_turn.specs.declared.event.Deed.TheVariants.{Looked, Offered, Idle}
+use Rattle.board_turn.specs.declared.event.Action.{Action}
+use Rattle.board_turn.specs.declared.event.Action.TheVariants.{Snapped, Offered, NoMemory}
 use Rattle.board_turn.specs.declared.event.Event.{Event}
 
-abbrev pub event : ℕ → Deed → Event
-event n d = record { name = n; deed = d }
+abbrev pub event : ℕ → Action → Event
+event n d = record { name = n; action = d }
 
--- what one deed makes of the board
-abbrev pub Does : BoardOf → Deed → BoardOf → Type 0
-Does b Looked c = c ≡ b
+-- what one action makes of the board
+abbrev pub Does : BoardOf → Action → BoardOf → Type 0
+Does b Snapped c = c ≡ b
 Does b (Offered o a) c = Step b o a c
-Does b Idle c = c ≡ b
+Does b NoMemory c = c ≡ b
 
 -- from the board b on, the events are what the board answers, and leave the board c
 abbrev pub Reaches : BoardOf → List Event → BoardOf → Type 0
 Reaches b [] c = c ≡ b
-Reaches b (e ∷ es) c = (m : BoardOf) × Does b e.deed m × Reaches m es c
+Reaches b (e ∷ es) c = (m : BoardOf) × Does b e.action m × Reaches m es c
 
 -- the events of the pass of this name
 abbrev pub own : ℕ → List Event → List Event
@@ -38,15 +38,15 @@ abbrev pub AllNamed : ℕ → List Event → Type 0
 AllNamed n [] = Unit {0}
 AllNamed n (e ∷ es) = (e.name < n) × AllNamed n es
 
--- the offer of a deed, where it was committed
-abbrev pub committed_by : Deed → List Offer
+-- the offer of an action, where it was committed
+abbrev pub committed_by : Action → List Offer
 committed_by (Offered o (Committed number)) = o ∷ []
 committed_by _ = []
 
 -- the offers that were committed, in order
 abbrev pub committed : List Event → List Offer
 committed [] = []
-committed (e ∷ es) = committed_by e.deed ++ committed es
+committed (e ∷ es) = committed_by e.action ++ committed es
 
 -- the offer of an entry that is a join
 abbrev pub offer_in : Entry → Option Offer

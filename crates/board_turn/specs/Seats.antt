@@ -3,8 +3,8 @@ use Rattle.std.specs.Prelude.{◌≡◌, ℕ, List, [], ◌∷◌, Option, Some,
 use Rattle.atomic_table.specs.Table.{Me}
 use Rattle.atomic_table.specs.Seated.{TableId}
 use Rattle.pcb_board.specs.Boards.{BoardOf, no_board}
-use Rattle.board_turn.specs.declared.event.Deed.{Deed}
-use Rattle.board_turn.specs.declared.event.Deed.TheVariants.{Looked, Offered, Idle}
+use Rattle.board_turn.specs.declared.event.Action.{Action}
+use Rattle.board_turn.specs.declared.event.Action.TheVariants.{Snapped, Offered, NoMemory}
 use Rattle.board_turn.specs.declared.lock.Outcome.{Outcome}
 use Rattle.board_turn.specs.declared.lock.Outcome.TheVariants as outcome
 use Rattle.board_turn.specs.declared.lock.Opening.{Opening}
@@ -40,10 +40,10 @@ pub record HasTaken (k : Opening) (p q : PassView) (b : BoardOf) : Type 0 where
   pub called : AllNamed k.count q.seen
   pub legal : Reaches k.board.value q.seen b
 
-abbrev pub deed_of : Outcome → Deed
-deed_of outcome.Looked = Looked
-deed_of (outcome.Offered o a) = Offered o.value a
-deed_of outcome.Idle = Idle
+abbrev pub action_of : Outcome → Action
+action_of outcome.Snapped = Snapped
+action_of (outcome.Offered o a) = Offered o.value a
+action_of outcome.NoMemory = NoMemory
 
 -- what a seat of no pass would begin with
 abbrev pub no_opening : Opening

@@ -4,7 +4,7 @@ use mathlib.Core.Option as maybe
 use lib.ListN.{get_elem?}
 use Rattle.atomic_table.specs.Seated.{TableId}
 use Rattle.pcb_board.specs.Boards.{BoardOf}
-use Rattle.board_turn.specs.declared.event.Deed.{Deed}
+use Rattle.board_turn.specs.declared.event.Action.{Action}
 use Rattle.board_turn.specs.declared.event.Event.{Event}
 use Rattle.board_turn.specs.declared.lock.Opening.{Opening}
 use Rattle.board_turn.specs.Events.{event, Reaches, Extends, own, IsPrefix, AllNamed}
@@ -37,7 +37,7 @@ passes_of t i (suc n) = record { turn = t; name = i; seen = [] } ∷ passes_of t
 
 -- A call of the pass p, which leaves it q: the events before it begin with all that the pass had seen, have no other
 -- event of its name, and are of passes of the turn; b is the board that they leave, and the call's event comes next.
-pub record Calls (p q : PassOf) (d : Deed) (b : BoardOf) : Type 0 where
+pub record Calls (p q : PassOf) (d : Action) (b : BoardOf) : Type 0 where
   pub events : List Event
   pub before : IsPrefix p.seen events
   pub mine : own p.name events ≡ own p.name p.seen

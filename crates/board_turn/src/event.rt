@@ -4,14 +4,14 @@ use pcb_board::{Answer, Offer};
 
 /// What a pass did with the board: it took a snapshot, it made an offer that was answered so, or memory was wanting
 /// for either.
-pub enum Deed {
-    Looked,
+pub enum Action {
+    Snapped,
     Offered(Offer, Answer),
-    Idle,
+    NoMemory,
 }
 
-/// A deed of the pass of this name.
+/// An action of the pass of this name.
 pub struct Event {
     pub name: u32,
-    pub deed: Deed,
+    pub action: Action,
 }

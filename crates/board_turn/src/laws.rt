@@ -4,7 +4,7 @@
 ghost use Rattle.std.specs.Prelude.{◌≡◌, List, ◌++◌};
 ghost use Rattle.pcb_board.specs.Boards.{BoardOf};
 ghost use Rattle.pcb_board.specs.Keeping.{IsBoard, Grows};
-ghost use Rattle.board_turn.specs.declared.event.Deed.{Deed as OneDeed};
+ghost use Rattle.board_turn.specs.declared.event.Action.{Action as OneAction};
 ghost use Rattle.board_turn.specs.declared.event.Event.{Event as OneEvent};
 ghost use Rattle.board_turn.specs.Events.{Reaches, Extends};
 ghost use Rattle.board_turn.specs.Turns.{PassOf, Calls, count_of};
@@ -28,6 +28,6 @@ pub fn events_keep()
 
 /// The only pass of a turn has seen all events before its call.
 pub fn one_pass_sees_all()
-    ensures { (p q : PassOf) (d : OneDeed) (b : BoardOf) (call : Calls p q d b) → p.name ≡ 0 → count_of p.turn ≡ 1
+    ensures { (p q : PassOf) (d : OneAction) (b : BoardOf) (call : Calls p q d b) → p.name ≡ 0 → count_of p.turn ≡ 1
         → call.events ≡ p.seen }
 {}

@@ -11,7 +11,7 @@ mod lock;
 mod turn;
 
 pub use claims::{Claimer, Counter};
-pub use event::{Deed, Event};
+pub use event::{Action, Event};
 pub use gate::{Gate, NoGate};
 pub use laws::{events_keep, one_pass_sees_all};
 pub use turn::{Pass, Turn};

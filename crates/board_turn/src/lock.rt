@@ -5,7 +5,7 @@
 ghost use Rattle.std.specs.Prelude.{◌≡◌};
 ghost use Rattle.board_turn.specs.Events.{Does, Reaches};
 ghost use Rattle.board_turn.specs.inner.Lock.{with_event};
-ghost use Rattle.board_turn.specs.Seats.{pass_at, HasRole, HasBoardOut, HasTaken, deed_of};
+ghost use Rattle.board_turn.specs.Seats.{pass_at, HasRole, HasBoardOut, HasTaken, action_of};
 ghost use Rattle.board_turn.specs.declared.lock.Role.TheVariants.{Free, Waits};
 ghost use Rattle.pcb_board.specs.Boards.{BoardOf};
 
@@ -108,20 +108,20 @@ impl Play<Option<Board>, View> for Looks {
     ghost then = { Looks };
 }
 
-/// A deed, picked at a call.
+/// An action, picked at a call.
 pub(crate) trait Noted {
-    ghost use Rattle.board_turn.specs.declared.event.Deed.{Deed};
+    ghost use Rattle.board_turn.specs.declared.event.Action.{Action};
 
-    ghost deed: { Deed };
+    ghost action: { Action };
 }
 
 impl Noted for Brand {
-    ghost use Rattle.board_turn.specs.declared.event.Deed.TheVariants.{Idle};
+    ghost use Rattle.board_turn.specs.declared.event.Action.TheVariants.{NoMemory};
 
-    ghost deed = { Idle };
+    ghost action = { NoMemory };
 }
 
-/// Notes a deed, gives the board back, and serves the next ticket.
+/// Notes an action, gives the board back, and serves the next ticket.
 struct Advances<E> {
     noted: PhantomData<E>,
 }
@@ -129,7 +129,7 @@ struct Advances<E> {
 impl<E: Noted> Play<Option<Board>, View> for Advances<E> {
     ghost use Rattle.board_turn.specs.inner.Lock.{Advances};
 
-    ghost then = { Advances E.deed };
+    ghost then = { Advances E.action };
 }
 
 pub(crate) type Lock = Table<Option<Board>, View, Opening, TicketLock, Global>;
@@ -139,9 +139,9 @@ pub(crate) type LockSeat = Seat<Option<Board>, View>;
 /// What a pass did, with the offer as it was before the board took it.
 #[derive(Drop)]
 pub(crate) enum Outcome {
-    Looked,
+    Snapped,
     Offered(Snapshot<Offer>, Answer),
-    Idle,
+    NoMemory,
 }
 
 /// Draws a ticket.
@@ -188,11 +188,11 @@ pub(crate) fn take_board<R: Wait>(rt: &R, lock: &Lock, seat: &mut LockSeat, tick
 fn advance<E: Noted>(lock: &Lock, seat: &mut LockSeat, ticket: u64, board: Board, outcome: &Outcome)
     requires lock { (seat.old.table_id ≡ lock.now.shared.table_id) × (lock.now.shared.table_id.words ≡ 2) }
     requires seat { HasBoardOut lock.now.shared.key ticket seat.old.me }
-    requires noted { deed_of outcome.now ≡ E.deed }
+    requires noted { action_of outcome.now ≡ E.action }
     requires did { (b : BoardOf) × Reaches lock.now.shared.key.board.value (pass_at seat.old.me).seen b
-        × Does b (deed_of outcome.now) board }
+        × Does b (action_of outcome.now) board }
     ensures { (seat.new.table_id ≡ seat.old.table_id) × HasRole lock.now.shared.key Free seat.new.me
-        × (pass_at seat.new.me ≡ with_event (pass_at seat.old.me) (deed_of outcome.now)) }
+        × (pass_at seat.new.me ≡ with_event (pass_at seat.old.me) (action_of outcome.now)) }
 {
     let empty = lock.shared.exchange(seat, 0, Some(board));
     drop(empty);
@@ -210,9 +210,9 @@ pub(crate) fn end_call(
     requires lock { (seat.old.table_id ≡ lock.now.shared.table_id) × (lock.now.shared.table_id.words ≡ 2) }
     requires seat { HasBoardOut lock.now.shared.key ticket seat.old.me }
     requires did { (b : BoardOf) × Reaches lock.now.shared.key.board.value (pass_at seat.old.me).seen b
-        × Does b (deed_of outcome) board }
+        × Does b (action_of outcome) board }
     ensures { (seat.new.table_id ≡ seat.old.table_id) × HasRole lock.now.shared.key Free seat.new.me
-        × (pass_at seat.new.me ≡ with_event (pass_at seat.old.me) (deed_of outcome)) }
+        × (pass_at seat.new.me ≡ with_event (pass_at seat.old.me) (action_of outcome)) }
 {
     advance::<Brand>(lock, seat, ticket, board, &outcome);
 }

@@ -4,7 +4,7 @@
 ghost use Rattle.std.specs.Prelude.{◌≡◌, ◌<◌, ◌≤◌, vec_capacity, vec_len, All, map, [], IfOk, IfErr};
 ghost use Rattle.pcb_board.specs.Boards.{BoardOf};
 ghost use Rattle.pcb_board.specs.Answers.{Step, snap_of};
-ghost use Rattle.board_turn.specs.declared.event.Deed.TheVariants.{Looked, Offered, Idle};
+ghost use Rattle.board_turn.specs.declared.event.Action.TheVariants.{Snapped, Offered, NoMemory};
 ghost use Rattle.board_turn.specs.declared.lock.Role.TheVariants.{Free};
 ghost use Rattle.board_turn.specs.Lock.{view_of};
 ghost use Rattle.board_turn.specs.inner.Lock.{new_passes};
@@ -117,18 +117,18 @@ impl Turn {
     /// too is an event.
     pub fn snap<R: Wait>(&self, rt: &R, pass: &mut Pass) -> Result<Snap, AllocError>
         requires { pass.old.turn ≡ self.now }
-        ensures ok { IfOk result (λ s. (b : BoardOf) × Calls pass.old pass.new Looked b × (s ≡ snap_of b)) }
-        ensures err { IfErr result (λ _. (b : BoardOf) × Calls pass.old pass.new Idle b) }
+        ensures ok { IfOk result (λ s. (b : BoardOf) × Calls pass.old pass.new Snapped b × (s ≡ snap_of b)) }
+        ensures err { IfErr result (λ _. (b : BoardOf) × Calls pass.old pass.new NoMemory b) }
     {
         let ticket = draw_ticket(rt, &self.lock, &mut pass.seat);
         let board = take_board(rt, &self.lock, &mut pass.seat, ticket);
         match board.snap() {
             Ok(snap) => {
-                end_call(&self.lock, &mut pass.seat, ticket, board, Outcome::Looked);
+                end_call(&self.lock, &mut pass.seat, ticket, board, Outcome::Snapped);
                 Ok(snap)
             }
             Err(cause) => {
-                end_call(&self.lock, &mut pass.seat, ticket, board, Outcome::Idle);
+                end_call(&self.lock, &mut pass.seat, ticket, board, Outcome::NoMemory);
                 Err(cause)
             }
         }
@@ -141,7 +141,7 @@ impl Turn {
         ensures ok { IfOk result (λ a. (b : BoardOf) × (c : BoardOf) × Calls pass.old pass.new (Offered offer a) b
             × Step b offer a c) }
         ensures err { IfErr result (λ e. (e.offer ≡ offer)
-            × ((b : BoardOf) × Calls pass.old pass.new Idle b)) }
+            × ((b : BoardOf) × Calls pass.old pass.new NoMemory b)) }
     {
         let asked = Snapshot::of(&offer);
         let ticket = draw_ticket(rt, &self.lock, &mut pass.seat);
@@ -153,7 +153,7 @@ impl Turn {
                 Ok(answer)
             }
             Err(back) => {
-                let outcome = Outcome::Idle;
+                let outcome = Outcome::NoMemory;
                 end_call(&self.lock, &mut pass.seat, ticket, board, outcome);
                 Err(back)
             }

@@ -201,7 +201,7 @@ impl Board {
         ensures ok { IfOk result (λ a. Step self.old offer a self.new) }
         ensures err { IfErr result (λ e. (e.offer ≡ offer) × (self.new ≡ self.old) × MayLackMemory self.old offer) }
     {
-        match self.weigh(&offer) {
+        match self.check(&offer) {
             Ok(Ok(new)) => self.commit(offer, new),
             Ok(Err(answer)) => {
                 drop(offer);
@@ -212,7 +212,7 @@ impl Board {
     }
 
     // The new items of an offer that is to be committed, or else the answer.
-    fn weigh(&self, offer: &Offer) -> Result<Result<List<Item>, Answer>, AllocError>
+    fn check(&self, offer: &Offer) -> Result<Result<List<Item>, Answer>, AllocError>
         ensures heard { IfOk result (λ r. IfOk r (λ new. IsHeard self.now offer.now)) }
         ensures clear { IfOk result (λ r. IfOk r (λ new. FailsLeast (IsClearOn self.now offer.now) None)) }
         ensures new { IfOk result (λ r. IfOk r (λ new.

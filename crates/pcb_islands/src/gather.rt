@@ -63,13 +63,13 @@ fn open<C: Copper>(
 
 /// The copper and the net of which islands are sought.
 #[derive(Drop)]
-pub(crate) struct Task<'a, C: Copper> {
+pub(crate) struct Gatherer<'a, C: Copper> {
     pub d: &'a Design,
     pub c: &'a C,
     pub net: u32,
 }
 
-impl<'a, C: Copper> Task<'a, C> {
+impl<'a, C: Copper> Gatherer<'a, C> {
     /// Lets the pin at place `k` of the net's list join the island that has its pad, or open one.
     fn gather(
         &self,

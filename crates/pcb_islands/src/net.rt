@@ -7,7 +7,7 @@ ghost use Rattle.pcb_model.specs.declared.design.Design.{Design as TheDesign};
 ghost use Rattle.pcb_model.specs.Sound.{IsSound, Serves};
 ghost use Rattle.pcb_islands.specs.Islands.{AreIslands, IsComplete};
 
-use crate::gather::Task;
+use crate::gather::Gatherer;
 use geo_kernel::List;
 use pcb_model::{Copper, Design, pairs_are_symmetric};
 use std::alloc::{AllocError, Global};
@@ -34,9 +34,9 @@ pub fn islands<C: Copper>(
     ensures { IfOk result (AreIslands d.now (C.items c.now) net) }
 {
     c.in_order();
-    let task = Task { d, c, net };
+    let gatherer = Gatherer { d, c, net };
     let pins = d.nets.as_slice()[net as usize].pins.as_slice();
-    let found = task.gather_all(alloc, pins)?;
+    let found = gatherer.gather_all(alloc, pins)?;
     Ok(List::from_vec(found))
 }
 

@@ -20,8 +20,8 @@ use Rattle.pcb_board.proofs.Runs.{grows_on, step_grows}
 use Rattle.least_offer.specs.Least.{IsLeastOffer}
 use Rattle.least_offer.specs.Late.{IsFair}
 use Rattle.route_plan.specs.Plans.{IsOfferOf}
-use Rattle.board_turn.specs.declared.event.Deed.{Deed}
-use Rattle.board_turn.specs.declared.event.Deed.TheVariants.{Offered}
+use Rattle.board_turn.specs.declared.event.Action.{Action}
+use Rattle.board_turn.specs.declared.event.Action.TheVariants.{Offered}
 use Rattle.board_turn.specs.declared.event.Event.{Event}
 use Rattle.board_turn.specs.Events.{event, Does, Reaches, own, IsPrefix}
 use Rattle.board_turn.specs.Turns.{TurnOf, Calls, opening, count_of}
@@ -64,14 +64,14 @@ told_later p old b c name drawn note grows told =
     }
 
 -- what a call tells of the events, the boards and the notes, from what the worker knew
-pub record Moved (t : TurnOf) (q : turn.PassOf) (events : List Event) (d : Deed) (known b c : BoardOf) : Type 0 where
+pub record Moved (t : TurnOf) (q : turn.PassOf) (events : List Event) (d : Action) (known b c : BoardOf) : Type 0 where
   pub seen : IsPrefix q.seen (events ++ event q.name d ∷ [])
   pub reached : Reaches (opening t) (events ++ event q.name d ∷ []) c
   pub then_is : Grows known b
   pub grows : Grows known c
   pub notes : noted (own q.name (events ++ event q.name d ∷ [])) ≡ noted (own q.name q.seen) ++ note_of d
 
-module _ (p : PassOf) (t : TurnOf) (q r : turn.PassOf) (drawn : List ℕ) (notes : List OfferNote) (d : Deed)
+module _ (p : PassOf) (t : TurnOf) (q r : turn.PassOf) (drawn : List ℕ) (notes : List OfferNote) (d : Action)
     (b : BoardOf) (k : Knows p t q drawn notes) (calls : Calls q r d b) where
   abbrev e : Event
   e = event q.name d
@@ -104,7 +104,7 @@ module _ (p : PassOf) (t : TurnOf) (q r : turn.PassOf) (drawn : List ℕ) (notes
         own-append q.name calls.events (e ∷ [])
         ∙ ap (λ (xs : List Event). xs ++ own q.name (e ∷ [])) calls.mine
         ∙ ap (λ (xs : List Event). own q.name q.seen ++ xs) own_event in
-        ap noted owns ∙ flat_map-append (λ (x : Event). note_of x.deed) (own q.name q.seen) (e ∷ [])
+        ap noted owns ∙ flat_map-append (λ (x : Event). note_of x.action) (own q.name q.seen) (e ∷ [])
         ∙ ap (λ (xs : List OfferNote). noted (own q.name q.seen) ++ xs) (append-nil (note_of d));
   }
 
@@ -129,7 +129,7 @@ module _ (p : PassOf) (t : TurnOf) (q r : turn.PassOf) (drawn : List ℕ) (notes
       })
 
 -- one pass of a turn sees no event between its calls
-pub alone : (p : PassOf) (t : TurnOf) (q r : turn.PassOf) (drawn : List ℕ) (notes : List OfferNote) (d : Deed)
+pub alone : (p : PassOf) (t : TurnOf) (q r : turn.PassOf) (drawn : List ℕ) (notes : List OfferNote) (d : Action)
     (b : BoardOf) (k : Knows p t q drawn notes) → Calls q r d b → count_of t ≡ p.workers → p.workers ≡ 1
     → b ≡ k.board
 alone p t q r drawn notes d b k calls count only =
@@ -232,7 +232,7 @@ knows_offered p t q r drawn notes o a net b c k calls is_turn kept kept_b plan t
 pub fewer_seen : (t : TurnOf) (xs ys : List Event) → IsPrefix xs ys → entries_left t ys ≤ entries_left t xs
 fewer_seen t xs ys (rest, is) =
     let same = ap commits is in
-    let both = sum_by-append (λ (e : Event). commit_of e.deed) xs rest in
+    let both = sum_by-append (λ (e : Event). commit_of e.action) xs rest in
     omega (arith, same, both)
 
 -- a commit of a worker leaves fewer
@@ -250,9 +250,9 @@ fewer_left t q r o number b c is calls step below =
       | inr ge ↦ absurd (step.0.room (record { worker = below; reached = omega (arith, ge) }))
     ] in
     let seen_is = ap (λ (x : turn.PassOf). commits x.seen) calls.now_is in
-    let both = sum_by-append (λ (x : Event). commit_of x.deed) calls.events (e ∷ []) in
+    let both = sum_by-append (λ (x : Event). commit_of x.action) calls.events (e ∷ []) in
     let one : commits (e ∷ []) ≡ 1 =
-    sum_by-cons (λ (x : Event). commit_of x.deed) e []
+    sum_by-cons (λ (x : Event). commit_of x.action) e []
     ∙ ap (λ (z : Bool). cond z 1 0 + 0) (lt-ltb o.worker 16 below) in
     let fewer = fewer_seen t q.seen calls.events calls.before in
     omega (arith, stood, cap, open_yet, seen_is, both, one, fewer)

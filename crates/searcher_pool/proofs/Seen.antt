@@ -14,8 +14,8 @@ use Rattle.pcb_board.specs.Boards.{BoardOf, board_at, given, is_of_worker, worke
 use Rattle.pcb_board.specs.Answers.{Step}
 use Rattle.pcb_board.specs.Keeping.{IsBoard, Grows}
 use Rattle.pcb_board.proofs.Prefix.{board_before, board_whole}
-use Rattle.board_turn.specs.declared.event.Deed.{Deed}
-use Rattle.board_turn.specs.declared.event.Deed.TheVariants.{Looked, Offered, Idle}
+use Rattle.board_turn.specs.declared.event.Action.{Action}
+use Rattle.board_turn.specs.declared.event.Action.TheVariants.{Snapped, Offered, NoMemory}
 use Rattle.board_turn.specs.declared.event.Event.{Event}
 use Rattle.board_turn.specs.Events.{Does, Reaches}
 use Rattle.searcher_pool.specs.Passes.{IsSpent}
@@ -71,21 +71,21 @@ by_answer b c o (Wrong item commit) h = ap (λ (x : BoardOf). worker_entries x.h
 by_answer b c o (Committed number) h =
     ap (λ (x : BoardOf). worker_entries x.history) h.3 ∙ workers_more b.history (join_entry b o)
 
-by_deed : (b c : BoardOf) (d : Deed) → Does b d c
+by_action : (b c : BoardOf) (d : Action) → Does b d c
     → worker_entries c.history ≡ worker_entries b.history + commit_of d
-by_deed b c Looked h = ap (λ (x : BoardOf). worker_entries x.history) h ∙ omega arith
-by_deed b c (Offered o a) h = by_answer b c o a h
-by_deed b c Idle h = ap (λ (x : BoardOf). worker_entries x.history) h ∙ omega arith
+by_action b c Snapped h = ap (λ (x : BoardOf). worker_entries x.history) h ∙ omega arith
+by_action b c (Offered o a) h = by_answer b c o a h
+by_action b c NoMemory h = ap (λ (x : BoardOf). worker_entries x.history) h ∙ omega arith
 
 abbrev pub commits : List Event → ℕ
-commits es = sum_by (λ (e : Event). commit_of e.deed) es
+commits es = sum_by (λ (e : Event). commit_of e.action) es
 
 -- the entries of workers are those that stood and the commits
 pub workers_after : (b c : BoardOf) (es : List Event) → Reaches b es c
     → worker_entries c.history ≡ worker_entries b.history + commits es
 workers_after b c [] h = ap (λ (x : BoardOf). worker_entries x.history) h ∙ omega arith
 workers_after b c (e ∷ es) (m, did, more) =
-    let first = by_deed b m e.deed did in
+    let first = by_action b m e.action did in
     let rest = workers_after m c es more in
-    let both = sum_by-cons (λ (x : Event). commit_of x.deed) e es in
+    let both = sum_by-cons (λ (x : Event). commit_of x.action) e es in
     omega (arith, first, rest, both)

@@ -17,8 +17,8 @@ use Rattle.route_plan.specs.declared.plans.Planned.TheVariants as planned
 use Rattle.route_plan.specs.Plans.{IsOfferOf, IsWhole}
 use Rattle.least_offer.specs.Least.{MayBeMade}
 use Rattle.least_offer.specs.Late.{IsFair}
-use Rattle.board_turn.specs.declared.event.Deed.{Deed}
-use Rattle.board_turn.specs.declared.event.Deed.TheVariants.{Looked, Offered, Idle}
+use Rattle.board_turn.specs.declared.event.Action.{Action}
+use Rattle.board_turn.specs.declared.event.Action.TheVariants.{Snapped, Offered, NoMemory}
 use Rattle.board_turn.specs.declared.event.Event.{Event}
 use Rattle.board_turn.specs.Events.{Does, Reaches, IsPrefix}
 use Rattle.board_turn.specs.Turns.{TurnOf, Calls, opening}
@@ -87,7 +87,7 @@ pub record Went (p : PassOf) (t : TurnOf) (v w : Worker) : Type 0 where
   pub after : IsAfter v w
 
 -- a call that makes no offer
-pub quiet : (p : PassOf) (t : TurnOf) (v w : Worker) (d : Deed) (b : BoardOf) → IsReady p t v → IsKept p v w
+pub quiet : (p : PassOf) (t : TurnOf) (v w : Worker) (d : Action) (b : BoardOf) → IsReady p t v → IsKept p v w
     → w.notes.items ≡ v.notes.items → note_of d ≡ [] → Does b d b → Calls v.pass w.pass d b → Went p t v w
 quiet p t v w d b ready kept notes silent did calls =
     let k = ready.knows in
@@ -127,13 +127,13 @@ pub record Looks {E : Type 0} (p : PassOf) (t : TurnOf) (v w : Worker) (r : Resu
 
 pub looked : {E : Type 0} (p : PassOf) (t : TurnOf) (v w : Worker) (r : Result SnapOf E) → IsReady p t v → IsKept p v w
     → w.notes.items ≡ v.notes.items
-    → IfOk r (λ s. (b : BoardOf) × Calls v.pass w.pass Looked b × (s ≡ snap_of b))
-    → IfErr r (λ e. (b : BoardOf) × Calls v.pass w.pass Idle b) → Looks p t v w r
+    → IfOk r (λ s. (b : BoardOf) × Calls v.pass w.pass Snapped b × (s ≡ snap_of b))
+    → IfErr r (λ e. (b : BoardOf) × Calls v.pass w.pass NoMemory b) → Looks p t v w r
 looked p t v w (Err e) ready kept notes found (b, calls) =
-    let went = quiet p t v w Idle b ready kept notes refl refl calls in
+    let went = quiet p t v w NoMemory b ready kept notes refl refl calls in
     record { ready = went.ready; after = record { after = went.after; same = notes }; snap = tt }
 looked p t v w (Ok s) ready kept notes (b, calls, is) failed =
-    let went = quiet p t v w Looked b ready kept notes refl refl calls in
+    let went = quiet p t v w Snapped b ready kept notes refl refl calls in
     record {
       ready = went.ready;
       after = record { after = went.after; same = notes };
@@ -141,7 +141,7 @@ looked p t v w (Ok s) ready kept notes (b, calls, is) failed =
         board = b;
         reached = subst (λ (es : List Event). Reaches (opening t) es b)
             (sym (ap (λ (x : turn.PassOf). x.seen) calls.now_is))
-            (moved p t v.pass w.pass v.drawn.items v.notes.items Looked b ready.knows calls b refl).reached;
+            (moved p t v.pass w.pass v.drawn.items v.notes.items Snapped b ready.knows calls b refl).reached;
         is = is;
       };
     }

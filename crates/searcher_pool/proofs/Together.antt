@@ -18,8 +18,8 @@ use Rattle.pcb_board.specs.Boards.{BoardOf}
 use Rattle.pcb_board.specs.Answers.{Step}
 use Rattle.pcb_board.specs.Keeping as board
 use Rattle.board_turn.specs.Claims.{once_below}
-use Rattle.board_turn.specs.declared.event.Deed.{Deed}
-use Rattle.board_turn.specs.declared.event.Deed.TheVariants.{Looked, Offered, Idle}
+use Rattle.board_turn.specs.declared.event.Action.{Action}
+use Rattle.board_turn.specs.declared.event.Action.TheVariants.{Snapped, Offered, NoMemory}
 use Rattle.board_turn.specs.declared.event.Event.{Event}
 use Rattle.board_turn.specs.Events.{Does, Reaches, own, AllNamed}
 use Rattle.board_turn.specs.Turns.{TurnOf, Ended, opening}
@@ -97,7 +97,7 @@ IsOf p n note = (note.offer.worker ≡ n) × (note.offer.penalty ≡ p.penalty)
 
 -- the event is of a worker of the pass, and so is its offer
 abbrev IsOurs : PassOf → Event → Type 0
-IsOurs p e = (e.name < p.workers) × All (IsOf p e.name) (note_of e.deed)
+IsOurs p e = (e.name < p.workers) × All (IsOf p e.name) (note_of e.action)
 
 abbrev AreOurs : PassOf → List Event → Type 0
 AreOurs p [] = Unit {0}
@@ -116,7 +116,7 @@ All-behind P (x ∷ xs) ys all = All-behind P xs ys (λ k d lt. all (suc k) d (o
 -- notes of the first event, and of those behind it
 noted-cons : (n : ℕ) (e : Event) (es : List Event)
     → noted (own n (e ∷ es)) ≡ noted (cond (eqb e.name n) (e ∷ []) []) ++ noted (own n es)
-noted-cons n e es = flat_map-append (λ (x : Event). note_of x.deed) (cond (eqb e.name n) (e ∷ []) []) (own n es)
+noted-cons n e es = flat_map-append (λ (x : Event). note_of x.action) (cond (eqb e.name n) (e ∷ []) []) (own n es)
 
 are_ours : (p : PassOf) (es : List Event) → AllNamed p.workers es
     → ((n : ℕ) → All (IsOf p n) (noted (own n es))) → AreOurs p es
@@ -124,9 +124,9 @@ are_ours p [] named each = tt
 are_ours p (e ∷ es) (first, named) each =
     let parts : (n : ℕ) → All (IsOf p n) (noted (cond (eqb e.name n) (e ∷ []) []) ++ noted (own n es)) =
     λ n. subst (All (IsOf p n)) (noted-cons n e es) (each n) in
-    let mine : All (IsOf p e.name) (note_of e.deed) =
+    let mine : All (IsOf p e.name) (note_of e.action) =
     subst (All (IsOf p e.name)) (ap (λ (z : Bool). noted (cond z (e ∷ []) [])) (eq-eqb e.name e.name refl)
-    ∙ append-nil (note_of e.deed))
+    ∙ append-nil (note_of e.action))
     (All-front (IsOf p e.name) (noted (cond (eqb e.name e.name) (e ∷ []) [])) (noted (own e.name es))
     (parts e.name)) in (
       (first, mine),
@@ -143,7 +143,7 @@ record AreTold (p : PassOf) (b : BoardOf) (es : List Event) (c : BoardOf) : Type
   commits : (n : ℕ) → commits_in (noted (own n es)) ≡ joins_by n (length b.history + 1) entries
 
 -- an event without a commit changes nothing
-skipped : (p : PassOf) (b m c : BoardOf) (e : Event) (es : List Event) → m ≡ b → commits_in (note_of e.deed) ≡ []
+skipped : (p : PassOf) (b m c : BoardOf) (e : Event) (es : List Event) → m ≡ b → commits_in (note_of e.action) ≡ []
     → AreTold p m es c → AreTold p b (e ∷ es) c
 skipped p b m c e es same none rest =
     let r : AreTold p b es c = subst (λ (x : BoardOf). AreTold p x es c) same rest in
@@ -159,15 +159,15 @@ skipped p b m c e es same none rest =
     }
   where
     by : (n : ℕ) (z : Bool) → commits_in (noted (cond z (e ∷ []) [])) ≡ []
-    by n true = ap commits_in (append-nil (note_of e.deed)) ∙ none
+    by n true = ap commits_in (append-nil (note_of e.action)) ∙ none
     by n false = refl
 
 -- a commit is a join of its worker
 joined_on : (p : PassOf) (b m c : BoardOf) (name : ℕ) (o : Offer) (number : ℕ) (es : List Event)
-    → Step b o (Committed number) m → IsOurs p (record { name = name; deed = Offered o (Committed number) })
-    → AreTold p m es c → AreTold p b (record { name = name; deed = Offered o (Committed number) } ∷ es) c
+    → Step b o (Committed number) m → IsOurs p (record { name = name; action = Offered o (Committed number) })
+    → AreTold p m es c → AreTold p b (record { name = name; action = Offered o (Committed number) } ∷ es) c
 joined_on p b m c name o number es step ours rest =
-    let e : Event = record { name = name; deed = Offered o (Committed number) } in
+    let e : Event = record { name = name; action = Offered o (Committed number) } in
     let is = (All-head (IsOf p name) (record { offer = o; answer = Committed number }) [] ours.1) in
     let grown = ap (λ (x : BoardOf). x.history) step.3 in
     let count : length m.history ≡ number = ap length grown ∙ length-append b.history _ ∙ sym step.2 in
@@ -189,7 +189,7 @@ joined_on p b m c name o number es step ours rest =
   where
     by : (n : ℕ) (z : Bool) → commits_in (noted (cond z (record {
       name = name;
-      deed = Offered o (Committed number);
+      action = Offered o (Committed number);
     } ∷ []) [])) ≡ cond z ((o, number) ∷ []) []
     by n true = refl
     by n false = refl
@@ -202,20 +202,20 @@ all_told p b c [] same ours = record {
   joins = All-nil (IsJoinOf p);
   commits = λ n. refl;
 }
-all_told p b c (e ∷ es) (m, did, more) (mine, ours) = by e.name e.deed did mine (all_told p m c es more ours)
+all_told p b c (e ∷ es) (m, did, more) (mine, ours) = by e.name e.action did mine (all_told p m c es more ours)
   where
-    by : (name : ℕ) (d : Deed) → Does b d m → IsOurs p (record { name = name; deed = d }) → AreTold p m es c
-        → AreTold p b (record { name = name; deed = d } ∷ es) c
-    by name Looked did mine rest = skipped p b m c (record { name = name; deed = Looked }) es did refl rest
-    by name Idle did mine rest = skipped p b m c (record { name = name; deed = Idle }) es did refl rest
+    by : (name : ℕ) (d : Action) → Does b d m → IsOurs p (record { name = name; action = d }) → AreTold p m es c
+        → AreTold p b (record { name = name; action = d } ∷ es) c
+    by name Snapped did mine rest = skipped p b m c (record { name = name; action = Snapped }) es did refl rest
+    by name NoMemory did mine rest = skipped p b m c (record { name = name; action = NoMemory }) es did refl rest
     by name (Offered o Full) did mine rest =
-        skipped p b m c (record { name = name; deed = Offered o Full }) es did.1 refl rest
+        skipped p b m c (record { name = name; action = Offered o Full }) es did.1 refl rest
     by name (Offered o (Malformed clause)) did mine rest =
-        skipped p b m c (record { name = name; deed = Offered o (Malformed clause) }) es did.2 refl rest
+        skipped p b m c (record { name = name; action = Offered o (Malformed clause) }) es did.2 refl rest
     by name (Offered o (Stale item commit)) did mine rest =
-        skipped p b m c (record { name = name; deed = Offered o (Stale item commit) }) es did.2 refl rest
+        skipped p b m c (record { name = name; action = Offered o (Stale item commit) }) es did.2 refl rest
     by name (Offered o (Wrong item commit)) did mine rest =
-        skipped p b m c (record { name = name; deed = Offered o (Wrong item commit) }) es did.2 refl rest
+        skipped p b m c (record { name = name; action = Offered o (Wrong item commit) }) es did.2 refl rest
     by name (Offered o (Committed number)) did mine rest = joined_on p b m c name o number es did mine rest
 
 module _ (p : PassOf) (t : TurnOf) (b : BoardOf) (passes : List turn.PassOf) (logs : List WorkerLog)

@@ -14,8 +14,8 @@ use Rattle.least_offer.specs.Least.{IsLeastOffer}
 use Rattle.least_offer.specs.Late.{IsFair}
 use Rattle.route_plan.specs.Plans.{IsWhole, IsShutIn}
 use Rattle.board_turn.specs.Claims.{times, once_below}
-use Rattle.board_turn.specs.declared.event.Deed.{Deed}
-use Rattle.board_turn.specs.declared.event.Deed.TheVariants.{Looked, Offered, Idle}
+use Rattle.board_turn.specs.declared.event.Action.{Action}
+use Rattle.board_turn.specs.declared.event.Action.TheVariants.{Snapped, Offered, NoMemory}
 use Rattle.board_turn.specs.declared.event.Event.{Event}
 use Rattle.board_turn.specs.Events.{Reaches, own}
 use Rattle.searcher_pool.specs.declared.log.OfferNote.{OfferNote}
@@ -117,13 +117,13 @@ pub record IsTold (p : PassOf) (old new : BoardOf) (worker : ℕ) (drawn : List 
   pub fair : IsFair note.answer
 
 -- the offers among events, with their answers
-abbrev pub note_of : Deed → List OfferNote
-note_of Looked = []
+abbrev pub note_of : Action → List OfferNote
+note_of Snapped = []
 note_of (Offered o a) = record { offer = o; answer = a } ∷ []
-note_of Idle = []
+note_of NoMemory = []
 
 abbrev pub noted : List Event → List OfferNote
-noted events = flat_map (λ (e : Event). note_of e.deed) events
+noted events = flat_map (λ (e : Event). note_of e.action) events
 
 -- ---- how a task ends
 -- xs stand among ys, in order

@@ -6,7 +6,7 @@ use lib.ListN.{get_elem?}
 use Rattle.atomic_table.specs.Table.{State, Me, Step, rest}
 use Rattle.board_turn.specs.Claims.{total, one_if, once_below}
 use Rattle.pcb_board.specs.Boards.{BoardOf}
-use Rattle.board_turn.specs.declared.event.Deed.{Deed}
+use Rattle.board_turn.specs.declared.event.Action.{Action}
 use Rattle.board_turn.specs.declared.event.Event.{Event}
 use Rattle.board_turn.specs.declared.lock.Opening.{Opening}
 use Rattle.board_turn.specs.declared.lock.PassView.{PassView}
@@ -82,7 +82,7 @@ abbrev pub with_role : View → Role → View
 with_role v r = record v { role = r }
 
 -- the pass with one event more
-abbrev pub with_event : PassView → Deed → PassView
+abbrev pub with_event : PassView → Action → PassView
 with_event p d = pass_view p.name (p.seen ++ event p.name d ∷ [])
 
 abbrev pub without_first : View → View
@@ -118,7 +118,7 @@ abbrev pub Looks : Step Slot → Me Slot View → ℕ → Me Slot View → Type 
 Looks s me found now = (k : Opening) (p : PassView) (t : ℕ) → me ≡ (view_of k (p ∷ []) (Waits t), [])
     → (found ≢ t → now ≡ me) × (found ≡ t → Served k p t now)
 
--- an addition to the served number by the seat that holds the board: the deed is noted, and the slot given up
-abbrev pub Advances : Deed → Step Slot → Me Slot View → ℕ → Me Slot View → Type 0
+-- an addition to the served number by the seat that holds the board: the action is noted, and the slot given up
+abbrev pub Advances : Action → Step Slot → Me Slot View → ℕ → Me Slot View → Type 0
 Advances d s me found now = (k : Opening) (p : PassView) (t : ℕ) → me.0 ≡ view_of k (p ∷ []) (Holds t)
     → now ≡ (view_of k (with_event p d ∷ []) Free, rest me.1)

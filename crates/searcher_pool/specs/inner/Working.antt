@@ -14,8 +14,8 @@ use Rattle.route_plan.specs.Mapped.{IsMappedOn}
 use Rattle.route_plan.specs.declared.plans.Planned.{Planned}
 use Rattle.route_plan.specs.Plans.{IsOfferOf, Plans}
 use Rattle.board_turn.specs.Claims.{CounterOf}
-use Rattle.board_turn.specs.declared.event.Deed.{Deed}
-use Rattle.board_turn.specs.declared.event.Deed.TheVariants.{Offered}
+use Rattle.board_turn.specs.declared.event.Action.{Action}
+use Rattle.board_turn.specs.declared.event.Action.TheVariants.{Offered}
 use Rattle.board_turn.specs.declared.event.Event.{Event}
 use Rattle.board_turn.specs.Events.{Reaches, own, IsPrefix}
 use Rattle.board_turn.specs.Turns.{TurnOf, opening, count_of}
@@ -110,14 +110,14 @@ abbrev pub EndsSeen : PassOf → TurnOf → turn.PassOf → List OfferNote → �
 EndsSeen p t q notes net = (b : BoardOf) → Reaches (opening t) q.seen b → EndsTask p (opening t) b notes net
 
 -- 1 for a commit of a worker
-abbrev pub commit_of : Deed → ℕ
+abbrev pub commit_of : Action → ℕ
 commit_of (Offered o (Committed number)) = cond (is_worker o.worker) 1 0
 commit_of _ = 0
 
 -- how many entries of workers may still come after these events
 abbrev pub entries_left : TurnOf → List Event → ℕ
 entries_left t events =
-    (opening t).cap - (worker_entries (opening t).history + sum_by (λ (e : Event). commit_of e.deed) events)
+    (opening t).cap - (worker_entries (opening t).history + sum_by (λ (e : Event). commit_of e.action) events)
 
 abbrev pub attempt_of : Answer → Attempt
 attempt_of (Committed number) = Joined

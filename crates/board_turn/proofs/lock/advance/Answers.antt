@@ -1,6 +1,6 @@
 use Rattle.std.proofs.Common.{rules, ap, ◌∙◌, subst, sym}
 use Rattle.atomic_table.specs.Table.{Me}
-use Rattle.board_turn.specs.declared.event.Deed.{Deed}
+use Rattle.board_turn.specs.declared.event.Action.{Action}
 use Rattle.board_turn.specs.declared.lock.Role.TheVariants.{Free}
 use Rattle.board_turn.specs.declared.lock.View.{View}
 use Rattle.board_turn.specs.Events.{Does}
@@ -15,10 +15,10 @@ pub fetch_add-requires : goal.fetch_add-requires
 fetch_add-requires g c =
     let put = slot_put _ _ _ _ _ c.requires.seat c.exchange-empty.ensures.3 in
     let did = c.requires.did in
-    let noted = subst (λ (d : Deed). Does did.0 d c.args.board) c.requires.noted did.2 in (
+    let noted = subst (λ (d : Action). Does did.0 d c.args.board) c.requires.noted did.2 in (
       search rules,
       search rules,
-      advances _ _ _ _ (pass_at c.args.seat.now.me) c.args.ticket g.E.Noted.deed did.0 c.args.board put did.1 noted,
+      advances _ _ _ _ (pass_at c.args.seat.now.me) c.args.ticket g.E.Noted.action did.0 c.args.board put did.1 noted,
     )
 
 pub returns : goal.returns

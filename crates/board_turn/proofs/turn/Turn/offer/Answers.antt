@@ -1,5 +1,5 @@
 use Rattle.std.proofs.Common.{◌∙◌, ap}
-use Rattle.board_turn.specs.declared.event.Deed.TheVariants.{Offered, Idle}
+use Rattle.board_turn.specs.declared.event.Action.TheVariants.{Offered, NoMemory}
 use Rattle.board_turn.specs.Seats.{pass_at, key_of}
 use Rattle.board_turn.specs.inner.Lock.{with_event}
 use Rattle.board_turn.proofs.Seats.{calls_of}
@@ -35,7 +35,7 @@ returns-in-Err-clause-err g c =
         calls_of seat.table_id c.end_call-in-Err.new.seat.table_id c.self.inside.lock.shared.key
             (key_of seat.me.0.opening) (pass_at seat.me) (pass_at c.draw_ticket-ticket.new.seat.me)
             (pass_at c.take_board-board.new.seat.me) c.end_call-in-Err.new.seat.me c.args.pass.now c.args.self.now _
-            Idle _
+            NoMemory _
             c.pass.view_is c.requires c.self.view_is (back.0 ∙ took.seat.0 ∙ wait.0) wait.2 took.taken back.1 back.2,
       ),
     )

@@ -1,5 +1,5 @@
 use Rattle.std.proofs.Common.{◌∙◌, ◌++◌, ◌∷◌, [], List, ap, refl, subst, sym}
-use Rattle.board_turn.specs.declared.event.Deed.TheVariants.{Idle}
+use Rattle.board_turn.specs.declared.event.Action.TheVariants.{NoMemory}
 use Rattle.searcher_pool.specs.declared.log.OfferNote.{OfferNote}
 use Rattle.searcher_pool.specs.inner.Pools.{PoolOf}
 use Rattle.searcher_pool.specs.inner.Working.{Attempts}
@@ -80,7 +80,7 @@ returns-in-Ok-offer-clause-attempt g c =
 
 pub returns-in-Err-offer-clause-ready : goal.returns-in-Err-offer-clause-ready
 returns-in-Err-offer-clause-ready g c =
-    (quiet c.args.self.now.pass c.args.self.now.turn c.args.worker.now _ Idle c.in-Err-offer.ensures.err.1.0
+    (quiet c.args.self.now.pass c.args.self.now.turn c.args.worker.now _ NoMemory c.in-Err-offer.ensures.err.1.0
     c.requires.at_task.ready
     (record {
       number = refl;
@@ -94,7 +94,7 @@ returns-in-Err-offer-clause-ready g c =
 
 pub returns-in-Err-offer-clause-after : goal.returns-in-Err-offer-clause-after
 returns-in-Err-offer-clause-after g c =
-    (quiet c.args.self.now.pass c.args.self.now.turn c.args.worker.now _ Idle c.in-Err-offer.ensures.err.1.0
+    (quiet c.args.self.now.pass c.args.self.now.turn c.args.worker.now _ NoMemory c.in-Err-offer.ensures.err.1.0
     c.requires.at_task.ready
     (record {
       number = refl;

@@ -4,7 +4,7 @@ use Rattle.pcb_islands.specs.declared.net.Island.{Island}
 use Rattle.pcb_islands.specs.Islands.{pins_of, AreIslandsOf}
 use Rattle.pcb_islands.specs.inner.Progress.{IsProgress}
 use Rattle.pcb_islands.proofs.Gathering.{none_gathered}
-use Rattle.pcb_islands.proofs.gather.Task.gather_all.Goals as goal
+use Rattle.pcb_islands.proofs.gather.Gatherer.gather_all.Goals as goal
 
 pub loop-k-init : goal.loop-k-init
 loop-k-init g c =

@@ -6,7 +6,7 @@ use Rattle.std.proofs.lemmas.Result.{on_ok_weaker}
 use Rattle.pcb_islands.specs.inner.Progress.{IsProgress}
 use Rattle.pcb_islands.proofs.Classes.{pad_in}
 use Rattle.pcb_islands.proofs.Gathering.{joins, opens}
-use Rattle.pcb_islands.proofs.gather.Task.gather.Goals as goal
+use Rattle.pcb_islands.proofs.gather.Gatherer.gather.Goals as goal
 
 pub join-requires : goal.join-requires
 join-requires g c =

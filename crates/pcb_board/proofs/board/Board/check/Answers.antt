@@ -15,7 +15,7 @@ use Rattle.board_offers.specs.Judging.{known_by, Judges}
 use Rattle.board_offers.specs.Offers.{IsMakeable}
 use Rattle.pcb_board.specs.Indexing.{board_of, IsIndexed}
 use Rattle.pcb_board.proofs.Standing.{trouble_within, troubled_step}
-use Rattle.pcb_board.proofs.board.Board.weigh.Goals as goal
+use Rattle.pcb_board.proofs.board.Board.check.Goals as goal
 
 pub judge-judged-requires-clause-given : goal.judge-judged-requires-clause-given
 judge-judged-requires-clause-given c =

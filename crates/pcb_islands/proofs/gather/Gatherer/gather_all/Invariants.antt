@@ -1,6 +1,6 @@
 use Rattle.std.proofs.Common.{take}
 use Rattle.pcb_islands.specs.inner.Progress.{IsProgress}
-use Rattle.pcb_islands.proofs.gather.Task.gather_all.Given as goal
+use Rattle.pcb_islands.proofs.gather.Gatherer.gather_all.Given as goal
 
 abbrev pub invariant-loop-k : goal.invariant-loop-k
 invariant-loop-k g l =

@@ -19,8 +19,6 @@ pub on_not : (b : Bool) {P Q : Type 0} → OnFalse b P → (P → Q) → OnTrue 
 on_not true p f = tt
 on_not false p f = f p
 
-}
-
 module _ (graph : MoveGraph) (sound : IsSound graph) (turns : IsMutual graph) (goals : List ℕ) where
   -- the move that leads back
   abbrev hop_back : (a to : ℕ) → HasMoveTo graph to a → Hop

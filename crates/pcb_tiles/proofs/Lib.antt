@@ -7,3 +7,4 @@ pub mod Changes
 pub mod Shelves
 pub mod Filling
 pub mod Sought
+pub mod Scans

@@ -121,7 +121,7 @@ common fa la fb lb = elim (cases_lt la fb) [
       ]
 ]
 
-has_both : (a b c d : Bool) → a ≡ true → b ≡ true → c ≡ true → d ≡ true → ((a && b) && (c && d)) ≡ true
+pub has_both : (a b c d : Bool) → a ≡ true → b ≡ true → c ≡ true → d ≡ true → ((a && b) && (c && d)) ≡ true
 has_both true true true true e f g h = refl
 has_both true true true false e f g h = h
 has_both true true false d e f g h = g

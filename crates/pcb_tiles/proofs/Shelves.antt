@@ -37,7 +37,7 @@ pairs_left R (x ∷ xs) ys h =
     AllPairs-cons R x xs (all_left (R x) xs ys (pairs_head R x (xs ++ ys) h))
     (pairs_left R xs ys (pairs_tail R x (xs ++ ys) h))
 
-pairs_right : {X : Type 0} (R : X → X → Type 0) (xs ys : List X) → AllPairs R (xs ++ ys) → AllPairs R ys
+pub pairs_right : {X : Type 0} (R : X → X → Type 0) (xs ys : List X) → AllPairs R (xs ++ ys) → AllPairs R ys
 pairs_right R [] ys h = h
 pairs_right R (x ∷ xs) ys h = pairs_right R xs ys (pairs_tail R x (xs ++ ys) h)
 
@@ -256,7 +256,7 @@ with_low a low rest h =
     ∙ (ap G (filter-append q low rest ∙ ap K (below_high a.id low h))
     ∙ append_assoc low (filter p rest) (a ∷ filter q rest))
 
-append_none : (xs : List Item) → xs ++ [] ≡ xs
+pub append_none : (xs : List Item) → xs ++ [] ≡ xs
 append_none [] = refl
 append_none (x ∷ xs) = let F : List Item → List Item = λ y. x ∷ y in ap F (append_none xs)
 

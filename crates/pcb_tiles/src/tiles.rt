@@ -18,6 +18,7 @@ use crate::block::{Block, block_around};
 use crate::cells::{Grid, empty_grid};
 use crate::fill::{chunks_of, fill_grid, held_copies};
 use crate::parts::{with_less, with_more};
+use crate::scan::{first_in_chunks, is_wide};
 use crate::search::{Blocking, Clashing, Joining, Seeks, any_in_rows, best_in_rows};
 use crate::shelf::{Shelf, first_from, item_of};
 use geo_kernel::{List, Rect4};
@@ -133,8 +134,8 @@ impl Tiles {
         block_around(self.area, bounds, by)
     }
 
-    // The least id that is sought in a block of tiles.
-    fn seek<S: Seeks, L: Ledger>(
+    // The least id that is sought in a block of tiles, tile by tile.
+    fn seek_tiles<S: Seeks, L: Ledger>(
         &self,
         s: &S,
         b: &Block,
@@ -149,6 +150,71 @@ impl Tiles {
         best_in_rows(s, from, self.grid.get().as_slice(), b, steps)
     }
 
+    // The same, item by item.
+    fn seek_items<S: Seeks, L: Ledger>(
+        &self,
+        s: &S,
+        b: &Block,
+        from: u64,
+        steps: &mut Steps<L>,
+    ) -> Option<u64>
+        requires ready { S.ready s.now }
+        requires block { IsBlockIn self.now.area b.now }
+        ensures so { Sought (S.yes s.now) (S.no s.now) from self.now.area b.now self.now.items result }
+        ensures cost { steps.new ≤ steps.old + entries_in self.now.area self.now.items b.now }
+    {
+        first_in_chunks(s, self.area, b, from, self.shelf.get().as_slice(), steps)
+    }
+
+    // Whether a block has more tiles than there are items.
+    fn is_sparse_in(&self, b: &Block) -> bool {
+        is_wide(b, self.shelf.get().as_slice().len())
+    }
+
+    // The least id that is sought in a block of tiles.
+    fn seek<S: Seeks, L: Ledger>(
+        &self,
+        s: &S,
+        b: &Block,
+        from: u64,
+        steps: &mut Steps<L>,
+    ) -> Option<u64>
+        requires ready { S.ready s.now }
+        requires block { IsBlockIn self.now.area b.now }
+        ensures so { Sought (S.yes s.now) (S.no s.now) from self.now.area b.now self.now.items result }
+        ensures cost { steps.new ≤ steps.old + entries_in self.now.area self.now.items b.now }
+    {
+        if self.is_sparse_in(b) {
+            return self.seek_items(s, b, from, steps);
+        }
+        self.seek_tiles(s, b, from, steps)
+    }
+
+    // Whether something is sought in a block of tiles, tile by tile.
+    fn any_in_tiles<S: Seeks, L: Ledger>(&self, s: &S, b: &Block, steps: &mut Steps<L>) -> bool
+        requires ready { S.ready s.now }
+        requires block { IsBlockIn self.now.area b.now }
+        ensures yes { OnTrue result (IsMet (S.yes s.now) self.now.items) }
+        ensures no { OnFalse result (Sought (S.yes s.now) (S.no s.now) 0 self.now.area b.now self.now.items None) }
+        ensures cost { steps.new ≤ steps.old + entries_in self.now.area self.now.items b.now }
+    {
+        any_in_rows(s, self.grid.get().as_slice(), b, steps)
+    }
+
+    // The same, item by item.
+    fn any_in_items<S: Seeks, L: Ledger>(&self, s: &S, b: &Block, steps: &mut Steps<L>) -> bool
+        requires ready { S.ready s.now }
+        requires block { IsBlockIn self.now.area b.now }
+        ensures yes { OnTrue result (IsMet (S.yes s.now) self.now.items) }
+        ensures no { OnFalse result (Sought (S.yes s.now) (S.no s.now) 0 self.now.area b.now self.now.items None) }
+        ensures cost { steps.new ≤ steps.old + entries_in self.now.area self.now.items b.now }
+    {
+        match self.seek_items(s, b, 0, steps) {
+            Some(_) => true,
+            None => false,
+        }
+    }
+
     // Whether something is sought in a block of tiles.
     fn seek_any<S: Seeks, L: Ledger>(&self, s: &S, b: &Block, steps: &mut Steps<L>) -> bool
         requires ready { S.ready s.now }
@@ -157,7 +223,10 @@ impl Tiles {
         ensures no { OnFalse result (Sought (S.yes s.now) (S.no s.now) 0 self.now.area b.now self.now.items None) }
         ensures cost { steps.new ≤ steps.old + entries_in self.now.area self.now.items b.now }
     {
-        any_in_rows(s, self.grid.get().as_slice(), b, steps)
+        if self.is_sparse_in(b) {
+            return self.any_in_items(s, b, steps);
+        }
+        self.any_in_tiles(s, b, steps)
     }
 
     // What is kept with one more item.

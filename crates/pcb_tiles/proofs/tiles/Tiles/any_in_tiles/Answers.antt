@@ -9,7 +9,7 @@ use Rattle.pcb_tiles.proofs.Grids.{has_block, met_of, none_met, cost_is}
 use Rattle.pcb_tiles.proofs.Ranges.{on_true, on_false}
 use Rattle.pcb_tiles.specs.Shelves.{flat}
 use Rattle.pcb_tiles.specs.Spread.{Spread}
-use Rattle.pcb_tiles.proofs.tiles.Tiles.seek_any.Goals as goal
+use Rattle.pcb_tiles.proofs.tiles.Tiles.any_in_tiles.Goals as goal
 
 pub any_in_rows-requires-clause-rows : goal.any_in_rows-requires-clause-rows
 any_in_rows-requires-clause-rows g c =

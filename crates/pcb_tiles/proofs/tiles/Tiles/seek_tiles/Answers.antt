@@ -8,7 +8,7 @@ use Rattle.pcb_tiles.specs.Searches.{HasBlock, RowsSoFar, Sought}
 use Rattle.pcb_tiles.proofs.Grids.{has_block, sought_of, cost_is}
 use Rattle.pcb_tiles.specs.Shelves.{flat}
 use Rattle.pcb_tiles.specs.Spread.{Spread}
-use Rattle.pcb_tiles.proofs.tiles.Tiles.seek.Goals as goal
+use Rattle.pcb_tiles.proofs.tiles.Tiles.seek_tiles.Goals as goal
 
 pub best_in_rows-requires-clause-rows : goal.best_in_rows-requires-clause-rows
 best_in_rows-requires-clause-rows g c =

@@ -6,10 +6,11 @@ mod names;
 mod notes;
 mod words;
 
-use crate::names::why_refused;
+use crate::names::{Refused, why_refused};
 use crate::notes::{WANTING_NOTE, WORDS_NOTE, note_of};
 use crate::words::read_call;
 use desk_io::{HostDesk, KeptText};
+use fault_notes::{Fault, note_text, why_unwritten};
 use picture_call::{PictureCall, draw};
 use route_words::WordFault;
 use std::process::ExitCode;
@@ -49,19 +50,35 @@ fn call_of<R: Env + AllocGlobal>(rt: &R) -> Result<PictureCall, WordFault> {
 fn drawn<R: Files + Eprint + AllocGlobal>(rt: &R, call: &PictureCall) -> u8 {
     let mut desk = KeptText::new(rt.alloc(), HostDesk::new(rt));
     let outcome = draw(rt.alloc(), call, &mut desk);
-    let _ = match note_of(rt.alloc(), &desk, call, &outcome) {
+    let _ = match note_of(rt, &desk, call, &outcome) {
         Ok(note) => eprint!(rt; "{note}"),
         Err(_) => eprint!(rt; "{WANTING_NOTE}"),
     };
     outcome.code()
 }
 
+// Says why the picture of this name isn't to be drawn.
+fn tell_refused<R: Files + Eprint + AllocGlobal>(rt: &R, output: &str, why: Refused) {
+    let note = match why {
+        Refused::NoPlace => {
+            let fault = Fault::Session(why_unwritten(rt, output));
+            note_text(rt.alloc(), fault, output, output, None)
+        }
+        _ => {
+            let words = why.words();
+            format!(in rt.alloc(); "{output}: {words}\n")
+        }
+    };
+    let _ = match note {
+        Ok(note) => eprint!(rt; "{note}"),
+        Err(_) => eprint!(rt; "{WANTING_NOTE}"),
+    };
+}
+
 fn run<R: Files + Eprint + AllocGlobal>(rt: &R, call: &PictureCall) -> u8 {
     match why_refused(rt, call) {
         Some(why) => {
-            let output = call.output.as_str();
-            let words = why.words();
-            let _ = eprint!(rt; "{output}: {words}\n");
+            tell_refused(rt, call.output.as_str(), why);
             why.code()
         }
         None => drawn(rt, call),

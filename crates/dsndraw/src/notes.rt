@@ -5,10 +5,13 @@ use desk_io::{Desk, KeptText};
 use dsn_shapes::table::{BAD_QUOTE_BYTE, NO_LIST, QUOTE_OPEN, SURPLUS, TOO_DEEP, UNCLOSED};
 use dsn_shapes::{Refusal, What};
 use dsn_tree::TreeFault;
-use fault_notes::{Counted, Fault, Said, note_text, place_of};
+use fault_notes::{
+    Bar, Counted, Fault, Said, note_text, place_of, why_unread, why_unwritten, word_at,
+};
 use picture_call::{MAX_BYTES, Outcome, PictureCall};
 use ses_reader::table::{NO_LAYER, NO_MEASURE, NO_NET, NO_PADSTACK, NO_SESSION};
 use std::alloc::{AllocError, Global};
+use std::rt::Files;
 
 /// What is said of refused words.
 pub(crate) const WORDS_NOTE: &str = "\
@@ -82,27 +85,39 @@ const TOO_LONG: Fault = Fault::Told(Said::Limit {
     number: MAX_BYTES as u128,
 });
 
+// The fault with why the file of this name can't be read or written, which the host is asked once more.
+fn fault_with_bar<R: Files + AllocGlobal>(rt: &R, file: &str, fault: Fault) -> Fault {
+    match fault {
+        Fault::Told(Said::ReadFault) => Fault::Unread(why_unread(rt, file)),
+        Fault::Session(_) => Fault::Session(why_unwritten(rt, file)),
+        _ => fault,
+    }
+}
+
 // The note of a fault in the file of this name.
-fn file_note<D: Desk>(
-    alloc: Global,
+fn file_note<R: Files + AllocGlobal, D: Desk>(
+    rt: &R,
     desk: &KeptText<D>,
     file: &str,
     fault: Fault,
 ) -> Result<String, AllocError> {
     match fault {
-        Fault::Memory => String::from_str(alloc, WANTING_NOTE),
-        _ => note_text(alloc, fault, file, file, desk.text_of(file)),
+        Fault::Memory => String::from_str(rt.alloc(), WANTING_NOTE),
+        _ => {
+            let fault = fault_with_bar(rt, file, fault);
+            note_text(rt.alloc(), fault, file, file, desk.text_of(file))
+        }
     }
 }
 
 // Where a session is refused: its line and column, or the byte where its text wasn't kept.
-fn session_front<D: Desk>(
+fn session_front(
     alloc: Global,
-    desk: &KeptText<D>,
     file: &str,
+    text: Option<&[u8]>,
     at: u64,
 ) -> Result<String, AllocError> {
-    match desk.text_of(file) {
+    match text {
         Some(text) => {
             let place = place_of(text, at);
             let line = place.line;
@@ -113,42 +128,61 @@ fn session_front<D: Desk>(
     }
 }
 
+// The word at a place of a text, behind a colon; nothing where the text wasn't kept or shows none.
+fn session_word(alloc: Global, text: Option<&[u8]>, at: u64) -> Result<String, AllocError> {
+    match text {
+        Some(text) => {
+            let word = word_at(text, at);
+            if word.is_empty() {
+                Ok(String::new(alloc))
+            } else {
+                format!(in alloc; ": {word}")
+            }
+        }
+        None => Ok(String::new(alloc)),
+    }
+}
+
 // The note of a refused session.
-fn session_note<D: Desk>(
+fn session_note(
     alloc: Global,
-    desk: &KeptText<D>,
     file: &str,
+    text: Option<&[u8]>,
     number: u8,
     at: u64,
 ) -> Result<String, AllocError> {
-    let front = session_front(alloc, desk, file, at)?;
+    let front = session_front(alloc, file, text, at)?;
+    let word = session_word(alloc, text, at)?;
     let words = session_words(number);
-    format!(in alloc; "{front}: the session is refused: {words} (session refusal {number})\n")
+    format!(in alloc; "{front}: the session is refused: {words}{word} (session refusal {number})\n")
 }
 
 /// The note of an outcome, which is empty where the picture is drawn.
-pub(crate) fn note_of<D: Desk>(
-    alloc: Global,
+pub(crate) fn note_of<R: Files + AllocGlobal, D: Desk>(
+    rt: &R,
     desk: &KeptText<D>,
     call: &PictureCall,
     outcome: &Outcome,
 ) -> Result<String, AllocError> {
     let design = call.design.as_str();
+    let output = call.output.as_str();
     let session = match &call.session {
         Some(name) => name.as_str(),
         None => design,
     };
     match outcome {
-        Outcome::Drawn => Ok(String::new(alloc)),
-        Outcome::DesignUnread => file_note(alloc, desk, design, Fault::Told(Said::ReadFault)),
-        Outcome::SessionUnread => file_note(alloc, desk, session, Fault::Told(Said::ReadFault)),
-        Outcome::DesignTooLong => file_note(alloc, desk, design, TOO_LONG),
-        Outcome::SessionTooLong => file_note(alloc, desk, session, TOO_LONG),
-        Outcome::DesignMisspelt(fault) => file_note(alloc, desk, design, misspelt(fault)),
-        Outcome::DesignRefused(refusal) => file_note(alloc, desk, design, refused(*refusal)),
-        Outcome::SessionMisspelt(fault) => file_note(alloc, desk, session, misspelt(fault)),
-        Outcome::SessionRefused { number, at } => session_note(alloc, desk, session, *number, *at),
-        Outcome::Unwritten => file_note(alloc, desk, call.output.as_str(), Fault::Session),
-        Outcome::Memory => file_note(alloc, desk, design, Fault::Memory),
+        Outcome::Drawn => Ok(String::new(rt.alloc())),
+        Outcome::DesignUnread => file_note(rt, desk, design, Fault::Told(Said::ReadFault)),
+        Outcome::SessionUnread => file_note(rt, desk, session, Fault::Told(Said::ReadFault)),
+        Outcome::DesignTooLong => file_note(rt, desk, design, TOO_LONG),
+        Outcome::SessionTooLong => file_note(rt, desk, session, TOO_LONG),
+        Outcome::DesignMisspelt(fault) => file_note(rt, desk, design, misspelt(fault)),
+        Outcome::DesignRefused(refusal) => file_note(rt, desk, design, refused(*refusal)),
+        Outcome::SessionMisspelt(fault) => file_note(rt, desk, session, misspelt(fault)),
+        Outcome::SessionRefused { number, at } => {
+            session_note(rt.alloc(), session, desk.text_of(session), *number, *at)
+        }
+        Outcome::Unwritten => file_note(rt, desk, output, Fault::Session(Bar::Other)),
+        Outcome::Memory => file_note(rt, desk, design, Fault::Memory),
     }
 }

@@ -3,18 +3,25 @@
 #![tactic(auto)]
 
 mod names;
+mod progress;
 
 use crate::names::refused;
-use board_turn::NoGate;
-use desk_io::{Desk, HostDesk, HostSink, KeptText, WatchedOutput};
+use crate::progress::{ClearedSink, Manner, Progress};
+use board_turn::{Gate, NoGate};
+use desk_io::{Desk, HostDesk, HostSink, KeptText, Sink, WatchedOutput};
 use dsn_route::{Status, dsn_route};
-use fault_notes::{Fault, KeptLine, note_text, read_line};
+use fault_notes::{
+    Bar, Fault, KeptLine, Said, find_trouble, note_text, read_line, why_unread, why_unwritten,
+    word_note,
+};
 use route_words::{Command, read_words};
 use std::alloc::{AllocError, Global};
+use std::io::IsTerminal;
 use std::process::ExitCode;
 use std::rt::{Env, Files};
 use std::sync::Wait;
 use std::thread::Threads;
+use std::time::Clock;
 use std::{env, io};
 
 // The words without the program's own name. Words that are no text are wrong words.
@@ -42,7 +49,7 @@ fn fault_of(status: Status, line: &[u8]) -> Option<Fault> {
         }
         Status::WriteFault => {
             if line.is_empty() {
-                Some(Fault::Session)
+                Some(Fault::Session(Bar::Other))
             } else {
                 Some(Fault::Report)
             }
@@ -51,14 +58,36 @@ fn fault_of(status: Status, line: &[u8]) -> Option<Fault> {
     }
 }
 
+// The fault with why a file can't be read or written, which the host is asked once more.
+fn fault_with_bar<R: Files + AllocGlobal>(
+    rt: &R,
+    fault: Fault,
+    input: &str,
+    output: &str,
+) -> Fault {
+    match fault {
+        Fault::Told(Said::ReadFault) => Fault::Unread(why_unread(rt, input)),
+        Fault::Session(_) => Fault::Session(why_unwritten(rt, output)),
+        _ => fault,
+    }
+}
+
+// The note of words that are no call, or of one that names no file.
+fn word_fault_note(alloc: Global, words: &[String], fault: Fault) -> Result<String, AllocError> {
+    match (fault, find_trouble(words)) {
+        (Fault::Told(Said::Usage { .. }), Some(trouble)) => word_note(alloc, trouble),
+        _ => note_text(alloc, fault, "the generated board", "", None),
+    }
+}
+
 // The note of a fault, with the names of the files that the words give. A place is told by the text that was read.
-fn note_of<D: Desk>(
-    alloc: Global,
+fn note_of<R: Files + AllocGlobal, D: Desk>(
+    rt: &R,
     words: &[String],
     desk: &KeptText<D>,
     fault: Fault,
 ) -> Result<String, AllocError> {
-    match read_words(alloc, words) {
+    match read_words(rt.alloc(), words) {
         Ok(
             Command::Route {
                 input,
@@ -66,72 +95,134 @@ fn note_of<D: Desk>(
                 knobs: _,
             },
         ) => {
+            let fault = fault_with_bar(rt, fault, input.as_str(), output.as_str());
             let text = desk.text_of(input.as_str());
-            note_text(alloc, fault, input.as_str(), output.as_str(), text)
+            note_text(rt.alloc(), fault, input.as_str(), output.as_str(), text)
         }
-        _ => note_text(alloc, fault, "the generated board", "", None),
+        _ => word_fault_note(rt.alloc(), words, fault),
     }
 }
 
 // Says on standard error why there is no report. Where that fails too, the status alone tells.
-fn tell<R: Eprint>(rt: &R, note: Result<String, AllocError>) {
+fn tell<R: Eprint>(rt: &R, note: &Result<String, AllocError>) {
     let _ = match note {
         Ok(note) => eprint!(rt; "{note}"),
         Err(_) => eprint!(rt; "dsnroute: memory was wanting\n"),
     };
 }
 
-// Makes the call, and says why where it ends without a report. Whoever stopped reading that is told nothing.
-fn call<R: Files + Print + Eprint + Threads + Wait + AllocGlobal + Sync>(
-    rt: &R,
-    words: &[String],
-) -> Status {
-    let mut desk = KeptText::new(rt.alloc(), HostDesk::new(rt));
-    let output = WatchedOutput::new(rt);
-    let mut sink = KeptLine::new(HostSink::new(&output));
-    let outcome = dsn_route(rt, rt.alloc(), words, &mut desk, &mut sink, &NoGate);
-    let status = outcome.status;
-    drop(outcome);
-    if output.has_no_reader() {
-        return status;
-    }
-    if let Some(fault) = fault_of(status, sink.line()) {
-        tell(rt, note_of(rt.alloc(), words, &desk, fault));
-    }
-    status
+/// How a call ended, and what is to be told of that where there is no report.
+#[derive(Drop)]
+struct Ended {
+    status: Status,
+    note: Option<Result<String, AllocError>>,
 }
 
-fn run<R: Files + Print + Eprint + Threads + Wait + AllocGlobal + Sync>(
+// Makes the call over the host's files.
+fn call<R: Files + Threads + Wait + AllocGlobal + Sync, S: Sink + Drop, G: Gate + Sync>(
     rt: &R,
     words: &[String],
+    sink: S,
+    gate: &G,
+) -> Ended {
+    let mut desk = KeptText::new(rt.alloc(), HostDesk::new(rt));
+    let mut kept = KeptLine::new(sink);
+    let outcome = dsn_route(rt, rt.alloc(), words, &mut desk, &mut kept, gate);
+    let status = outcome.status;
+    drop(outcome);
+    let note = match fault_of(status, kept.line()) {
+        Some(fault) => Some(note_of(rt, words, &desk, fault)),
+        None => None,
+    };
+    Ended { status, note }
+}
+
+// The call with a sign of life, where one is asked for and there is a clock.
+fn call_shown<R: Files + Eprint + Clock + Threads + Wait + AllocGlobal + Sync, S: Sink + Drop>(
+    rt: &R,
+    words: &[String],
+    manner: Manner,
+    sink: S,
+) -> Ended {
+    if manner == Manner::Quiet {
+        return call(rt, words, sink, &NoGate);
+    }
+    let Some(progress) = Progress::begin(rt, manner) else {
+        return call(rt, words, sink, &NoGate);
+    };
+    let cleared = ClearedSink {
+        sink,
+        progress: &progress,
+    };
+    let ended = call(rt, words, cleared, &progress);
+    progress.clear();
+    ended
+}
+
+// Makes the call, and says why where it ends without a report. Whoever stopped reading that is told nothing.
+fn call_told<R: Files + Print + Eprint + Clock + Threads + Wait + AllocGlobal + Sync>(
+    rt: &R,
+    words: &[String],
+    manner: Manner,
+) -> Status {
+    let output = WatchedOutput::new(rt);
+    let ended = call_shown(rt, words, manner, HostSink::new(&output));
+    if !output.has_no_reader()
+        && let Some(note) = &ended.note
+    {
+        tell(rt, note);
+    }
+    ended.status
+}
+
+fn run<R: Files + Print + Eprint + Clock + Threads + Wait + AllocGlobal + Sync>(
+    rt: &R,
+    words: &[String],
+    manner: Manner,
 ) -> Status {
     match refused(rt, words) {
         Some(status) => status,
-        None => call(rt, words),
+        None => call_told(rt, words, manner),
     }
 }
 
 // What the program ends with where its words can't be had: for want of memory, or since one is no text.
-fn unread<R: Files + Print + Eprint + Threads + Wait + AllocGlobal + Sync>(
+fn unread<R: Files + Print + Eprint + Clock + Threads + Wait + AllocGlobal + Sync>(
     rt: &R,
     fault: &io::Error,
 ) -> Status {
     if fault.kind() == io::ErrorKind::OutOfMemory {
-        tell(rt, Err(AllocError));
+        tell(rt, &Err(AllocError));
         return Status::Memory;
     }
     match wrong_words(rt.alloc()) {
-        Ok(words) => run(rt, &words),
+        Ok(words) => run(rt, &words, Manner::Quiet),
         Err(fault) => {
-            tell(rt, Err(fault));
+            tell(rt, &Err(fault));
             Status::Memory
         }
     }
 }
 
+// How progress is shown: as lines where the environment asks for it by DSNROUTE_PROGRESS=1, on one line where standard
+// error is a terminal, and else not at all.
+fn manner_of<R: Env + AllocGlobal>(rt: &R, is_terminal: bool) -> Manner {
+    match env::var(rt, "DSNROUTE_PROGRESS") {
+        Ok(value) if value.as_str() == "1" => Manner::Lines,
+        _ => {
+            if is_terminal {
+                Manner::Line
+            } else {
+                Manner::Quiet
+            }
+        }
+    }
+}
+
 fn main(rt: HostRuntime) -> ExitCode {
+    let manner = manner_of(&rt, rt.stderr().is_terminal());
     let status = match words_of(&rt) {
-        Ok(words) => run(&rt, &words),
+        Ok(words) => run(&rt, &words, manner),
         Err(fault) => unread(&rt, &fault),
     };
     ExitCode::from(status.code())

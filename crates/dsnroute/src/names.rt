@@ -3,7 +3,7 @@
 
 use desk_io::{HostSink, Sink, are_one_file, has_no_place};
 use dsn_route::Status;
-use fault_notes::{Fault, note_text};
+use fault_notes::{Fault, note_text, why_unwritten};
 use route_words::{Command, Text, WordFault, read_words};
 use std::rt::Files;
 
@@ -19,9 +19,10 @@ fn refuse_one_file<R: Print + Eprint>(rt: &R, input: &Text, output: &Text) -> St
 }
 
 // Says that the session can't be written.
-fn refuse_no_place<R: Eprint + AllocGlobal>(rt: &R, output: &Text) -> Status {
+fn refuse_no_place<R: Files + Eprint + AllocGlobal>(rt: &R, output: &Text) -> Status {
     let output = output.as_str();
-    let _ = match note_text(rt.alloc(), Fault::Session, "", output, None) {
+    let fault = Fault::Session(why_unwritten(rt, output));
+    let _ = match note_text(rt.alloc(), fault, "", output, None) {
         Ok(note) => eprint!(rt; "{note}"),
         Err(_) => eprint!(rt; "{output}: the file can't be written\n"),
     };

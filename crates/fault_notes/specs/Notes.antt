@@ -1,12 +1,15 @@
 -- What standard error says of a fault.
-use Rattle.std.specs.Prelude.{◌≡◌, ◌<◌, ℕ, List, [], ◌++◌, Option, None, Some, length, codes, not, true}
+use Rattle.std.specs.Prelude.{◌≡◌, ◌<◌, ◌==◌, ℕ, List, [], ◌++◌, Option, None, Some, length, codes, not, true}
+use Rattle.std.specs.Prelude.{if◌then◌else◌}
 use Rattle.std.specs.List.{list_all}
 use Rattle.std.specs.Fmt.{decimal}
 use Rattle.fault_notes.specs.declared.said.Counted.{Counted}
 use Rattle.fault_notes.specs.declared.said.Said.TheVariants.{Usage, Refused, ReadFault, Limit, Other}
+use Rattle.fault_notes.specs.declared.fault.Bar.{Bar}
+use Rattle.fault_notes.specs.declared.fault.Bar.TheVariants.{Absent, Folder, Denied, Other as Unknown}
 use Rattle.fault_notes.specs.declared.fault.Fault.{Fault}
-use Rattle.fault_notes.specs.declared.fault.Fault.TheVariants.{Told, Session, Report, Memory}
-use Rattle.fault_notes.specs.Places.{is_line_feed, line_of, column_of}
+use Rattle.fault_notes.specs.declared.fault.Fault.TheVariants.{Told, Unread, Session, Report, Memory}
+use Rattle.fault_notes.specs.Places.{is_line_feed, line_of, column_of, word_at, mistake_in}
 use Rattle.fault_notes.specs.Lines.{word_of}
 
 -- words of one line
@@ -26,26 +29,57 @@ place_front file (Some text) at = file
     ++ (codes ":" ++ (decimal (line_of text at) ++ (codes ":" ++ (decimal (column_of text at) ++ codes ": refused: "))))
 place_front file None at = file ++ (codes ": refused at byte " ++ (decimal at ++ codes ": "))
 
--- which refusal it is
-abbrev pub number_back : ℕ → List ℕ
-number_back number = codes " (refusal " ++ (decimal number ++ codes ")\n")
+-- the word that stands there, where there is one
+abbrev pub shown : List ℕ → List ℕ
+shown word = if length word == 0 then [] else codes ": " ++ word
+
+abbrev pub place_word : Option (List ℕ) → ℕ → List ℕ
+place_word (Some text) at = shown (word_at text at)
+place_word None at = []
+
+-- the word at the place, and which refusal it is
+abbrev pub refusal_back : Option (List ℕ) → ℕ → ℕ → List ℕ
+refusal_back text at number = place_word text at ++ (codes " (refusal " ++ (decimal number ++ codes ")\n"))
+
+-- what is wrong, between a front and a back; of a file of another kind it is told what that is
+abbrev pub mistake_of : Option (List ℕ) → Option (List ℕ)
+mistake_of (Some text) = mistake_in text
+mistake_of None = None
+
+abbrev pub IsReasoned : Option (List ℕ) → List ℕ → List ℕ → List ℕ → Type 0
+IsReasoned (Some words) front back note = note ≡ front ++ (words ++ back)
+IsReasoned None front back note = IsFramed front back note
 
 -- which limit is passed: the most there may be, or for nodes how many there would be
 abbrev pub limit_front : List ℕ → Counted → ℕ → List ℕ
 limit_front file counted number =
     file ++ (codes ": too large: " ++ (decimal number ++ (codes " " ++ word_of counted)))
 
+-- why a file can't be read, or written
+abbrev pub unread_words : Bar → List ℕ
+unread_words Absent = codes ": the file can't be read: there is no such file\n"
+unread_words Folder = codes ": the file can't be read: it is a folder\n"
+unread_words Denied = codes ": the file can't be read: the system doesn't allow it\n"
+unread_words Unknown = codes ": the file can't be read\n"
+
+abbrev pub unwritten_words : Bar → List ℕ
+unwritten_words Absent = codes ": the file can't be written: there is no such folder\n"
+unwritten_words Folder = codes ": the file can't be written: it is a folder\n"
+unwritten_words Denied = codes ": the file can't be written: the system doesn't allow it\n"
+unwritten_words Unknown = codes ": the file can't be written\n"
+
 -- the note of a fault, with the program's usage, the files of the design and the session, and the design's text where
 -- it is known
 abbrev pub IsNote : List ℕ → Fault → List ℕ → List ℕ → Option (List ℕ) → List ℕ → Type 0
 IsNote usage (Told (Usage number)) input output text note = IsFramed (codes "dsnroute: ") (codes "\n" ++ usage) note
 IsNote usage (Told (Refused number place)) input output text note =
-    IsFramed (place_front input text place) (number_back number) note
-IsNote usage (Told ReadFault) input output text note = note ≡ input ++ codes ": the file can't be read\n"
+    IsReasoned (mistake_of text) (place_front input text place) (refusal_back text place number) note
+IsNote usage (Told ReadFault) input output text note = note ≡ input ++ unread_words Unknown
 IsNote usage (Told (Limit counted number)) input output text note =
     IsFramed (limit_front input counted number) (codes "\n") note
 IsNote usage (Told Other) input output text note = note ≡ []
-IsNote usage Session input output text note = note ≡ output ++ codes ": the file can't be written\n"
+IsNote usage (Unread bar) input output text note = note ≡ input ++ unread_words bar
+IsNote usage (Session bar) input output text note = note ≡ output ++ unwritten_words bar
 IsNote usage Report input output text note = note ≡ codes "dsnroute: standard output can't be written\n"
 IsNote usage Memory input output text note =
     note ≡ codes "dsnroute: memory was wanting, or the design has more than 16777216 class pairs\n"

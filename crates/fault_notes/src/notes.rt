@@ -3,12 +3,14 @@
 
 ghost use Rattle.std.specs.Prelude.{◌≡◌, ◌++◌, IfOk, OnOk, codes, flat_map, string_bytes};
 ghost use Rattle.std.specs.Option.{option_map};
-ghost use Rattle.fault_notes.specs.Notes.{IsFramed, IsNote, place_front, number_back, limit_front};
+ghost use Rattle.fault_notes.specs.Notes.{IsFramed, IsReasoned, IsNote, place_front, place_word, refusal_back};
+ghost use Rattle.fault_notes.specs.Notes.{mistake_of, limit_front, unread_words, unwritten_words};
 ghost use Rattle.fault_notes.specs.inner.Parts.{part_word, part_words};
 
+use crate::fault::{unread_words, unwritten_words};
 use crate::line::word;
 use crate::refusals::{limit_words, refusal_words, usage_words};
-use crate::{Counted, Fault, Said, place_of};
+use crate::{Bar, Counted, Fault, Said, mistake_in, place_of, word_at};
 use itoa::Buffer;
 use route_words::USAGE;
 use std::alloc::{AllocError, Global};
@@ -44,7 +46,7 @@ fn put_parts(out: &mut String, parts: &[Part]) -> Result<(), AllocError>
 }
 
 // Parts, one after another.
-fn text_of(alloc: Global, parts: &[Part]) -> Result<String, AllocError>
+pub(crate) fn text_of(alloc: Global, parts: &[Part]) -> Result<String, AllocError>
     ensures { IfOk result (λ text. string_bytes text ≡ part_words parts.now) }
 {
     let mut text = String::new(alloc);
@@ -106,6 +108,50 @@ fn place_front(
     }
 }
 
+// The word at a place of the text, behind a colon; nothing where the text isn't known or shows none.
+fn place_word(alloc: Global, text: Option<&[u8]>, at: u64) -> Result<String, AllocError>
+    ensures { IfOk result (λ word. string_bytes word ≡ place_word (option_map (λ t. t.now) text.entry) at) }
+{
+    let Some(text) = text else {
+        return Ok(String::new(alloc));
+    };
+    let word = word_at(text, at);
+    if word.is_empty() {
+        return Ok(String::new(alloc));
+    }
+    text_of(alloc, &[Part::Text(": "), Part::Text(word)])
+}
+
+// What is wrong, for a file of another kind.
+fn mistake_of(text: Option<&[u8]>) -> Option<&'static str>
+    ensures { option_map (λ words. words.now) result ≡ mistake_of (option_map (λ t. t.now) text.entry) }
+{
+    match text {
+        Some(text) => mistake_in(text),
+        None => None,
+    }
+}
+
+fn refusal_back(
+    alloc: Global,
+    text: Option<&[u8]>,
+    number: u64,
+    at: u64,
+) -> Result<String, AllocError>
+    ensures { IfOk result (λ back. string_bytes back ≡ refusal_back (option_map (λ t. t.now) text.entry) at number) }
+{
+    let word = place_word(alloc, text, at)?;
+    text_of(
+        alloc,
+        &[
+            Part::Text(word.as_str()),
+            Part::Text(" (refusal "),
+            Part::Number(u128::from(number)),
+            Part::Text(")\n"),
+        ],
+    )
+}
+
 fn refused_note(
     alloc: Global,
     file: &str,
@@ -113,12 +159,24 @@ fn refused_note(
     number: u64,
     at: u64,
 ) -> Result<String, AllocError>
-    ensures { IfOk result (λ note. IsFramed (place_front file.now (option_map (λ t. t.now) text.entry) at)
-        (number_back number) (string_bytes note)) }
+    ensures { IfOk result (λ note. IsReasoned (mistake_of (option_map (λ t. t.now) text.entry))
+        (place_front file.now (option_map (λ t. t.now) text.entry) at)
+        (refusal_back (option_map (λ t. t.now) text.entry) at number) (string_bytes note)) }
 {
     let front = place_front(alloc, file, text, at)?;
-    let words = refusal_words(number.min(255) as u8);
-    format!(in alloc; "{front}{words} (refusal {number})\n")
+    let back = refusal_back(alloc, text, number, at)?;
+    let words = match mistake_of(text) {
+        Some(words) => words,
+        None => refusal_words(number.min(255) as u8),
+    };
+    text_of(
+        alloc,
+        &[
+            Part::Text(front.as_str()),
+            Part::Text(words),
+            Part::Text(back.as_str()),
+        ],
+    )
 }
 
 fn limit_note(
@@ -145,8 +203,21 @@ fn limit_note(
     )
 }
 
+fn unread_note(alloc: Global, file: &str, bar: Bar) -> Result<String, AllocError>
+    ensures { IfOk result (λ note. string_bytes note ≡ file.now ++ unread_words bar) }
+{
+    text_of(alloc, &[Part::Text(file), Part::Text(unread_words(bar))])
+}
+
+fn unwritten_note(alloc: Global, file: &str, bar: Bar) -> Result<String, AllocError>
+    ensures { IfOk result (λ note. string_bytes note ≡ file.now ++ unwritten_words bar) }
+{
+    text_of(alloc, &[Part::Text(file), Part::Text(unwritten_words(bar))])
+}
+
 /// The note of a fault, for a person. `input` and `output` name the files of the design and of the session, and `text`
-/// is the design's text where it could be read again: a refusal is then told by line and column, and else by its byte.
+/// is the design's text where it could be read again: a refusal is then told by line, column and word, and else by its
+/// byte, and a file of another kind by what it is.
 pub fn note_text(
     alloc: Global,
     fault: Fault,
@@ -162,19 +233,11 @@ pub fn note_text(
         Fault::Told(Said::Refused { number, place }) => {
             refused_note(alloc, input, text, number, place)
         }
-        Fault::Told(Said::ReadFault) => text_of(
-            alloc,
-            &[Part::Text(input), Part::Text(": the file can't be read\n")],
-        ),
+        Fault::Told(Said::ReadFault) => unread_note(alloc, input, Bar::Other),
         Fault::Told(Said::Limit { counted, number }) => limit_note(alloc, input, counted, number),
         Fault::Told(Said::Other) => Ok(String::new(alloc)),
-        Fault::Session => text_of(
-            alloc,
-            &[
-                Part::Text(output),
-                Part::Text(": the file can't be written\n"),
-            ],
-        ),
+        Fault::Unread(bar) => unread_note(alloc, input, bar),
+        Fault::Session(bar) => unwritten_note(alloc, output, bar),
         Fault::Report => String::from_str(alloc, "dsnroute: standard output can't be written\n"),
         Fault::Memory => String::from_str(
             alloc,

@@ -41,11 +41,10 @@ fn number_of_digits(digits: &[u8]) -> u32
     value
 }
 
-// The number from `least` to `most` that a word of one to seven digits spells.
-pub(crate) fn read_number(least: u32, most: u32, word: &str) -> Option<u32>
-    ensures { result ≡ number_between least most word.now }
+/// The number from `least` to `most` that one to seven digits spell.
+pub fn number_between(least: u32, most: u32, digits: &[u8]) -> Option<u32>
+    ensures { result ≡ number_between least most digits.now }
 {
-    let digits = word.as_bytes();
     if !tests_short_number(digits) {
         return None;
     }
@@ -55,6 +54,13 @@ pub(crate) fn read_number(least: u32, most: u32, word: &str) -> Option<u32>
     } else {
         None
     }
+}
+
+/// The number from `least` to `most` that a word of one to seven digits spells.
+pub(crate) fn read_number(least: u32, most: u32, word: &str) -> Option<u32>
+    ensures { result ≡ number_between least most word.now }
+{
+    number_between(least, most, word.as_bytes())
 }
 
 fn number_or(default: u32, least: u32, most: u32, word: Option<&str>) -> Option<u32>

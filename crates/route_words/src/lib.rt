@@ -10,5 +10,6 @@ mod text;
 mod words;
 
 pub use command::{Command, Knobs, WordFault};
+pub use knobs::number_between;
 pub use text::Text;
 pub use words::{USAGE, read_words};

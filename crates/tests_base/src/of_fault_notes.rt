@@ -1,7 +1,11 @@
-//! What standard error says: places in a text, and the note of each fault.
-//! Places and notes were worked out by hand.
+//! What standard error says: places in a text, the note of each fault, and of wrong words and files what is wrong and
+//! what to do. Places and notes were worked out by hand.
 
-use fault_notes::{Counted, Fault, Place, Said, note_text, place_of};
+use crate::of_route_words::words_of;
+use fault_notes::{
+    Bar, Counted, Fault, Place, Said, find_trouble, note_text, place_of, refusal_words, word_at,
+    word_note,
+};
 use route_words::USAGE;
 use std::alloc::Global;
 
@@ -38,24 +42,48 @@ const REFUSED: Fault = Fault::Told(Said::Refused {
     place: 15,
 });
 
-const UNREAD: Fault = Fault::Told(Said::ReadFault);
-
 const FINE: Fault = Fault::Told(Said::Limit {
     counted: Counted::Nodes,
     number: 20_000_000,
 });
 
-static NOTES: [(Fault, &str); 6] = [
+static NOTES: [(Fault, &str); 11] = [
     (
         REFUSED,
         "a.dsn: refused at byte 15: the unit isn't inch, mil, cm, mm or um (refusal 11)\n",
     ),
-    (UNREAD, "a.dsn: the file can't be read\n"),
+    (
+        Fault::Told(Said::ReadFault),
+        "a.dsn: the file can't be read\n",
+    ),
+    (
+        Fault::Unread(Bar::Absent),
+        "a.dsn: the file can't be read: there is no such file\n",
+    ),
+    (
+        Fault::Unread(Bar::Folder),
+        "a.dsn: the file can't be read: it is a folder\n",
+    ),
+    (
+        Fault::Unread(Bar::Denied),
+        "a.dsn: the file can't be read: the system doesn't allow it\n",
+    ),
     (
         FINE,
         "a.dsn: too large: 20000000 nodes in the lattice, where 16777216 are the most: give a coarser --grid\n",
     ),
-    (Fault::Session, "a.ses: the file can't be written\n"),
+    (
+        Fault::Session(Bar::Other),
+        "a.ses: the file can't be written\n",
+    ),
+    (
+        Fault::Session(Bar::Absent),
+        "a.ses: the file can't be written: there is no such folder\n",
+    ),
+    (
+        Fault::Session(Bar::Folder),
+        "a.ses: the file can't be written: it is a folder\n",
+    ),
     (
         Fault::Report,
         "dsnroute: standard output can't be written\n",
@@ -75,11 +103,210 @@ fn tells_faults(rt: HostRuntime) {
 
 #[test]
 fn tells_the_line_of_a_refusal_and_the_usage(rt: HostRuntime) {
-    let note = "a.dsn:3:8: refused: the unit isn't inch, mil, cm, mm or um (refusal 11)\n";
+    let note = "a.dsn:3:8: refused: the unit isn't inch, mil, cm, mm or um: nm (refusal 11)\n";
     assert!(rt; is_noted(rt.alloc(), REFUSED, Some(DESIGN), note));
     let fault = Fault::Told(Said::Usage { number: 1 });
     let usage = format!(in rt.alloc(); "dsnroute: there is no command\n{USAGE}").expect(
         &rt, "no text",
     );
     assert!(rt; is_noted(rt.alloc(), fault, None, usage.as_str()));
+}
+
+// ---- what a refusal means
+
+/// The words of each refusal, as docs/REFUSALS.md has them up to the first colon.
+static REFUSALS: [(u8, &str); 26] = [
+    (1, "a quoted piece has no end"),
+    (2, "the byte behind `(string_quote` is none of \", ' and $"),
+    (3, "this bracket isn't closed"),
+    (4, "something stands before or behind the list"),
+    (5, "more than 64 brackets are open"),
+    (6, "there is no list"),
+    (7, "the list isn't a `pcb` with a name"),
+    (8, "`resolution`, `structure` or a layer is missing"),
+    (
+        9,
+        "a number is wanted, and isn't there or is none that can be",
+    ),
+    (10, "a coordinate, width, clearance or angle is too large"),
+    (11, "the unit isn't inch, mil, cm, mm or um"),
+    (12, "no layer has this name"),
+    (
+        13,
+        "a second layer, padstack, image, pin, component or net has this name",
+    ),
+    (14, "the library has no padstack of this name"),
+    (15, "the library has no image of this name"),
+    (16, "no component and pin fit this reference"),
+    (17, "this reference fits two pins"),
+    (18, "a second net names this pin"),
+    (19, "this reference names a component without coordinates"),
+    (20, "no net has this name"),
+    (
+        21,
+        "this program leaves this form out, or a name has a quotation mark",
+    ),
+    (
+        22,
+        "the numbers of a shape, its layer or the side of a place don't fit",
+    ),
+    (23, "a limit is passed"),
+    (24, "there is no boundary"),
+    (25, "no class has this name"),
+    (26, "the list hasn't just one `classes` list with two names"),
+];
+
+#[test]
+fn tells_refusals_by_number(rt: HostRuntime) {
+    for &(number, words) in &REFUSALS {
+        assert!(rt; refusal_words(number) == words, "{number}");
+    }
+    assert!(rt; refusal_words(27) == "the design isn't as it should be");
+}
+
+// ---- wrong words
+
+/// Words with a bar between each two, and the first line that is said of them.
+static WRONG_WORDS: [(&str, &str); 17] = [
+    ("draw", "draw: there is no such command"),
+    ("route|t.dsn", "a name is missing"),
+    ("route|a|", "a name is empty"),
+    ("route|a|b|c", "c: a name too many"),
+    (
+        "route|a|b|--grid=0",
+        "--grid=0: --grid wants a whole number from 1 to 100000 um, in one to seven digits",
+    ),
+    (
+        "route|a|--grid|5um|b",
+        "5um: --grid wants a whole number from 1 to 100000 um, in one to seven digits",
+    ),
+    (
+        "route|a|b|--workers=17",
+        "--workers=17: --workers wants a whole number from 1 to 16, in one to seven digits",
+    ),
+    (
+        "route|--passes|100|a|b",
+        "100: --passes wants a whole number from 1 to 99, in one to seven digits",
+    ),
+    (
+        "route|a|b|--via-cost",
+        "--via-cost: a whole number is wanted behind it, from 0 to 1000000 um, in one to seven digits",
+    ),
+    (
+        "route|a|--workers|--|5",
+        "--workers: a whole number is wanted behind it, from 1 to 16, in one to seven digits",
+    ),
+    (
+        "route|--grid|5|a|b|--grid=6",
+        "--grid=6: the option is given a second time",
+    ),
+    (
+        "route|a|b|--grids=5",
+        "--grids=5: there is no such option; behind -- it would be a name",
+    ),
+    (
+        "route|-a|b",
+        "-a: there is no such option; behind -- it would be a name",
+    ),
+    (
+        "route|a|b|--omit-fixed=yes",
+        "--omit-fixed=yes: the option takes no value",
+    ),
+    (
+        "gen|401",
+        "401: gen wants a whole number from 1 to 400, in one to seven digits",
+    ),
+    ("gen|1|2", "2: a name too many"),
+    ("gen|1|--grid=5", "--grid=5: gen takes no options"),
+];
+
+/// Whether that is the first line of what is said of these words, and the usage follows.
+fn is_told(alloc: Global, line: &str, told: &str) -> bool {
+    let Ok(words) = words_of(alloc, line) else {
+        return false;
+    };
+    let Some(trouble) = find_trouble(words.as_slice()) else {
+        return false;
+    };
+    match (
+        word_note(alloc, trouble),
+        format!(in alloc; "dsnroute: {told}\n{USAGE}"),
+    ) {
+        (Ok(note), Ok(wanted)) => note.as_str() == wanted.as_str(),
+        _ => false,
+    }
+}
+
+#[test]
+fn tells_wrong_words(rt: HostRuntime) {
+    for &(line, told) in &WRONG_WORDS {
+        assert!(rt; is_told(rt.alloc(), line, told), "{line}");
+    }
+    assert!(rt; find_trouble(&[]).is_some());
+}
+
+// ---- files of another kind
+
+/// Texts, the number and place of their refusal, and what is said of them.
+static WRONG_TEXTS: [(&str, u64, u64, &str); 6] = [
+    (
+        "(kicad_pcb (version 20211014))",
+        7,
+        0,
+        "a.dsn:1:1: refused: this is a board of KiCad: in its board editor take File > Export > Specctra DSN, \
+        and give that file: (kicad_pcb (refusal 7)\n",
+    ),
+    (
+        "(kicad_sch (version 20211123))",
+        7,
+        0,
+        "a.dsn:1:1: refused: this is a schematic of KiCad: open its board, and take File > Export > Specctra DSN \
+        there: (kicad_sch (refusal 7)\n",
+    ),
+    (
+        "(session b)",
+        7,
+        0,
+        "a.dsn:1:1: refused: this is a session: give the design that it belongs to: (session (refusal 7)\n",
+    ),
+    (
+        "{\n  \"board\": {}\n}",
+        4,
+        0,
+        "a.dsn:1:1: refused: this is a project of KiCad, or other JSON: open its board, and take File > Export > \
+        Specctra DSN there: { (refusal 4)\n",
+    ),
+    (
+        "",
+        6,
+        0,
+        "a.dsn:1:1: refused: there is no list (refusal 6)\n",
+    ),
+    (
+        "(pcb b (network (net A (pins U1-99))))",
+        16,
+        29,
+        "a.dsn:1:30: refused: no component and pin fit this reference: U1-99 (refusal 16)\n",
+    ),
+];
+
+#[test]
+fn tells_wrong_files(rt: HostRuntime) {
+    for &(text, number, place, note) in &WRONG_TEXTS {
+        let fault = Fault::Told(Said::Refused { number, place });
+        let told = is_noted(rt.alloc(), fault, Some(text.as_bytes()), note);
+        assert!(rt; told, "{note}");
+    }
+}
+
+#[test]
+fn shows_words(rt: HostRuntime) {
+    let text = b"(a b\x07c) \xc3\xa9 0123456789012345678901234567890123456789012";
+    assert!(rt; word_at(text, 0) == "(a");
+    assert!(rt; word_at(text, 3) == "b");
+    assert!(rt; word_at(text, 6) == ")");
+    assert!(rt; word_at(text, 7) == "");
+    assert!(rt; word_at(text, 8) == "");
+    assert!(rt; word_at(text, 11) == "0123456789012345678901234567890123456789");
+    assert!(rt; word_at(text, 999) == "");
 }

@@ -14,7 +14,7 @@ const DEFAULTS: Knobs = Knobs {
 };
 
 /// The words of a line, with a bar between each two.
-fn words_of(alloc: Global, line: &str) -> Result<Vec<String>, AllocError> {
+pub(crate) fn words_of(alloc: Global, line: &str) -> Result<Vec<String>, AllocError> {
     let mut words = Vec::new(alloc);
     for word in line.split('|') {
         words.push(String::from_str(alloc, word)?)?;

@@ -2,4 +2,6 @@ mod Boxes
 mod Digits
 mod Layers
 mod Lines
+mod Naming
 mod Parts
+mod Showing

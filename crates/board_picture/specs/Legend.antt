@@ -1,37 +1,21 @@
--- The colours of layers, and the legend, whose rows are one unit high.
-use Rattle.std.specs.Prelude.{ℕ, ◌+◌, ◌/◌, ◌%◌, ◌==◌, Bool, ◌&&◌, if◌then◌else◌, List, [], ◌++◌, length, count_by}
+-- The legend, whose rows are one unit high.
+use Rattle.std.specs.Prelude.{ℕ, ◌+◌, Bool, not, ◌&&◌, if◌then◌else◌, List, [], ◌++◌, length, count_by}
 use Rattle.std.specs.Prelude.{flat_map, codes, decimal}
 use Rattle.std.specs.List.{enumerate_from, list_any}
 use Rattle.pcb_model.specs.declared.item.Item.{Item}
 use Rattle.pcb_model.specs.declared.design.BoardLayer.{BoardLayer}
 use Rattle.pcb_model.specs.declared.design.Design.{Design}
+use Rattle.board_picture.specs.declared.legend.Mark.{Mark}
+use Rattle.board_picture.specs.declared.legend.Mark.TheVariants.{Through, Full, Blind, NoWires, NoVias, NoCopper}
 use Rattle.board_picture.specs.declared.open.OpenLine.{OpenLine}
+use Rattle.board_picture.specs.declared.shapes.Hatch.{Hatch}
+use Rattle.board_picture.specs.declared.shapes.Hatch.TheVariants.{Wires, Vias, Both}
 use Rattle.board_picture.specs.declared.sheet.Sheet.{Sheet}
 use Rattle.board_picture.specs.Words.{length_word, escaped}
 use Rattle.board_picture.specs.Sheet.{legend_left}
-use Rattle.board_picture.specs.Shapes.{is_wire, is_via, is_through, is_keepout, have_breadth}
-
--- ---- colours
-
--- hues of Okabe and Ito, lighter or darker than theirs so that greys differ: 101, 158, 76, 213, 51, 187, 130, 24 of 255
-abbrev pub colour_word : ℕ → List ℕ
-colour_word k =
-    if k == 0 then codes "#BE4B00" else if k == 1 then codes "#56B4E9" else if k == 2 then codes "#00724F"
-    else if k == 3 then codes "#F0E442" else if k == 4 then codes "#003F7F" else if k == 5 then codes "#E0A5C8"
-    else if k == 6 then codes "#B98000" else codes "#181818"
-
--- layers of each further eight are dashed, with longer dashes each time
-abbrev pub dash_words : ℕ → List ℕ
-dash_words k = if k == 0 then [] else codes " stroke-dasharray=\"" ++ decimal k ++ codes " 1\""
-
--- how the layer with this number is painted
-unfoldable pub paint_words : ℕ → List ℕ
-paint_words layer = codes " fill=\"" ++ colour_word (layer % 8) ++ codes "\" stroke=\"" ++ colour_word (layer % 8)
-    ++ codes "\" opacity=\"0.85\"" ++ dash_words (layer / 8)
-
--- vias and pads on two layers or more
-abbrev pub through_paint : List ℕ
-through_paint = codes " fill=\"#000\" stroke=\"#000\" opacity=\"0.85\""
+use Rattle.board_picture.specs.Colours.{paint_words}
+use Rattle.board_picture.specs.Shapes.{is_wire, is_via, is_through, is_hatched, have_breadth}
+use Rattle.board_picture.specs.Rings.{spans_board}
 
 -- ---- rows
 
@@ -50,14 +34,26 @@ unfoldable pub layer_row : (ℕ × BoardLayer) → List ℕ
 layer_row (i, layer) = swatch_head i ++ codes "0.6\"" ++ paint_words i ++ codes "/>"
     ++ row_head i ++ escaped layer.name ++ codes "</text>\n"
 
-unfoldable pub through_row : ℕ → List ℕ
-through_row row = swatch_head row ++ codes "0.6\"" ++ through_paint ++ codes "/>" ++ row_head row
-    ++ codes "through pads and vias</text>\n"
+-- what a mark of the picture is drawn with, and what it means
+abbrev pub swatch_words : Mark → List ℕ
+swatch_words Through = codes "0.6\" fill=\"#000\" stroke=\"#000\" opacity=\"0.85\""
+swatch_words Full = codes "0.3\" stroke=\"#7FFF00\""
+swatch_words Blind = codes "0.3\" stroke=\"#000\" stroke-dasharray=\"0.3 0.2\""
+swatch_words NoWires = codes "0.6\" stroke=\"url(#no-wires)\""
+swatch_words NoVias = codes "0.6\" stroke=\"url(#no-vias)\""
+swatch_words NoCopper = codes "0.6\" stroke=\"url(#no-copper)\""
 
--- the hatching of keepouts
-unfoldable pub keepout_row : ℕ → List ℕ
-keepout_row row = swatch_head row ++ codes "0.6\" stroke=\"url(#hatch)\"/>" ++ row_head row
-    ++ codes "keepouts</text>\n"
+abbrev pub label_words : Mark → List ℕ
+label_words Through = codes "through pads and vias"
+label_words Full = codes "via"
+label_words Blind = codes "blind via, by its layers"
+label_words NoWires = codes "no wires"
+label_words NoVias = codes "no vias"
+label_words NoCopper = codes "no wires and vias"
+
+unfoldable pub mark_row : ℕ → Mark → List ℕ
+mark_row row mark = codes "<path d=\"M0 " ++ decimal row ++ codes ".5h2\" stroke-width=\"" ++ swatch_words mark
+    ++ codes "/><text x=\"2.5\" y=\"" ++ decimal row ++ codes ".8\">" ++ label_words mark ++ codes "</text>\n"
 
 -- the stroke of open connections, and how many there are
 unfoldable pub open_row : ℕ → ℕ → List ℕ
@@ -70,32 +66,57 @@ size_row row s = row_head row ++ length_word s.wide ++ codes " x " ++ length_wor
 
 -- ---- rows of what is there
 
-abbrev pub has_through : List Item → Bool
-has_through items = list_any is_through items
-
 -- a keepout is hatched where one of its pieces has a breadth
-abbrev pub is_hatched : Item → Bool
-is_hatched a = is_keepout a.metal && have_breadth a.pieces
+abbrev pub has_hatch : Hatch → Item → Bool
+has_hatch hatch a = is_hatched hatch a.metal && have_breadth a.pieces
 
-abbrev pub has_keepout : List Item → Bool
-has_keepout items = list_any is_hatched items
+-- the item is a via that doesn't reach through the board of so many layers
+abbrev pub is_blind : ℕ → Item → Bool
+is_blind layers a = is_via a.metal && not (spans_board layers a.pieces)
 
-abbrev pub through_rows : Bool → ℕ → List ℕ
-through_rows there row = if there then through_row row else []
+abbrev pub is_full : ℕ → Item → Bool
+is_full layers a = is_via a.metal && spans_board layers a.pieces
 
-abbrev pub keepout_rows : Bool → ℕ → List ℕ
-keepout_rows there row = if there then keepout_row row else []
+-- the item has this mark
+abbrev pub has_mark : ℕ → Mark → Item → Bool
+has_mark layers Through a = is_through a
+has_mark layers Full a = is_full layers a
+has_mark layers Blind a = is_blind layers a
+has_mark layers NoWires a = has_hatch Wires a
+has_mark layers NoVias a = has_hatch Vias a
+has_mark layers NoCopper a = has_hatch Both a
 
-abbrev pub row_if : Bool → ℕ
-row_if there = if there then 1 else 0
+abbrev pub is_there : ℕ → List Item → Mark → Bool
+is_there layers items mark = list_any (has_mark layers mark) items
 
--- how many there are, and their rows from this one on
-abbrev pub mark_count : List Item → ℕ
-mark_count items = row_if (has_through items) + row_if (has_keepout items)
+-- the row of a mark that is there, and the row that is free behind it
+abbrev pub mark_words : ℕ → List Item → ℕ → Mark → List ℕ
+mark_words layers items row mark = if is_there layers items mark then mark_row row mark else []
 
+abbrev pub row_behind : ℕ → List Item → ℕ → Mark → ℕ
+row_behind layers items row mark = if is_there layers items mark then row + 1 else row
+
+-- the rows of the marks that are there, behind those of the layers
 unfoldable pub mark_rows : ℕ → List Item → List ℕ
-mark_rows row items = through_rows (has_through items) row
-    ++ keepout_rows (has_keepout items) (row + row_if (has_through items))
+mark_rows layers items =
+    let full = row_behind layers items layers Through in
+    let blind = row_behind layers items full Full in
+    let no_wires = row_behind layers items blind Blind in
+    let no_vias = row_behind layers items no_wires NoWires in
+    let no_copper = row_behind layers items no_vias NoVias in
+    mark_words layers items layers Through ++ mark_words layers items full Full ++ mark_words layers items blind Blind
+    ++ mark_words layers items no_wires NoWires ++ mark_words layers items no_vias NoVias
+    ++ mark_words layers items no_copper NoCopper
+
+-- the row behind all of them
+abbrev pub row_behind_marks : ℕ → List Item → ℕ
+row_behind_marks layers items =
+    let full = row_behind layers items layers Through in
+    let blind = row_behind layers items full Full in
+    let no_wires = row_behind layers items blind Blind in
+    let no_vias = row_behind layers items no_wires NoWires in
+    let no_copper = row_behind layers items no_vias NoVias in
+    row_behind layers items no_copper NoCopper
 
 -- ---- the whole
 
@@ -120,6 +141,6 @@ layer_rows d = flat_map layer_row (enumerate_from 0 d.layers)
 
 unfoldable pub legend_part : Sheet → Design → List Item → List OpenLine → List ℕ
 legend_part s d items lines =
-    let row = length d.layers + mark_count items in
+    let row = row_behind_marks (length d.layers) items in
     legend_head s ++ layer_rows d ++ mark_rows (length d.layers) items ++ open_row row (length lines)
     ++ count_rows (row + 1) d items ++ size_row (row + 4) s ++ codes "</g>\n"

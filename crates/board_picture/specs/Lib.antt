@@ -2,6 +2,10 @@ pub mod Words
 pub mod Exact
 pub mod Sheet
 pub mod Shapes
+pub mod Rings
+pub mod Names
+pub mod Colours
 pub mod Legend
 pub mod Open
 pub mod Picture
+pub mod inner

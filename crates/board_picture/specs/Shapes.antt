@@ -12,6 +12,8 @@ use Rattle.pcb_model.specs.declared.item.Metal.TheVariants.{Wire, Via, Pad, Ban}
 use Rattle.pcb_model.specs.declared.item.Item.{Item}
 use Rattle.pcb_model.specs.declared.design.Pin.{Pin}
 use Rattle.pcb_model.specs.declared.design.Design.{Design}
+use Rattle.board_picture.specs.declared.shapes.Hatch.{Hatch}
+use Rattle.board_picture.specs.declared.shapes.Hatch.TheVariants.{Wires, Vias, Both}
 use Rattle.board_picture.specs.Words.{length_word, point_words}
 use Rattle.board_picture.specs.Sheet.{narrow_side}
 
@@ -47,6 +49,18 @@ is_keepout (Wire layer width chain) = false
 is_keepout (Via padstack at) = false
 is_keepout (Pad pin) = false
 is_keepout (Ban wires vias) = true
+
+-- it bans just this, where a keepout says of wires and of vias whether it bans them
+abbrev pub bans : Hatch → Bool → Bool → Bool
+bans Wires wires vias = wires && not vias
+bans Vias wires vias = not wires && vias
+bans Both wires vias = wires && vias
+
+abbrev pub is_hatched : Hatch → Metal → Bool
+is_hatched hatch (Wire layer width chain) = false
+is_hatched hatch (Via padstack at) = false
+is_hatched hatch (Pad pin) = false
+is_hatched hatch (Ban wires vias) = bans hatch wires vias
 
 -- pads and vias
 abbrev pub is_land : Metal → Bool
@@ -99,8 +113,8 @@ through_shapes a = if is_through a then flat_map piece_shape a.pieces else []
 abbrev pub broad_shape : Piece → List ℕ
 broad_shape c = if has_breadth c then piece_shape c else []
 
-abbrev pub keepout_shapes : Item → List ℕ
-keepout_shapes a = if is_keepout a.metal then flat_map broad_shape a.pieces else []
+abbrev pub keepout_shapes : Hatch → Item → List ℕ
+keepout_shapes hatch a = if is_hatched hatch a.metal then flat_map broad_shape a.pieces else []
 
 -- ---- holes
 

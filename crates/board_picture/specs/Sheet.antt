@@ -65,6 +65,6 @@ sheet_width s = s.wide + 17 * s.unit
 abbrev pub sheet_height : Sheet → ℕ → ℕ
 sheet_height s rows = max s.high (rows * s.unit) + 2 * s.unit
 
--- a row for each layer, and at most seven more
+-- a row for each layer, and at most eleven more
 abbrev pub rows_of : Design → ℕ
-rows_of d = length d.layers + 7
+rows_of d = length d.layers + 11

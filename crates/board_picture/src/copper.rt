@@ -3,12 +3,14 @@
 ghost use Rattle.std.specs.Prelude.{◌≡◌, OnOk, flat_map, length};
 ghost use Rattle.ses_writer.specs.Words.{Appends};
 ghost use Rattle.board_picture.specs.Shapes.{wire_on, land_on, through_shapes, keepout_shapes, hole_of};
-ghost use Rattle.board_picture.specs.Picture.{keepout_group, layer_name, layer_group, layer_groups};
+ghost use Rattle.board_picture.specs.Picture.{keepout_group, keepout_groups, layer_name, layer_group, layer_groups};
 ghost use Rattle.board_picture.specs.Picture.{through_group, hole_group, copper_part};
 
-use crate::paint::put_paint;
+use crate::paint::{hatch_paint, put_paint};
+use crate::rings::put_ring_group;
 use crate::shapes::{
-    is_keepout, is_land, is_through, is_wire, put_broad_pieces, put_hole, put_pieces, put_pieces_on,
+    Hatch, is_hatched, is_land, is_through, is_wire, put_broad_pieces, put_hole, put_pieces,
+    put_pieces_on,
 };
 use crate::words::{Part, put_parts};
 use pcb_model::{Design, Item};
@@ -17,34 +19,47 @@ use std::alloc::AllocError;
 
 // ---- keepouts
 
-fn put_keepout(out: &mut Vec<u8>, a: &Item) -> Result<(), AllocError>
-    ensures { OnOk result (Appends out.old.items out.new.items (keepout_shapes a.now)) }
+fn put_keepout(out: &mut Vec<u8>, hatch: Hatch, a: &Item) -> Result<(), AllocError>
+    ensures { OnOk result (Appends out.old.items out.new.items (keepout_shapes hatch a.now)) }
 {
-    if is_keepout(&a.metal) {
+    if is_hatched(hatch, &a.metal) {
         return put_broad_pieces(out, a.pieces.as_slice());
     }
     Ok(())
 }
 
-fn put_keepouts(out: &mut Vec<u8>, items: &[Item]) -> Result<(), AllocError>
-    ensures { OnOk result (Appends out.old.items out.new.items (flat_map keepout_shapes items.now)) }
+fn put_keepouts(out: &mut Vec<u8>, hatch: Hatch, items: &[Item]) -> Result<(), AllocError>
+    ensures { OnOk result (Appends out.old.items out.new.items (flat_map (keepout_shapes hatch) items.now)) }
 {
     for a in items {
-        put_keepout(out, a)?;
+        put_keepout(out, hatch, a)?;
     }
     Ok(())
 }
 
 #[tactic(auto, unfolding(crate::specs::Picture::keepout_group))]
-fn put_keepout_group(out: &mut Vec<u8>, items: &[Item]) -> Result<(), AllocError>
-    ensures { OnOk result (Appends out.old.items out.new.items (keepout_group items.now)) }
+fn put_keepout_group(out: &mut Vec<u8>, hatch: Hatch, items: &[Item]) -> Result<(), AllocError>
+    ensures { OnOk result (Appends out.old.items out.new.items (keepout_group hatch items.now)) }
 {
-    put(
+    put_parts(
         out,
-        b"<g class=\"keepouts\" fill=\"url(#hatch)\" stroke=\"url(#hatch)\">\n",
+        &[
+            Part::Text(b"<g class=\"keepouts\""),
+            Part::Text(hatch_paint(hatch)),
+            Part::Text(b">\n"),
+        ],
     )?;
-    put_keepouts(out, items)?;
+    put_keepouts(out, hatch, items)?;
     put(out, b"</g>\n")
+}
+
+#[tactic(auto, unfolding(crate::specs::Picture::keepout_groups))]
+fn put_keepout_groups(out: &mut Vec<u8>, items: &[Item]) -> Result<(), AllocError>
+    ensures { OnOk result (Appends out.old.items out.new.items (keepout_groups items.now)) }
+{
+    put_keepout_group(out, Hatch::Wires, items)?;
+    put_keepout_group(out, Hatch::Vias, items)?;
+    put_keepout_group(out, Hatch::Both, items)
 }
 
 // ---- layers
@@ -185,8 +200,9 @@ fn put_hole_group(out: &mut Vec<u8>, d: &Design, items: &[Item]) -> Result<(), A
 pub(crate) fn put_copper(out: &mut Vec<u8>, d: &Design, items: &[Item]) -> Result<(), AllocError>
     ensures { OnOk result (Appends out.old.items out.new.items (copper_part d.now items.now)) }
 {
-    put_keepout_group(out, items)?;
+    put_keepout_groups(out, items)?;
     put_layer_groups(out, d, items)?;
     put_through_group(out, items)?;
+    put_ring_group(out, d, items)?;
     put_hole_group(out, d, items)
 }

@@ -1,17 +1,18 @@
 //! The board's edge, the names of components, and the open connections.
 
-ghost use Rattle.std.specs.Prelude.{◌≡◌, OnOk, flat_map};
+ghost use Rattle.std.specs.Prelude.{◌≡◌, ◌≤◌, ◌^◌, OnOk, flat_map};
 ghost use Rattle.ses_writer.specs.Words.{Appends};
-ghost use Rattle.board_picture.specs.Picture.{bound_shape, edge_group, name_text, name_group, open_shape, open_group};
+ghost use Rattle.board_picture.specs.Picture.{bound_shape, edge_group, name_group, open_shape, open_group};
 
+use crate::names::put_name_texts;
 use crate::open::OpenLine;
 use crate::shapes::put_loops;
 use crate::sheet::Sheet;
 use crate::words::{Part, put_parts};
 use geo_kernel::{List, Point};
-use pcb_model::{Component, Design};
+use pcb_model::Design;
 use ses_writer::put;
-use std::alloc::AllocError;
+use std::alloc::{AllocError, Global};
 
 // ---- edge
 
@@ -45,27 +46,15 @@ pub(crate) fn put_edge(out: &mut Vec<u8>, s: Sheet, d: &Design) -> Result<(), Al
 
 // ---- names
 
-fn put_name_texts(out: &mut Vec<u8>, components: &[Component]) -> Result<(), AllocError>
-    ensures { OnOk result (Appends out.old.items out.new.items (flat_map name_text components.now)) }
-{
-    for c in components {
-        put_parts(
-            out,
-            &[
-                Part::Text(b"<text transform=\"matrix(1 0 0 -1"),
-                Part::At(c.at),
-                Part::Text(b")\">"),
-                Part::Name(c.name.as_slice()),
-                Part::Text(b"</text>\n"),
-            ],
-        )?;
-    }
-    Ok(())
-}
-
-/// The names of components, to the left and above.
+/// The names of components that are shown, to the left and above.
 #[tactic(auto, unfolding(crate::specs::Picture::name_group))]
-pub(crate) fn put_names(out: &mut Vec<u8>, s: Sheet, d: &Design) -> Result<(), AllocError>
+pub(crate) fn put_names(
+    alloc: Global,
+    out: &mut Vec<u8>,
+    s: Sheet,
+    d: &Design,
+) -> Result<(), AllocError>
+    requires { s.unit ≤ 2 ^ 59 }
     ensures { OnOk result (Appends out.old.items out.new.items (name_group s d.now)) }
 {
     let third = Part::Length(s.unit / 3);
@@ -83,7 +72,7 @@ pub(crate) fn put_names(out: &mut Vec<u8>, s: Sheet, d: &Design) -> Result<(), A
             Part::Text(b"\" paint-order=\"stroke\">\n"),
         ],
     )?;
-    put_name_texts(out, d.components.as_slice())?;
+    put_name_texts(alloc, out, s, d.components.as_slice())?;
     put(out, b"</g>\n")
 }
 

@@ -3,12 +3,14 @@
 
 ghost use Rattle.std.specs.Prelude.{◌≡◌, OnOk};
 ghost use Rattle.ses_writer.specs.Words.{Appends};
-ghost use Rattle.board_picture.specs.Legend.{colour_word, dash_words, paint_words};
+ghost use Rattle.board_picture.specs.Colours.{colour_word, dash_words, paint_words, hatch_paint};
 
+use crate::shapes::Hatch;
 use crate::words::{Part, put_parts};
 use std::alloc::AllocError;
 
-fn colour(k: usize) -> &'static [u8]
+/// The colour of a layer, by its number among eight.
+pub(crate) fn colour(k: usize) -> &'static [u8]
     ensures { result.now ≡ colour_word k }
 {
     match k {
@@ -40,7 +42,7 @@ fn put_dash(out: &mut Vec<u8>, k: usize) -> Result<(), AllocError>
 }
 
 /// The attributes of what lies on the layer with this number.
-#[tactic(auto, unfolding(crate::specs::Legend::paint_words))]
+#[tactic(auto, unfolding(crate::specs::Colours::paint_words))]
 pub(crate) fn put_paint(out: &mut Vec<u8>, layer: usize) -> Result<(), AllocError>
     ensures { OnOk result (Appends out.old.items out.new.items (paint_words layer)) }
 {
@@ -56,4 +58,15 @@ pub(crate) fn put_paint(out: &mut Vec<u8>, layer: usize) -> Result<(), AllocErro
         ],
     )?;
     put_dash(out, layer / 8)
+}
+
+/// The attributes of keepouts with this hatching.
+pub(crate) fn hatch_paint(hatch: Hatch) -> &'static [u8]
+    ensures { result.now ≡ hatch_paint hatch }
+{
+    match hatch {
+        Hatch::Wires => b" fill=\"url(#no-wires)\" stroke=\"url(#no-wires)\"",
+        Hatch::Vias => b" fill=\"url(#no-vias)\" stroke=\"url(#no-vias)\"",
+        Hatch::Both => b" fill=\"url(#no-copper)\" stroke=\"url(#no-copper)\"",
+    }
 }

@@ -24,13 +24,19 @@ fn put_head(out: &mut Vec<u8>, s: Sheet, d: &Design) -> Result<(), AllocError>
     requires { s.unit ≤ 2 ^ 59 }
     ensures { OnOk result (Appends out.old.items out.new.items (head_part s d.now)) }
 {
+    let wide = Part::Wide(sheet_width(s));
+    let high = Part::Wide(sheet_height(s, d));
     put_parts(
         out,
         &[
-            Part::Text(b"<svg xmlns=\"http://www.w3.org/2000/svg\" viewBox=\"0 0 "),
-            Part::Wide(sheet_width(s)),
+            Part::Text(b"<svg xmlns=\"http://www.w3.org/2000/svg\" width=\""),
+            wide,
+            Part::Text(b"mm\" height=\""),
+            high,
+            Part::Text(b"mm\" viewBox=\"0 0 "),
+            wide,
             Part::Text(b" "),
-            Part::Wide(sheet_height(s, d)),
+            high,
             Part::Text(b"\" font-family=\"sans-serif\">\n<title>"),
             Part::Name(d.name.as_slice()),
             Part::Text(b"</title>\n"),
@@ -38,8 +44,12 @@ fn put_head(out: &mut Vec<u8>, s: Sheet, d: &Design) -> Result<(), AllocError>
     )?;
     put(
         out,
-        b"<pattern id=\"hatch\" width=\"0.8\" height=\"0.8\" patternUnits=\"userSpaceOnUse\" \
+        b"<pattern id=\"no-wires\" width=\"0.8\" height=\"0.8\" patternUnits=\"userSpaceOnUse\" \
         patternTransform=\"rotate(45)\"><path d=\"M0 0v1\" stroke=\"#777\" stroke-width=\"0.5\"/></pattern>\n\
+        <pattern id=\"no-vias\" width=\"0.8\" height=\"0.8\" patternUnits=\"userSpaceOnUse\" \
+        patternTransform=\"rotate(-45)\"><path d=\"M0 0v1\" stroke=\"#777\" stroke-width=\"0.5\"/></pattern>\n\
+        <pattern id=\"no-copper\" width=\"0.8\" height=\"0.8\" patternUnits=\"userSpaceOnUse\" \
+        patternTransform=\"rotate(45)\"><path d=\"M0 0v1M0 0h1\" stroke=\"#777\" stroke-width=\"0.5\"/></pattern>\n\
         <rect width=\"100%\" height=\"100%\" fill=\"#fff\"/>\n",
     )
 }
@@ -74,18 +84,20 @@ fn put_board_head(out: &mut Vec<u8>, s: Sheet) -> Result<(), AllocError>
 
 #[tactic(auto, unfolding(crate::specs::Picture::board_part))]
 fn put_board(
+    alloc: Global,
     out: &mut Vec<u8>,
     s: Sheet,
     d: &Design,
     items: &[Item],
     lines: &[OpenLine],
 ) -> Result<(), AllocError>
+    requires { s.unit ≤ 2 ^ 59 }
     ensures { OnOk result (Appends out.old.items out.new.items (board_part s d.now items.now lines.now)) }
 {
     put_board_head(out, s)?;
     put_copper(out, d, items)?;
     put_edge(out, s, d)?;
-    put_names(out, s, d)?;
+    put_names(alloc, out, s, d)?;
     put_open(out, s, lines)?;
     put(out, b"</g>\n")
 }
@@ -104,7 +116,7 @@ pub fn picture_text(
     let s = sheet_of(d);
     let mut text = Vec::new(alloc);
     put_head(&mut text, s, d)?;
-    put_board(&mut text, s, d, items, lines)?;
+    put_board(alloc, &mut text, s, d, items, lines)?;
     put_legend(&mut text, s, d, items, lines)?;
     put(&mut text, b"</svg>\n")?;
     Ok(text)

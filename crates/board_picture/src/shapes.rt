@@ -4,7 +4,7 @@
 ghost use Rattle.std.specs.Prelude.{◌≡◌, OnOk, flat_map};
 ghost use Rattle.ses_writer.specs.Words.{Appends};
 ghost use Rattle.board_picture.specs.Shapes.{loop_words, spine_words, piece_shape, shape_on, shapes_on, broad_shape};
-ghost use Rattle.board_picture.specs.Shapes.{is_wire, is_via, is_keepout, is_land, leaves_layer};
+ghost use Rattle.board_picture.specs.Shapes.{is_wire, is_via, is_keepout, bans, is_hatched, is_land, leaves_layer};
 ghost use Rattle.board_picture.specs.Shapes.{is_through, has_breadth, have_breadth, hole_radius};
 ghost use Rattle.board_picture.specs.Shapes.{hole_dot, hole_at, hole_of};
 
@@ -14,6 +14,14 @@ use geo_kernel::{List, Point, Spine};
 use pcb_model::{Design, Item, Metal, Piece};
 use ses_writer::put;
 use std::alloc::AllocError;
+
+/// Which hatching a keepout has, by what it bans.
+#[derive(Clone, Copy)]
+pub(crate) enum Hatch {
+    Wires,
+    Vias,
+    Both,
+}
 
 /// The loops of an area.
 pub(crate) fn put_loops(out: &mut Vec<u8>, loops: &[List<Point>]) -> Result<(), AllocError>
@@ -140,10 +148,30 @@ pub(crate) fn is_via(metal: &Metal) -> bool
     matches!(metal, Metal::Via { .. })
 }
 
-pub(crate) fn is_keepout(metal: &Metal) -> bool
+fn is_keepout(metal: &Metal) -> bool
     ensures { result ≡ is_keepout metal.now }
 {
     matches!(metal, Metal::Ban { .. })
+}
+
+fn bans(hatch: Hatch, wires: bool, vias: bool) -> bool
+    ensures { result ≡ bans hatch wires vias }
+{
+    match hatch {
+        Hatch::Wires => wires && !vias,
+        Hatch::Vias => !wires && vias,
+        Hatch::Both => wires && vias,
+    }
+}
+
+/// Whether it is a keepout that bans just this.
+pub(crate) fn is_hatched(hatch: Hatch, metal: &Metal) -> bool
+    ensures { result ≡ is_hatched hatch metal.now }
+{
+    match metal {
+        Metal::Ban { wires, vias } => bans(hatch, *wires, *vias),
+        _ => false,
+    }
 }
 
 /// Whether it is a via or the pad of a pin.
@@ -177,7 +205,8 @@ pub(crate) fn is_through(a: &Item) -> bool
 
 // ---- holes
 
-fn hole_radius(pieces: &[Piece]) -> u64
+/// A fifth of the first piece's breadth.
+pub(crate) fn hole_radius(pieces: &[Piece]) -> u64
     ensures { result ≡ hole_radius pieces.now }
 {
     match pieces {

@@ -161,7 +161,7 @@ pub(crate) fn sheet_height(s: Sheet, d: &Design) -> u128
     requires { s.unit ≤ 2 ^ 59 }
     ensures { result ≡ sheet_height s (rows_of d.now) }
 {
-    let rows = d.layers.len() as u128 + 7;
+    let rows = d.layers.len() as u128 + 11;
     let legend = rows * u128::from(s.unit);
     u128::from(s.high).max(legend) + 2 * u128::from(s.unit)
 }

@@ -1,10 +1,12 @@
 //! Lengths, points and names, as a picture spells them.
 //! Source: Scalable Vector Graphics 1.1, numbers and path data; XML 1.0, predefined entities.
 
-ghost use Rattle.std.specs.Prelude.{◌≡◌, ◌<◌, ◌≤◌, All, OnOk, decimal, flat_map};
+ghost use Rattle.std.specs.Prelude.{◌≡◌, ◌<◌, ◌≤◌, All, OnOk, IfOk, decimal, flat_map, slice_index};
 ghost use Rattle.ses_writer.specs.Words.{Appends, decimals, fraction, degrees};
 ghost use Rattle.board_picture.specs.Words.{length_word, sign_word, mm_word, point_words, escaped_byte, escaped};
-ghost use Rattle.board_picture.specs.Words.{part_word, part_words};
+ghost use Rattle.board_picture.specs.Words.{is_in, is_tail, leads_three, leads_four, length_by, is_no_xml};
+ghost use Rattle.board_picture.specs.Words.{char_length, char_by, part_word, part_words};
+ghost use Rattle.board_picture.specs.inner.Naming.{next_words, next_skip};
 
 use geo_kernel::Point;
 use itoa::Buffer;
@@ -124,12 +126,115 @@ fn put_byte(out: &mut Vec<u8>, b: u8) -> Result<(), AllocError>
     put(out, &[b])
 }
 
-/// A name, with what XML reads as its own marks escaped.
+fn is_in(least: u8, most: u8, b: u8) -> bool
+    ensures { result ≡ is_in least most b }
+{
+    least <= b && b <= most
+}
+
+fn is_tail(b: u8) -> bool
+    ensures { result ≡ is_tail b }
+{
+    is_in(128, 191, b)
+}
+
+fn leads_three(a: u8, b: u8) -> bool
+    ensures { result ≡ leads_three a b }
+{
+    (a == 224 && is_in(160, 191, b))
+        || (is_in(225, 236, a) && is_tail(b))
+        || (a == 237 && is_in(128, 159, b))
+        || (is_in(238, 239, a) && is_tail(b))
+}
+
+fn leads_four(a: u8, b: u8) -> bool
+    ensures { result ≡ leads_four a b }
+{
+    (a == 240 && is_in(144, 191, b))
+        || (is_in(241, 243, a) && is_tail(b))
+        || (a == 244 && is_in(128, 143, b))
+}
+
+fn length_by(a: u8, b: u8, c: u8, d: u8) -> usize
+    ensures value { result ≡ length_by a b c d }
+{
+    if a < 128 {
+        1
+    } else if is_in(194, 223, a) && is_tail(b) {
+        2
+    } else if leads_three(a, b) && is_tail(c) {
+        3
+    } else if leads_four(a, b) && (is_tail(c) && is_tail(d)) {
+        4
+    } else {
+        0
+    }
+}
+
+fn is_no_xml(a: u8, b: u8, c: u8) -> bool
+    ensures { result ≡ is_no_xml a b c }
+{
+    a == 239 && (b == 191 && 190 <= c)
+}
+
+// The byte at a place, or 0 behind the last.
+fn byte_at(bytes: &[u8], at: usize) -> u8
+    ensures { result ≡ slice_index bytes.now at }
+{
+    match bytes.get(at) {
+        Some(b) => *b,
+        None => 0,
+    }
+}
+
+fn char_length(bytes: &[u8]) -> usize
+    ensures { result ≡ char_length bytes.now }
+{
+    length_by(
+        byte_at(bytes, 0),
+        byte_at(bytes, 1),
+        byte_at(bytes, 2),
+        byte_at(bytes, 3),
+    )
+}
+
+// The character of so many bytes at the front, or what stands for it.
+fn put_char(out: &mut Vec<u8>, n: usize, bytes: &[u8]) -> Result<(), AllocError>
+    ensures { OnOk result (Appends out.old.items out.new.items (char_by n bytes.now)) }
+{
+    if n == 0 {
+        return put(out, b"?");
+    }
+    if n == 1 {
+        return put_byte(out, byte_at(bytes, 0));
+    }
+    if is_no_xml(byte_at(bytes, 0), byte_at(bytes, 1), byte_at(bytes, 2)) {
+        return put(out, b"?");
+    }
+    put(out, &bytes[..n.min(bytes.len())])
+}
+
+// What is put of a name where its next byte stands first, and so many bytes are there already; and how many then are.
+fn put_next(out: &mut Vec<u8>, skip: usize, bytes: &[u8]) -> Result<usize, AllocError>
+    ensures put { OnOk result (Appends out.old.items out.new.items (next_words skip bytes.now)) }
+    ensures skip { IfOk result (λ k. k ≡ next_skip skip bytes.now) }
+{
+    if skip > 0 {
+        return Ok(skip - 1);
+    }
+    let n = char_length(bytes);
+    put_char(out, n, bytes)?;
+    Ok(n.saturating_sub(1))
+}
+
+/// A name, so that each reader of XML takes it.
 fn put_escaped(out: &mut Vec<u8>, name: &[u8]) -> Result<(), AllocError>
     ensures { OnOk result (Appends out.old.items out.new.items (escaped name.now)) }
 {
-    for b in name {
-        put_byte(out, *b)?;
+    let mut skip = 0;
+    for at in 0..name.len() {
+        let (_, rest) = name.split_at(at);
+        skip = put_next(out, skip, rest)?;
     }
     Ok(())
 }

@@ -6,6 +6,7 @@ use Rattle.board_picture.proofs.copper.put_copper.Goals as goal
 pub returns : goal.returns
 unfolding copper_part
 returns c =
-    let two = then_put c.in_ok-put_keepout_group.ensures c.in_ok-put_layer_groups.ensures in
+    let two = then_put c.in_ok-put_keepout_groups.ensures c.in_ok-put_layer_groups.ensures in
     let three = then_put two c.in_ok-put_through_group.ensures in
-    put_last c.put_hole_group.result _ _ three c.put_hole_group.ensures
+    let four = then_put three c.in_ok-put_ring_group.ensures in
+    put_last c.put_hole_group.result _ _ four c.put_hole_group.ensures

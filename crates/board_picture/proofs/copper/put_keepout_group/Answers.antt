@@ -6,5 +6,5 @@ use Rattle.board_picture.proofs.copper.put_keepout_group.Goals as goal
 pub returns : goal.returns
 unfolding keepout_group
 returns c =
-    let two = then_put c.in_ok-put.ensures c.in_ok-put_keepouts.ensures in
-    put_last c.put-2.result _ _ two c.put-2.ensures
+    let one = rw c.hatch_paint.ensures at c.in_ok-put_parts.ensures in
+    put_last c.put.result _ _ (then_put one c.in_ok-put_keepouts.ensures) c.put.ensures

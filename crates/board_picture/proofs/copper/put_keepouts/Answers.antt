@@ -8,10 +8,11 @@ loop-a-init c = record { is = refl }
 
 pub loop-a-preserved : goal.loop-a-preserved
 loop-a-preserved c =
-    let left = with_next (flat_map keepout_shapes) c.args.items.now c.loop-a.a-index c.a-item.result c.loop-a-test.true
-    c.a-item.is c.loop-a.invariant in
+    let left = with_next (flat_map (keepout_shapes c.args.hatch)) c.args.items.now c.loop-a.a-index c.a-item.result
+    c.loop-a-test.true c.a-item.is c.loop-a.invariant in
     leads_on left c.in_ok-put_keepout.ensures
 
 pub returns : goal.returns
 returns c =
-    all_put (at_end (flat_map keepout_shapes) c.args.items.now c.loop-a.a-index c.loop-a-test.false c.loop-a.invariant)
+    all_put (at_end (flat_map (keepout_shapes c.args.hatch)) c.args.items.now c.loop-a.a-index c.loop-a-test.false
+    c.loop-a.invariant)

@@ -12,4 +12,4 @@ returns c =
     let four = then_put three c.in_ok-put_open_row.ensures in
     let five = then_put four c.in_ok-put_count_rows.ensures in
     let six = two_last c.put_size_row.result _ _ (codes "</g>\n") five c.put_size_row.ensures in
-    rw c.len-layers.ensures at rw c.mark_count.ensures.value at six
+    rw c.len-layers.ensures at rw c.row_behind_marks-row.ensures.value at six

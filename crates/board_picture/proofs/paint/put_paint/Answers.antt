@@ -1,4 +1,4 @@
-use Rattle.board_picture.specs.Legend.{paint_words}
+use Rattle.board_picture.specs.Colours.{paint_words}
 use Rattle.board_picture.proofs.Parts.{put_last}
 use Rattle.board_picture.proofs.paint.put_paint.Goals as goal
 

@@ -60,6 +60,7 @@ pub(crate) fn board(alloc: Global, text: &str) -> Option<Design>
 /// The board of a short text and the places of what was dropped, or None where it is refused or memory is wanting.
 pub(crate) fn start(alloc: Global, text: &str, cap: u64) -> Option<(Board, List<u64>)>
     requires { cap ≤ 2 ^ 19 }
+    ensures { IfSome result (λ r. IsPlainCopper r.0.design) }
 {
     let design = board(alloc, text)?;
     Board::start(alloc, design, cap).ok()
@@ -67,7 +68,9 @@ pub(crate) fn start(alloc: Global, text: &str, cap: u64) -> Option<(Board, List<
 
 /// The board of a short text with room for as many ids as there can be, or None where it is refused or memory is
 /// wanting.
-pub(crate) fn opened(alloc: Global, text: &str) -> Option<Board> {
+pub(crate) fn opened(alloc: Global, text: &str) -> Option<Board>
+    ensures { IfSome result (λ b. IsPlainCopper b.design) }
+{
     let (board, _) = start(alloc, text, 524_288)?;
     Some(board)
 }

@@ -1,6 +1,8 @@
 //! The texts of boards for offers and plans, offers of one wire as data, and what a board answers to them.
 //! Lengths in the texts and in the chains are in um.
 
+ghost use Rattle.std.specs.Prelude.{◌≡◌};
+
 use geo_kernel::{List, Point};
 use pcb_board::{Answer, Board, Offer, Shoved};
 use pcb_model::{Copper, Metal};
@@ -173,9 +175,17 @@ pub(crate) fn answers(alloc: Global, board: &mut Board, steps: &[(Join, Answer)]
     true
 }
 
-/// Whether a board takes the first net's wire as item 5, with its first entry.
-pub(crate) fn takes_first(alloc: Global, board: &mut Board) -> bool {
-    answers(alloc, board, &[(along(0), Answer::Committed { number: 1 })])
+/// Whether a board takes the first net's wire as item 5, with its first entry. Its design stays.
+pub(crate) fn takes_first(alloc: Global, board: &mut Board) -> bool
+    ensures { board.new.design ≡ board.old.design }
+{
+    let Ok(offer) = offer_of(alloc, &along(0)) else {
+        return false;
+    };
+    match board.offer(offer) {
+        Ok(answer) => answer == Answer::Committed { number: 1 },
+        Err(_) => false,
+    }
 }
 
 /// Whether these are the ids that stand on a board, of the first twenty.

@@ -296,7 +296,9 @@ fn are_so(alloc: Global, lat: &Lattice, snap: &Snap, rows: &[Tells]) -> bool
 }
 
 /// Whether all of it is so of a board.
-fn hold<R: Abort>(rt: &R, alloc: Global, board: &Board, rows: &[Tells]) -> bool {
+fn hold<R: Abort>(rt: &R, alloc: Global, board: &Board, rows: &[Tells]) -> bool
+    requires { IsPlainCopper board.now.design }
+{
     board.keeps();
     boards_serve();
     match board.snap() {

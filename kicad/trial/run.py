@@ -4,7 +4,7 @@
     python3 kicad/trial/run.py PROGRAM [--shots FOLDER] [--only NAME ..]
 
 The Python has to be one that imports pcbnew (Debian: /usr/bin/python3, packages kicad, kicad-demos,
-xvfb, xauth, imagemagick). Each trial has a fresh home, configuration and board; pictures of the
+xvfb, xauth, xdotool, imagemagick). Each trial has a fresh home, configuration and board; pictures of the
 screen go to the folder. It ends with the number of trials that failed.
 """
 from __future__ import annotations

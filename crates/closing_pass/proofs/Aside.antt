@@ -19,7 +19,7 @@ use Rattle.closing_pass.specs.Ids.{beside}
 use Rattle.closing_pass.proofs.Ids.{ids_change_nothing, stated_beside}
 
 -- the board without the item
-out_of : (b : BoardOf) (o : Offer) (id : ℕ) → TakesOut o id → cleared b o ≡ without (id ∷ []) b.items
+pub out_of : (b : BoardOf) (o : Offer) (id : ℕ) → TakesOut o id → cleared b o ≡ without (id ∷ []) b.items
 out_of b o id takes =
     (λ i. without (takes.rip_is i ++ map (λ (s : Shoved). s.id) (takes.no_shove i)) b.items ++ replaced_from b.design
     (given b) (length (given b) + length o.add) (takes.no_shove i))
@@ -73,7 +73,7 @@ one_way_out m via_cost b island others id o p to tp fo fp net_is lo lp =
 
 -- ---- a wire is moved aside
 -- the board without the wire, and with it where it is moved to, under some id
-moved_on : (b : BoardOf) (o : Offer) (s : Shoved) → o.rip ≡ [] → o.shoves ≡ s ∷ []
+pub moved_on : (b : BoardOf) (o : Offer) (s : Shoved) → o.rip ≡ [] → o.shoves ≡ s ∷ []
     → cleared b o ≡ beside b.design (without (s.id ∷ []) b.items) (item_at (given b) s.id) s.chain
     (length (given b) + length o.add)
 moved_on b o s rip shoves =

@@ -1,9 +1,9 @@
 -- Joins one after another, and nets that stay closed.
 use Rattle.std.proofs.Common.{◌≡◌, ◌≢◌, ◌⊎◌, ℕ, ◌+◌, ◌<◌, ◌≤◌, List, [], ◌++◌, length, take, Option, Some, unwrap_or}
 use Rattle.std.proofs.Common.{refl, sym, ap, ◌∙◌, subst, inl, inr, arith, length-append, All}
-use Rattle.std.specs.Prelude.{slice_get}
+use Rattle.std.specs.Prelude.{Contains, slice_get}
 use Rattle.std.proofs.lemmas.List.{append-nil, append_assoc, take-append-le}
-use Rattle.std.proofs.lemmas.List.Elements.{All-nil, All-append}
+use Rattle.std.proofs.lemmas.List.Elements.{All-nil, All-append, Contains-append_left}
 use Rattle.std.proofs.lemmas.Option.{slice_get_within}
 use borrow.Author.Count.{below_more}
 use Rattle.pcb_model.specs.declared.item.Item.{Item}
@@ -19,7 +19,8 @@ use Rattle.pcb_board.specs.declared.answer.Entry.TheVariants.{Join}
 use Rattle.pcb_board.specs.Boards.{BoardOf, board_at}
 use Rattle.pcb_board.specs.Keeping.{IsBoard}
 use Rattle.least_offer.specs.Least.{IsLeastOffer}
-use Rattle.closing_pass.specs.Closing.{IsBareJoin, JoinsBy}
+use Rattle.closing_pass.specs.Closing.{IsCloserJoin, JoinsBy}
+use Rattle.closing_pass.specs.Settled.{TakesOne}
 use Rattle.closing_pass.specs.inner.Steps.{IsShutAt, IsClosed, IsClosedOn, GrowsBy, JoinsNet}
 use Rattle.closing_pass.proofs.Staying.{closed_later}
 
@@ -31,7 +32,7 @@ joins_none worker m via_cost b = record {
   cap_stays = refl;
   entries = [];
   history_is = sym (append-nil b.history);
-  joins = All-nil (IsBareJoin worker);
+  joins = All-nil (IsCloserJoin worker);
   least = λ n le. record {
     each = λ o first after there. absurd
         (let within = slice_get_within b.history n (Join o first after) there in omega (arith, within, le));
@@ -57,7 +58,7 @@ joins_on worker m via_cost a b c first second = record {
   entries = first.entries ++ second.entries;
   history_is = second.history_is ∙ (ap (λ (es : List Entry). es ++ second.entries) first.history_is ∙ append_assoc
       a.history first.entries second.entries);
-  joins = All-append (IsBareJoin worker) first.entries second.entries first.joins second.joins;
+  joins = All-append (IsCloserJoin worker) first.entries second.entries first.joins second.joins;
   least = λ n le. elim (cases_from n (length b.history)) [
     | inr late ↦ second.least n late
     | inl early ↦ record {
@@ -65,11 +66,12 @@ joins_on worker m via_cost a b c first second = record {
           let same = look_same b.history second.entries n early in
           let on_b : slice_get b.history n ≡ Some (Join o one last) = sym same ∙
           (ap (λ (es : List Entry). slice_get es n) (sym second.history_is) ∙ there) in
-          let h = (first.least n le).each o one last on_b in (
+          let h = (first.least n le).each o one last on_b in
+          let same_board = sym (board_before b c second.entries o.base second.design_stays second.start_stays
+          second.cap_stays second.history_is (omega (arith, h.0, early))) in (
             h.0,
-            subst (λ (x : BoardOf). IsLeastOffer m via_cost x o)
-                (sym (board_before b c second.entries o.base second.design_stays second.start_stays second.cap_stays
-                second.history_is (omega (arith, h.0, early)))) h.1,
+            subst (λ (x : BoardOf). IsLeastOffer m via_cost x o) same_board h.1,
+            subst (λ (x : BoardOf). TakesOne m x o) same_board h.2,
           );
     }
   ];
@@ -109,6 +111,11 @@ grows_on net a b c first second = record {
   own = All-append (λ (x : Item). x.net ≡ Some net) first.added second.added first.own second.own;
 }
 
+-- no item goes
+pub grows_stays : (net : ℕ) (b c : BoardOf) → GrowsBy net b c → (x : Item) → Contains b.items x → Contains c.items x
+grows_stays net b c grows x h = subst (λ (xs : List Item). Contains xs x) (sym grows.items_are)
+    (Contains-append_left b.items grows.added x h)
+
 -- ---- both
 pub net_none : (m : Mesh) (via_cost net : ℕ) (b : BoardOf) → JoinsNet m via_cost net b b
 net_none m via_cost net b = record { closes = joins_none 16 m via_cost b; grows = grows_none net b }
@@ -136,7 +143,7 @@ pub shut_more : (d : Design) (m : Mesh) (via_cost n : ℕ) (items : List Item) (
     → (place : ℕ) → place < n + 1 → IsShutAt d m via_cost items found place
 shut_more d m via_cost n items found before here = below_more (IsShutAt d m via_cost items found) n before here
 
-some_same : (m n : ℕ) → Some m ≡ Some n → m ≡ n
+pub some_same : (m n : ℕ) → Some m ≡ Some n → m ≡ n
 some_same m n e = ap (λ (o : Option ℕ). unwrap_or o 0) e
 
 -- a net that is closed stays so while items of another come
@@ -171,12 +178,14 @@ closing_ends m via_cost net old b c found closing same shut =
 pub record AreClosed (m : Mesh) (via_cost n : ℕ) (old b : BoardOf) : Type 0 where
   pub board : IsBoard b
   pub closes : JoinsBy 16 m via_cost old b
+  pub stays : (x : Item) → Contains old.items x → Contains b.items x
   pub closed : (net : ℕ) → net < n → IsClosed m via_cost b net
 
 pub closed_none : (m : Mesh) (via_cost : ℕ) (b : BoardOf) → IsBoard b → AreClosed m via_cost 0 b b
 closed_none m via_cost b kept = record {
   board = kept;
   closes = joins_none 16 m via_cost b;
+  stays = λ x h. h;
   closed = λ net below.
       absurd (omega (arith, below));
 }
@@ -192,6 +201,7 @@ pub closed_more : (m : Mesh) (via_cost n : ℕ) (old b c : BoardOf) → AreClose
 closed_more m via_cost n old b c closed joins kept up here stay = record {
   board = kept;
   closes = joins_on 16 m via_cost old b c closed.closes joins.closes;
+  stays = λ x h. grows_stays n b c joins.grows x (closed.stays x h);
   closed = below_more (λ (net : ℕ). IsClosed m via_cost c net) n
       (λ net below. closed_on m via_cost b c n net (λ same. omega (arith, same, below)) up joins.grows (stay net)
       (closed.closed net below))

@@ -1,6 +1,6 @@
 -- How nets end, one after another, and island by island.
 use Rattle.std.proofs.Common.{◌≡◌, ℕ, ◌+◌, ◌≤◌, List, [], ◌∷◌, ◌++◌, length, Some, sym, ap, ◌∙◌, subst, inl, inr}
-use Rattle.std.proofs.Common.{◌<◌, Result, refl, rules, arith, length-append}
+use Rattle.std.proofs.Common.{Result, refl, rules, arith, length-append}
 use Rattle.std.specs.Prelude.{slice_get, remove, IfOk}
 use Rattle.pcb_model.specs.declared.item.Item.{Item}
 use Rattle.pcb_model.specs.declared.design.Design.{Design}
@@ -9,13 +9,13 @@ use Rattle.pcb_islands.proofs.Elements.{look_cases}
 use Rattle.route_lattice.specs.Mesh.{Mesh}
 use Rattle.cut_certificate.specs.declared.cut.Cut.{Cut}
 use Rattle.cut_certificate.specs.Cuts.{Cuts}
-use Rattle.closing_pass.specs.Closing.{CanClose, Ends, AreEnds}
+use Rattle.closing_pass.specs.Closing.{CanClose, Ends, AreEnds, HaveCuts}
 use Rattle.pcb_model.specs.Sound.{Serves}
 use Rattle.pcb_board.specs.Boards.{BoardOf, SnapOf}
 use Rattle.pcb_board.specs.Answers.{snap_of}
 use Rattle.pcb_board.specs.Keeping.{IsBoard}
-use Rattle.closing_pass.specs.inner.Steps.{IsShutAt, IsClosed, IsClosedOn}
-use Rattle.closing_pass.specs.inner.ClosedBoard.{CanCut, AreAllClosed}
+use Rattle.closing_pass.specs.inner.Steps.{IsShutAt, IsClosedOn}
+use Rattle.closing_pass.specs.inner.ClosedBoard.{CanCut}
 
 -- ---- islands of a net
 -- the first n islands have their cuts
@@ -96,17 +96,9 @@ module _ (m : Mesh) (via_cost : ℕ) (b : BoardOf) (s : SnapOf) (d : Design) (is
       subst (λ (e : Design). CanCut e m via_cost s) (sym d_is)
       (subst (λ (x : SnapOf). CanCut x.design m via_cost x) (sym is) here)
 
-  -- what is closed on the board is closed there
-  pub closed_there : ((net : ℕ) → net < length b.design.nets → IsClosed m via_cost b net)
-      → AreAllClosed d m via_cost s.items
-  closed_there closed =
-      subst (λ (e : Design). AreAllClosed e m via_cost s.items) (sym d_is)
-      (subst (λ (x : SnapOf). AreAllClosed x.design m via_cost x.items) (sym is) closed)
-
-  -- and how nets end there they end on the board
-  pub ends_here : {E : Type 0} (r : Result (List (List Cut)) E)
-      → IfOk r (AreEnds d m via_cost s.items (length d.nets))
-      → IfOk r (AreEnds b.design m via_cost b.items (length b.design.nets))
-  ends_here r h =
-      subst (λ (x : SnapOf). IfOk r (AreEnds x.design m via_cost x.items (length x.design.nets))) is
-      (subst (λ (e : Design). IfOk r (AreEnds e m via_cost s.items (length e.nets))) d_is h)
+  -- and the cuts of a net's islands there are those on the board
+  pub cuts_here : {E : Type 0} (found : List Island) (r : Result (List Cut) E)
+      → IfOk r (HaveCuts d m via_cost s.items found) → IfOk r (HaveCuts b.design m via_cost b.items found)
+  cuts_here found r h =
+      subst (λ (x : SnapOf). IfOk r (HaveCuts x.design m via_cost x.items found)) is
+      (subst (λ (e : Design). IfOk r (HaveCuts e m via_cost s.items found)) d_is h)

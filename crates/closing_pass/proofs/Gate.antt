@@ -22,7 +22,7 @@ use Rattle.cut_certificate.specs.Cuts.{ShutsProbe, IsShutBy}
 use Rattle.closing_pass.specs.Gate.{IsPassedOver, StaysWithin}
 
 -- ---- numbers and lists
-same_or_not : (a b : ℕ) → (a ≡ b) ⊎ (a ≡ b → ⊥)
+pub same_or_not : (a b : ℕ) → (a ≡ b) ⊎ (a ≡ b → ⊥)
 same_or_not zero zero = inl refl
 same_or_not zero (suc b) = inr (λ e. omega arith)
 same_or_not (suc a) zero = inr (λ e. omega arith)
@@ -43,7 +43,7 @@ in_or_not (x ∷ xs) v = elim (same_or_not x v) [
     nowhere (suc k, within, is) n f = f (k, omega (arith, within), is)
 
 -- an item with another id stays
-stays : (id : ℕ) (items : List Item) (a : Item) → Contains items a → (a.id ≡ id → ⊥)
+pub stays : (id : ℕ) (items : List Item) (a : Item) → Contains items a → (a.id ≡ id → ⊥)
     → Contains (without (id ∷ []) items) a
 stays id [] a (k, within, is) n = absurd (omega (arith, within))
 stays id (x ∷ items) a (zero, within, is) n =

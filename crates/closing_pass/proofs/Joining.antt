@@ -33,13 +33,14 @@ use Rattle.least_offer.specs.Least.{IsLeastOffer, TakesNothing, MayBeMade}
 use Rattle.cut_certificate.specs.Cuts.{LeadsOn}
 use Rattle.route_plan.specs.declared.plans.FromIsland.{FromIsland}
 use Rattle.route_plan.specs.Planners.{PlannerOf, CanSearch, planner_of}
-use Rattle.route_plan.specs.Plans.{StandsAt, LeadsFrom, LeadsOut, IsShutFrom, IsOfferOf}
-use Rattle.closing_pass.specs.Closing.{CanClose, IsBareJoin, JoinsBy}
+use Rattle.route_plan.specs.Plans.{StandsAt, LeadsFrom, LeadsOut, IsShutFrom, IsOfferOf, StatesFrom, StatesOut}
+use Rattle.closing_pass.specs.Closing.{CanClose, IsCloserJoin, JoinsBy}
+use Rattle.closing_pass.specs.Settled.{TakesOne}
 use Rattle.closing_pass.specs.inner.Steps.{IsShutAt, HasFewer, GrowsBy, JoinsNet}
 use Rattle.closing_pass.proofs.Places.{other_place}
 
 -- ---- the new items
-none_named : (items : List Item) → without [] items ≡ items
+pub none_named : (items : List Item) → without [] items ≡ items
 none_named [] = refl
 none_named (a ∷ items) = ap (λ (xs : List Item). a ∷ xs) (none_named items)
 
@@ -54,7 +55,8 @@ items_joined b o takes =
     ∙ ap (λ (xs : List Item). b.items ++ xs) (append-nil (added b.design (given b) o)))
 
 -- they have its net
-own_added : (d : Design) (net id : ℕ) (ms : List Metal) → All (λ (b : Item). b.net ≡ Some net) (added_from d net id ms)
+pub own_added : (d : Design) (net id : ℕ) (ms : List Metal)
+    → All (λ (b : Item). b.net ≡ Some net) (added_from d net id ms)
 own_added d net id [] = All-nil (λ (b : Item). b.net ≡ Some net)
 own_added d net id (m ∷ ms) = All-cons (λ (b : Item). b.net ≡ Some net) _ _ refl (own_added d net (id + 1) ms)
 
@@ -170,29 +172,31 @@ same_offer : (o p : Offer) (f g a h : ℕ) → Join o f a ≡ Join p g h → o �
 unfolding offer_in
 same_offer o p f g a h e = ap (λ (x : Entry). offer_in x o) e
 
-pub joins_one : (worker : ℕ) (m : Mesh) (via_cost : ℕ) (b : BoardOf) (o : Offer) (net : ℕ) → IsBoard b
-    → IsOfferOf m via_cost b worker net None o
-    → TakesNothing o → JoinsBy worker m via_cost b (joined b o)
-joins_one worker m via_cost b o net kept of takes = record {
+-- an offer without a penalty that rests on the board as it is, is a least one and takes out or moves aside at most one
+-- item
+pub joins_by : (worker : ℕ) (m : Mesh) (via_cost : ℕ) (b : BoardOf) (o : Offer) → IsBoard b → o.worker ≡ worker
+    → o.penalty ≡ None → o.base ≡ length b.history → IsLeastOffer m via_cost b o → TakesOne m b o
+    → JoinsBy worker m via_cost b (joined b o)
+joins_by worker m via_cost b o kept worker_is penalty_is base_is is_least takes = record {
   design_stays = refl;
   start_stays = refl;
   cap_stays = refl;
   entries = join_entry b o ∷ [];
   history_is = refl;
-  joins = All-cons (IsBareJoin worker) (join_entry b o) [] (of.worker_is, of.penalty_is, takes)
-      (All-nil (IsBareJoin worker));
+  joins = All-cons (IsCloserJoin worker) (join_entry b o) [] (worker_is, penalty_is) (All-nil (IsCloserJoin worker));
   least = λ n le. record {
     each = λ p first after there. elim (look_cases b.history (join_entry b o) n (Join p first after) there) [
       | inl before ↦ absurd (not_before n le (Join p first after) before)
       | inr here ↦
           let same : o ≡ p = same_offer o p _ first _ after here.1 in
-          let base : p.base ≡ length b.history = ap (λ (x : Offer). x.base) (sym same) ∙ of.base_is in
+          let base : p.base ≡ length b.history = ap (λ (x : Offer). x.base) (sym same) ∙ base_is in
           let at : board_at (joined b o) p.base ≡ b =
           ap (λ (k : ℕ). board_at (joined b o) k) base ∙ (joined_before b o (length b.history) (omega arith) ∙
           board_whole b kept) in (
             base ∙ sym here.0,
             subst (λ (x : BoardOf). IsLeastOffer m via_cost x p) (sym at)
-                (subst (IsLeastOffer m via_cost b) same of.least),
+                (subst (IsLeastOffer m via_cost b) same is_least),
+            subst (λ (x : BoardOf). TakesOne m x p) (sym at) (subst (TakesOne m b) same takes),
           )
     ];
   };
@@ -200,6 +204,12 @@ joins_one worker m via_cost b o net kept of takes = record {
   where
     not_before : (n : ℕ) → length b.history ≤ n → (e : Entry) → slice_get b.history n ≡ Some e → ⊥
     not_before n le e there = let within = slice_get_within b.history n e there in omega (arith, within, le)
+
+pub joins_one : (worker : ℕ) (m : Mesh) (via_cost : ℕ) (b : BoardOf) (o : Offer) (net : ℕ) → IsBoard b
+    → IsOfferOf m via_cost b worker net None o
+    → TakesNothing o → JoinsBy worker m via_cost b (joined b o)
+joins_one worker m via_cost b o net kept of takes =
+    joins_by worker m via_cost b o kept of.worker_is of.penalty_is of.base_is of.least (inl takes)
 
 -- a join of the net
 pub joins_net : (m : Mesh) (via_cost : ℕ) (b c : BoardOf) (o : Offer) (net : ℕ) → IsBoard b
@@ -262,6 +272,17 @@ leads_there b m via_cost s p others island (Ok led) can kept s_is p_is leads = �
     (record { board = kept; is = sym s_is; plain = can.plain }) stands (λ never. absurd (omega (arith, never)))
 leads_there b m via_cost s p others island (Err e) can kept s_is p_is leads = leads
 
+-- and where it leads by the stated walk
+pub states_there : {E : Type 0} (b : BoardOf) (m : Mesh) (via_cost : ℕ) (s : SnapOf) (p : PlannerOf)
+    (others : List Island) (island : Island) (r : Result FromIsland E) → CanClose m via_cost b.design → IsBoard b
+    → s ≡ snap_of b → p ≡ planner_of m s via_cost 16 → IfOk r (StatesOut p island others)
+    → IfOk r (λ (led : FromIsland). (k : ℕ) → StandsAt b.design b.items island.net k island others
+    → StatesFrom m via_cost b 16 island others led)
+states_there b m via_cost s p others island (Ok led) can kept s_is p_is leads = λ k stands.
+    subst (λ (x : PlannerOf). StatesOut x island others led) p_is leads b k
+    (record { board = kept; is = sym s_is; plain = can.plain }) stands (λ never. absurd (omega (arith, never)))
+states_there b m via_cost s p others island (Err e) can kept s_is p_is leads = leads
+
 -- for the island at a place
 pub led_on : (b : BoardOf) (m : Mesh) (via_cost net place : ℕ) (found others : List Island) (island : Island)
     (led : FromIsland) → AreIslands b.design b.items net found → slice_get found place ≡ Some island
@@ -292,7 +313,7 @@ shut_at b m via_cost place found others island nodes at rest shut other there le
     ((shut.goals_are.exact on.to).1 on.ends) on.leads
 
 -- ---- the answer
-no_clause : (b : BoardOf) (o : Offer) (clause : ℕ) → IsWellFormed (known b) o → FailsFirst (known b) o clause → ⊥
+pub no_clause : (b : BoardOf) (o : Offer) (clause : ℕ) → IsWellFormed (known b) o → FailsFirst (known b) o clause → ⊥
 no_clause b o clause w (inl e) = e.1 w.timely
 no_clause b o clause w (inr (_, inl e)) = e.1 w.ends
 no_clause b o clause w (inr (_, inr (_, inl e))) = e.1 w.metals

@@ -1,5 +1,6 @@
+pub mod OpenCount
+pub mod Settled
 pub mod Closing
 pub mod inner
-pub mod Settled
 pub mod Gate
 pub mod Ids

@@ -1,7 +1,8 @@
 //! The order of joins: each net in turn is joined from any of its islands, until none leads on.
 //! A join takes one island away at least, so there is an end.
 
-ghost use Rattle.std.specs.Prelude.{◌≡◌, ◌<◌, ◌≤◌, ℕ, IfOk, OnOk, OnErr, IsTrue, length};
+ghost use Rattle.std.specs.Prelude.{◌≡◌, ◌<◌, ◌≤◌, ℕ, Contains, IfOk, OnOk, OnErr, IsTrue, length};
+ghost use Rattle.pcb_model.specs.declared.item.Item.{Item as OneItem};
 ghost use Rattle.pcb_islands.specs.Islands.{AreIslands};
 ghost use Rattle.closing_pass.specs.Closing.{Closes};
 ghost use Rattle.closing_pass.specs.inner.Steps.{AreReady, HasIslands, TriesSome, HasFewer, JoinsNet, IsClosed};
@@ -12,8 +13,8 @@ use pcb_board::{Board, boards_serve};
 use pcb_islands::{Island, islands, others_change_nothing};
 use std::alloc::{AllocError, Global};
 
-// The islands of a net of a board.
-fn islands_on(alloc: Global, board: &Board, net: u32) -> Result<List<Island>, AllocError>
+/// The islands of a net of a board.
+pub(crate) fn islands_on(alloc: Global, board: &Board, net: u32) -> Result<List<Island>, AllocError>
     requires { net < length board.now.design.nets }
     ensures { IfOk result (AreIslands board.now.design board.now.items net) }
 {
@@ -55,7 +56,7 @@ impl Closer<'_> {
     }
 
     /// Joins islands of a net until none of them leads on.
-    fn close(
+    pub(crate) fn close(
         &self,
         alloc: Global,
         state: &mut SearchState,
@@ -89,6 +90,7 @@ impl Closer<'_> {
         ensures closed { OnOk result ((net : ℕ) → net < length board.new.design.nets
             → IsClosed self.now.lat.now self.now.via_cost board.new net) }
         ensures closes { Closes self.now.lat.now self.now.via_cost board.old board.new }
+        ensures stays { (x : OneItem) → Contains board.old.items x → Contains board.new.items x }
         ensures ready { AreReady self.now.lat.now self.now.via_cost board.new state.new }
     {
         others_change_nothing();

@@ -2,7 +2,8 @@
 //! Such an offer is planned on the board as it is, so it is always taken.
 
 ghost use Rattle.std.specs.Prelude.{◌≡◌, ◌<◌, ◌≤◌, ◌^◌, ℕ, None, insert, not, IfOk, OnOk, OnErr, IsTrue, length};
-ghost use Rattle.pcb_board.specs.Answers.{joined};
+ghost use Rattle.pcb_board.specs.Answers.{joined, snap_of};
+ghost use Rattle.route_plan.specs.Mapped.{IsMapped};
 ghost use Rattle.route_plan.specs.Plans.{IsOfferOf, StandsAt, LeadsFrom};
 ghost use Rattle.closing_pass.specs.inner.Steps.{AreReady, HasIslandAt, Tries, HasFewer, JoinsNet};
 
@@ -15,11 +16,13 @@ use route_plan::{FromIsland, MappedSnap, Planner, map_snap};
 use std::alloc::{AllocError, Global};
 use wave_search::Search;
 
-/// What a board is closed with: a lattice, and the price of a via in nm.
+/// What a board is closed with: a lattice, the price of a via in nm, and of how many items that a cut names settled
+/// moves are tried.
 #[derive(Clone, Copy)]
 pub(crate) struct Closer<'a> {
     pub lat: &'a Lattice,
     pub via_cost: u64,
+    pub tries: u32,
 }
 
 /// What the searches of the pass share: their memory, and what was mapped last of the board.
@@ -53,7 +56,7 @@ pub(crate) fn put_back(
 
 impl Closer<'_> {
     /// Makes an offer of the closing pass that may be made, so what comes back is that it is committed.
-    fn take(&self, board: &mut Board, offer: Offer) -> Result<(), AllocError>
+    pub(crate) fn take(&self, board: &mut Board, offer: Offer) -> Result<(), AllocError>
         requires { IsOfferOf self.now.lat.now self.now.via_cost board.old CLOSER offer.net None offer }
         ensures ok { OnOk result (board.new ≡ joined board.old offer) }
         ensures err { OnErr result (board.new ≡ board.old) }
@@ -62,6 +65,24 @@ impl Closer<'_> {
             Ok(_) => Ok(()),
             Err(back) => Err(back.cause),
         }
+    }
+
+    /// The board as it is, with maps of the moves on it, by what was mapped of it before.
+    pub(crate) fn map_now(
+        &self,
+        alloc: Global,
+        state: &mut SearchState,
+        board: &Board,
+    ) -> Result<MappedSnap, AllocError>
+        requires ready { AreReady self.now.lat.now self.now.via_cost board.now state.old }
+        ensures mapped { IfOk result (IsMapped self.now.lat.now (snap_of board.now)) }
+        ensures ready { AreReady self.now.lat.now self.now.via_cost board.now state.new }
+    {
+        board.keeps();
+        boards_serve();
+        ids_stay();
+        let snap = board.snap()?;
+        map_snap(alloc, self.lat, state.mapped.take(), snap)
     }
 
     /// Where an island leads on the board as it is. The search goes by maps, which are made for the first search and
@@ -83,10 +104,8 @@ impl Closer<'_> {
     {
         board.keeps();
         boards_serve();
-        ids_stay();
         let lat = self.lat;
-        let snap = board.snap()?;
-        let mapped = map_snap(alloc, lat, state.mapped.take(), snap)?;
+        let mapped = self.map_now(alloc, state, board)?;
         let planner = Planner::by_maps(lat, &mapped, no_maps(lat), self.via_cost, CLOSER);
         let led = planner.offer_from(alloc, &mut state.search, island, others);
         drop(planner);

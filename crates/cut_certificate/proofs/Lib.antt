@@ -1,4 +1,5 @@
 pub mod Marking
+pub mod Rows
 pub mod Gaining
 pub mod Leading
 pub mod Flooding

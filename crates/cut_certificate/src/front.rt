@@ -1,16 +1,17 @@
-//! Marks on nodes, a byte a node, and the marked nodes that wait for their moves to be followed.
+//! Marks on nodes, and the marked nodes that wait for their moves to be followed.
 //! A node is marked when it begins to wait, so it waits once.
 
 ghost use Rattle.std.specs.Prelude.{◌≡◌, ◌↔◌, ◌<◌, ℕ, length, IfOk, OnOk, IsTrue};
 ghost use Rattle.cut_certificate.specs.inner.Marks.{IsMarked, IsBlank, Gains, AreListed, fill_of};
 
+use crate::marks::Marks;
 use geo_kernel::List;
 use std::alloc::{AllocError, Global};
 
 /// Marks on nodes, and the marked nodes that wait, of which the last is taken first.
 #[derive(Drop)]
 pub(crate) struct Front {
-    pub marks: Vec<bool>,
+    pub marks: Marks,
     pub waiting: Vec<u32>,
 }
 
@@ -19,43 +20,36 @@ impl Front {
     pub(crate) fn new(alloc: Global, count: u32) -> Result<Front, AllocError>
         ensures { IfOk result (λ f. IsBlank count (fill_of f)) }
     {
-        let marks = vec![in alloc; false; count as usize]?;
+        let marks = Marks::new(alloc, count)?;
         let waiting = Vec::new(alloc);
         Ok(Front { marks, waiting })
     }
 
     /// Whether the node is marked.
     pub(crate) fn has(&self, node: u32) -> bool
-        requires { node < length self.now.marks.items }
-        ensures { IsTrue result ↔ IsMarked self.now.marks.items node }
+        requires { node < length self.now.marks }
+        ensures { IsTrue result ↔ IsMarked self.now.marks node }
     {
-        self.marks[node as usize]
+        self.marks.has(node)
     }
 
     /// Marks a node, and lets it wait if it wasn't marked.
     pub(crate) fn mark(&mut self, node: u32) -> Result<(), AllocError>
-        requires { node < length self.old.marks.items }
+        requires { node < length self.old.marks }
         ensures { OnOk result (Gains (λ v. node ≡ v) (fill_of self.old) (fill_of self.new)) }
     {
         if self.has(node) {
             return Ok(());
         }
         self.waiting.push(node)?;
-        self.marks[node as usize] = true;
+        self.marks.set(node)?;
         Ok(())
     }
 
-    /// The marked nodes below `count`, ascending.
-    pub(crate) fn marked(&self, alloc: Global, count: u32) -> Result<List<u32>, AllocError>
-        requires { length self.now.marks.items ≡ count }
-        ensures { IfOk result (AreListed self.now.marks.items count) }
+    /// The marked nodes, ascending.
+    pub(crate) fn marked(&self, alloc: Global) -> Result<List<u32>, AllocError>
+        ensures { IfOk result (AreListed self.now.marks (length self.now.marks)) }
     {
-        let mut nodes = List::new(alloc);
-        for node in 0..count {
-            if self.has(node) {
-                nodes.push(node)?;
-            }
-        }
-        Ok(nodes)
+        self.marks.marked(alloc)
     }
 }

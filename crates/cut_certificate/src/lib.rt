@@ -10,6 +10,7 @@ mod cut;
 mod front;
 mod laws;
 mod make;
+mod marks;
 mod shut;
 mod sound;
 mod spread;

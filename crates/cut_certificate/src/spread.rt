@@ -17,7 +17,7 @@ use std::alloc::{AllocError, Global};
 
 /// Marks the starts.
 fn seed(front: &mut Front, starts: &[u32]) -> Result<(), AllocError>
-    requires { All (λ s. s < length front.old.marks.items) starts.now }
+    requires { All (λ s. s < length front.old.marks) starts.now }
     ensures { OnOk result (Gains (Contains starts.now) (fill_of front.old) (fill_of front.new)) }
 {
     for s in starts {
@@ -31,7 +31,7 @@ impl<M: Moves> SoundMoves<'_, M> {
     fn follow_one(&self, front: &mut Front, node: u32, i: u32) -> Result<(), AllocError>
         requires node { node < (M.graph self.now).count }
         requires index { i < (M.graph self.now).arity }
-        requires size { length front.old.marks.items ≡ (M.graph self.now).count }
+        requires size { length front.old.marks ≡ (M.graph self.now).count }
         ensures { OnOk result (Gains (IsLedTo (M.graph self.now) node i (i + 1)) (fill_of front.old)
             (fill_of front.new)) }
     {
@@ -51,7 +51,7 @@ impl<M: Moves> SoundMoves<'_, M> {
     /// Follows all moves of the node.
     fn follow(&self, front: &mut Front, node: u32) -> Result<(), AllocError>
         requires node { node < (M.graph self.now).count }
-        requires size { length front.old.marks.items ≡ (M.graph self.now).count }
+        requires size { length front.old.marks ≡ (M.graph self.now).count }
         ensures { OnOk result (Gains (IsNext (M.graph self.now) node) (fill_of front.old) (fill_of front.new)) }
     {
         for i in 0..self.arity() {
@@ -82,7 +82,7 @@ impl<M: Moves> SoundMoves<'_, M> {
         let count = self.count();
         let mut front = Front::new(alloc, count)?;
         self.mark_reached(&mut front, starts)?;
-        let nodes = front.marked(alloc, count)?;
+        let nodes = front.marked(alloc)?;
         Ok(Reach { nodes })
     }
 
@@ -123,8 +123,8 @@ pub fn flood<M: Moves>(alloc: Global, m: &M, starts: &List<u32>) -> Result<Reach
 
 /// Whether one of the nodes is marked.
 fn any_marked(front: &Front, nodes: &[u32]) -> bool
-    requires { All (λ s. s < length front.now.marks.items) nodes.now }
-    ensures { OnFalse result (All (λ s. IsMarked front.now.marks.items s → ⊥) nodes.now) }
+    requires { All (λ s. s < length front.now.marks) nodes.now }
+    ensures { OnFalse result (All (λ s. IsMarked front.now.marks s → ⊥) nodes.now) }
 {
     for s in nodes {
         if front.has(*s) {

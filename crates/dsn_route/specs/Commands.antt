@@ -14,7 +14,7 @@ use Rattle.dsn_route.specs.Lines.{max_bytes}
 
 -- a generated board is routed by one worker, and else as without an option
 abbrev pub default_knobs : Knobs
-default_knobs = record { grid = None; workers = 1; passes = 10; via_cost = 2000000; omit_fixed = false }
+default_knobs = record { grid = None; workers = 1; passes = 10; via_cost = 2000000; tries = 16; omit_fixed = false }
 
 abbrev pub knobs_of : Command → Knobs
 knobs_of (Route input output knobs) = knobs
@@ -29,7 +29,7 @@ mesh_of command d = mesh_at (knobs_of command) d
 
 -- the run that is asked for
 abbrev pub run_at : Knobs → RunOf
-run_at knobs = run_from knobs.via_cost knobs.workers knobs.passes
+run_at knobs = run_from knobs.via_cost knobs.workers knobs.passes knobs.tries
 
 abbrev pub run_of : Command → RunOf
 run_of command = run_at (knobs_of command)

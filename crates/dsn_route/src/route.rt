@@ -44,6 +44,7 @@ const DEFAULT_KNOBS: Knobs = Knobs {
     workers: 1,
     passes: 10,
     via_cost: 2_000_000,
+    tries: 16,
     omit_fixed: false,
 };
 
@@ -98,6 +99,7 @@ fn route_on<T: Threads + Wait + Sync, D: Desk, R: Sink, G: Gate + Sync>(
         via_cost: knobs.via_cost,
         workers: knobs.workers,
         passes: knobs.passes,
+        tries: knobs.tries,
     };
     match run_nets(rt, alloc, input, design, gate) {
         Ok(routed) => {

@@ -7,9 +7,9 @@ use Rattle.route_words.specs.Parts.{Word, look_of}
 use Rattle.route_words.specs.Parts.Look.{plain}
 use Rattle.route_words.specs.Words.{number_between}
 use Rattle.route_words.specs.declared.limits.TheConstants.{LAST_BOARD, LONGEST_GRID, MOST_PASSES, MOST_VIA_COST}
-use Rattle.route_words.specs.declared.limits.TheConstants.{MOST_WORKERS}
+use Rattle.route_words.specs.declared.limits.TheConstants.{MOST_TRIES, MOST_WORKERS}
 use Rattle.fault_notes.specs.declared.trouble.Choice.{Choice}
-use Rattle.fault_notes.specs.declared.trouble.Choice.TheVariants.{Grid, Workers, Passes, ViaCost, OmitFixed}
+use Rattle.fault_notes.specs.declared.trouble.Choice.TheVariants.{Grid, Workers, Passes, ViaCost, Tries, OmitFixed}
 use Rattle.fault_notes.specs.declared.trouble.Range.{Range}
 use Rattle.fault_notes.specs.declared.trouble.Trouble.{Trouble}
 use Rattle.fault_notes.specs.declared.trouble.Trouble.TheVariants.{NoCommand, NotACommand, Strange, Again, NoValue}
@@ -24,6 +24,7 @@ name_of Grid = codes "--grid"
 name_of Workers = codes "--workers"
 name_of Passes = codes "--passes"
 name_of ViaCost = codes "--via-cost"
+name_of Tries = codes "--tries"
 name_of OmitFixed = codes "--omit-fixed"
 
 -- the numbers that an option takes, if it takes one
@@ -32,6 +33,7 @@ range_of Grid = Some (record { least = 1; most = LONGEST_GRID })
 range_of Workers = Some (record { least = 1; most = MOST_WORKERS })
 range_of Passes = Some (record { least = 1; most = MOST_PASSES })
 range_of ViaCost = Some (record { least = 0; most = MOST_VIA_COST })
+range_of Tries = Some (record { least = 0; most = MOST_TRIES })
 range_of OmitFixed = None
 
 abbrev pub board_range : Range

@@ -8,11 +8,12 @@ ghost use Rattle.fault_notes.specs.inner.Looks.{IsLook, IsSpelled};
 use crate::trouble::{Choice, name};
 
 /// All options.
-const ALL_CHOICES: [Choice; 5] = [
+const ALL_CHOICES: [Choice; 6] = [
     Choice::Grid,
     Choice::Workers,
     Choice::Passes,
     Choice::ViaCost,
+    Choice::Tries,
     Choice::OmitFixed,
 ];
 

@@ -4,7 +4,9 @@
 ghost use Rattle.std.specs.Prelude.{◌≡◌};
 ghost use Rattle.fault_notes.specs.Words.{name_of, range_of, board_range};
 
-use route_words::limits::{LAST_BOARD, LONGEST_GRID, MOST_PASSES, MOST_VIA_COST, MOST_WORKERS};
+use route_words::limits::{
+    LAST_BOARD, LONGEST_GRID, MOST_PASSES, MOST_TRIES, MOST_VIA_COST, MOST_WORKERS,
+};
 
 /// An option of `route`.
 #[derive(Clone, Copy, PartialEq, Eq)]
@@ -13,6 +15,7 @@ pub enum Choice {
     Workers,
     Passes,
     ViaCost,
+    Tries,
     OmitFixed,
 }
 
@@ -61,6 +64,7 @@ pub(crate) fn name(choice: Choice) -> &'static str
         Choice::Workers => "--workers",
         Choice::Passes => "--passes",
         Choice::ViaCost => "--via-cost",
+        Choice::Tries => "--tries",
         Choice::OmitFixed => "--omit-fixed",
     }
 }
@@ -85,6 +89,10 @@ pub(crate) fn range_for(choice: Choice) -> Option<Range>
         Choice::ViaCost => Some(Range {
             least: 0,
             most: MOST_VIA_COST,
+        }),
+        Choice::Tries => Some(Range {
+            least: 0,
+            most: MOST_TRIES,
         }),
         Choice::OmitFixed => None,
     }

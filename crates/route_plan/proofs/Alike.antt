@@ -7,6 +7,7 @@ use Rattle.route_lattice.specs.declared.moves.Walk.{Walk}
 use Rattle.route_lattice.specs.declared.moves.Found.{Found}
 use Rattle.route_lattice.specs.declared.moves.Found.TheVariants as found
 use Rattle.wave_search.specs.Bounds.{IsBound}
+use Rattle.wave_search.specs.Stated.{AnswersStated}
 use Rattle.cut_certificate.specs.Same.{SameMoves}
 use Rattle.cut_certificate.specs.Backwards.{HasMoveTo, IsMutual}
 use Rattle.std.proofs.Common.{◌∙◌}
@@ -14,7 +15,7 @@ use Rattle.cut_certificate.proofs.Same.{flipped, opens_same, leads_same, reach_s
 
 module _ (a b : MoveGraph) (s : SameMoves a b) where
   -- a walk
-  walk_same : (starts goals : List ℕ) (w : Walk) → IsWalk a starts goals w → IsWalk b starts goals w
+  pub walk_same : (starts goals : List ℕ) (w : Walk) → IsWalk a starts goals w → IsWalk b starts goals w
   walk_same starts goals w h = record {
     from = h.from;
     hops = h.hops;
@@ -54,6 +55,22 @@ module _ (a b : MoveGraph) (s : SameMoves a b) where
       → IfOk r (Answers b starts goals)
   ok_same starts goals (Ok f) h = answers_same starts goals f h
   ok_same starts goals (Err e) h = h
+
+  -- the stated walk
+  stated_same : (starts goals : List ℕ) (f : Found) → AnswersStated a starts goals f → AnswersStated b starts goals f
+  unfolding walk_same
+  stated_same starts goals (found.Walk w) h = record {
+    walk = walk_same starts goals w h.walk;
+    first = λ v hs g x y p. h.first v hs g x y (leads_same b a (flipped a b s) hs v g p);
+    small = h.small;
+  }
+  stated_same starts goals (found.Closed r) h =
+      (none_same starts goals h.0, reach_same a b s starts r.nodes h.1)
+
+  pub ok_stated : {E : Type 0} (starts goals : List ℕ) (r : Result Found E) → IfOk r (AnswersStated a starts goals)
+      → IfOk r (AnswersStated b starts goals)
+  ok_stated starts goals (Ok f) h = stated_same starts goals f h
+  ok_stated starts goals (Err e) h = h
 
   -- a bound
   pub bound_same : (goals : List ℕ) (low : ℕ → ℕ) → IsBound a goals low → IsBound b goals low

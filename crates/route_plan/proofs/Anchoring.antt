@@ -11,7 +11,7 @@ use Rattle.route_lattice.specs.Mesh.{Mesh}
 use Rattle.route_lattice.specs.Anchors.{Anchors, AnchorsAmong}
 use Rattle.cut_certificate.specs.Cuts.{IsGoal}
 use Rattle.ripup.proofs.Passing.{same_key}
-use Rattle.route_plan.specs.inner.Routes.{NoneAnchored}
+use Rattle.route_plan.specs.Routes.{NoneAnchored}
 
 module _ (d : Design) (m : Mesh) (items : List Item) (node : ℕ) where
   -- no item has the id

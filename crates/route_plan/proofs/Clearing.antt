@@ -27,7 +27,8 @@ use Rattle.route_plan.specs.declared.way.Way.{Way}
 use Rattle.route_plan.specs.inner.Ways.{MakesWayOn}
 use Rattle.route_plan.specs.declared.route.Route.{Route}
 use Rattle.route_plan.specs.Plans.{IsSnapOf, CanPlan}
-use Rattle.route_plan.specs.inner.Routes.{IsRoute, IsRouteOffer, MakesWayFor}
+use Rattle.route_plan.specs.Routes.{IsRoute}
+use Rattle.route_plan.specs.inner.RouteOffers.{IsRouteOffer, MakesWayFor}
 use Rattle.route_plan.specs.Plans.{IsOfferOf, StandsAt}
 use Rattle.route_plan.proofs.Offering.{joins, least}
 use Rattle.route_plan.proofs.Planning.{on_board, number_is, legal_offer}

@@ -16,3 +16,4 @@ pub mod Asking
 pub mod Alike
 pub mod Searching
 pub mod Clearing
+pub mod Leading

@@ -9,12 +9,13 @@ use Rattle.route_lattice.specs.declared.moves.Walk.{Walk}
 use Rattle.route_lattice.specs.Mesh.{Mesh}
 use Rattle.route_lattice.specs.Walks.{IsLeastWalk}
 use Rattle.route_lattice.specs.Legal.{IsLegalNode, legal_graph}
+use Rattle.wave_search.specs.Stated.{IsStated}
 use Rattle.board_offers.specs.declared.offer.Offer.{Offer}
 use Rattle.pcb_board.specs.Boards.{BoardOf}
 use Rattle.route_plan.specs.declared.route.Route.{Route}
 use Rattle.least_offer.specs.Least.{walks_of, judged_on, IsAnchoredAt, JoinsLeast, TakesNothing, Chooses, IsLeastOffer}
 use Rattle.route_plan.specs.Plans.{moves_of, StandsAt}
-use Rattle.route_plan.specs.inner.Routes.{IsAnchored, IsRoute}
+use Rattle.route_plan.specs.Routes.{IsAnchored, IsRoute}
 use Rattle.least_offer.proofs.Standing.{uncleared}
 
 -- an island of a net has that net
@@ -97,4 +98,28 @@ module _ (m : Mesh) (via_cost : ℕ) (b : BoardOf) (o : Offer) where
     joins = subst (JoinsLeast m via_cost b o island) stands.others_are
         (joins island others place route stands r from_is to_is add_is takes);
     chooses = chooses;
+  }
+
+  -- ---- stated walks
+  stated_same : (q : Option ℕ) (starts goals : List ℕ) (w : Walk) → (q ≡ None → TakesNothing o)
+      → IsStated (moves_of b.design m b.items o.net via_cost q) starts goals w
+      → IsStated (walks_of m via_cost b o q) starts goals w
+  stated_same None starts goals w takes h = subst (λ (xs : List Item). IsStated
+      (legal_graph b.design m xs o.net via_cost) starts goals w) (sym (uncleared b o (takes refl))) h
+  stated_same (Some p) starts goals w takes h = h
+
+  -- the copper of a stated route joins the island so
+  pub record JoinsStated (island : Island) (others : List Island) : Type 0 where
+    pub joins : JoinsLeast m via_cost b o island others
+    pub stated : IsStated (walks_of m via_cost b o o.penalty) joins.starts joins.goals joins.walk
+
+  pub joins_stated : (island : Island) (others : List Island) (place : ℕ) (route : Route)
+      → StandsAt b.design b.items o.net place island others
+      → (r : IsRoute b.design m b.items o.net via_cost o.penalty island others route)
+      → IsStated (moves_of b.design m b.items o.net via_cost o.penalty) r.starts r.goals r.walk → o.from ≡ route.from
+      → o.to ≡ route.to → o.add ≡ route.metals → (o.penalty ≡ None → TakesNothing o) → JoinsStated island others
+  unfolding joins
+  joins_stated island others place route stands r stated from_is to_is add_is takes = record {
+    joins = joins island others place route stands r from_is to_is add_is takes;
+    stated = stated_same o.penalty r.starts r.goals r.walk takes stated;
   }

@@ -17,11 +17,13 @@ use Rattle.least_offer.specs.Least.{IsLeastOffer, JoinsLeast, TakesNothing, MayB
 use Rattle.route_plan.specs.declared.route.Route.{Route}
 use Rattle.route_plan.specs.declared.way.Way.{Way}
 use Rattle.route_plan.specs.Plans.{IsSnapOf, CanPlan, IsWhole, IsShutFrom, IsShutIn, IsOfferOf}
-use Rattle.route_plan.specs.inner.Searches.{CanWalk}
-use Rattle.route_plan.specs.inner.Routes.{IsRoute, IsRouteOffer}
-use Rattle.route_plan.specs.Plans.{StandsAt, LeadsFrom}
+use Rattle.route_plan.specs.Searches.{CanWalk}
+use Rattle.route_plan.specs.Routes.{IsRoute}
+use Rattle.route_plan.specs.inner.RouteOffers.{IsRouteOffer}
+use Rattle.route_plan.specs.Plans.{StandsAt, LeadsFrom, IsStatedOffer, moves_of}
+use Rattle.wave_search.specs.Stated.{IsStated}
 use Rattle.route_plan.specs.declared.plans.FromIsland.{FromIsland}
-use Rattle.route_plan.proofs.Offering.{joins, least, net_at}
+use Rattle.route_plan.proofs.Offering.{joins, joins_stated, least, net_at}
 
 -- what its walks ask
 pub can_walk : (d : Design) (m : Mesh) (s : SnapOf) (net via_cost : ℕ) (penalty : Option ℕ)
@@ -37,6 +39,12 @@ pub first_net : (d : Design) (items : List Item) (net : ℕ) (found others : Lis
 first_net d items net found others island islands first rest =
     net_at d items net 0 island others
     (record { found = found; islands = islands; island_is = first; others_are = rest })
+
+-- the route of a stated walk
+pub record IsRouteStated (m : Mesh) (via_cost : ℕ) (e : Design) (xs : List Item) (k : ℕ) (q : Option ℕ)
+    (island : Island) (others : List Island) (route : Route) : Type 0 where
+  pub is_route : IsRoute e m xs k via_cost q island others route
+  pub stated : IsStated (moves_of e m xs k via_cost q) is_route.starts is_route.goals is_route.walk
 
 module _ (d : Design) (m : Mesh) (s : SnapOf) (net via_cost : ℕ) (b : BoardOf) where
   -- what holds of the design and the snapshot's items holds of the board's
@@ -92,6 +100,35 @@ module _ (d : Design) (m : Mesh) (s : SnapOf) (net via_cost : ℕ) (b : BoardOf)
         joins m via_cost b o island others place route stands_on route_on bare.from_is bare.to_is bare.add_is
             (λ e. takes),
       )
+
+  -- so does the route of a stated walk
+  pub stated_offer : (worker : ℕ) (island : Island) (others : List Island) (place : ℕ) (route : Route) (way : Way)
+      (o : Offer) → CanPlan d m s net via_cost None
+      → IsSnapOf s b → Ascends s.items → worker ≤ 16 → StandsAt b.design b.items net place island others
+      → (worker < 16 → place ≡ 0) → IsRouteStated m via_cost d s.items net None island others route
+      → (way.rip ≡ []) × (way.shoves ≡ []) → IsRouteOffer s.number worker net None route way o
+      → ((m : Mesh) (via_cost : ℕ) (b : BoardOf) (o : Offer) → IsBoard b → Ascends b.items → IsPlainCopper b.design
+      → FitsDesign b.design m → o.base ≤ length b.history
+      → o.worker ≤ 16 → o.net < length b.design.nets → IsLeastOffer m via_cost b o
+      → (o.penalty ≡ None → TakesNothing o) → MayBeMade b o) → island.net ≡ net
+      → IsStatedOffer m via_cost b worker island others o
+  stated_offer worker island others place route way o can of up few stands first r none bare law own =
+      let made = legal_offer worker island others place route way o can of up few stands first r.is_route none bare law
+      in
+      let stands_on : StandsAt b.design b.items o.net place island others = subst
+      (λ (n : ℕ). StandsAt b.design b.items n place island others) (sym bare.net_is) stands in
+      let on : IsRouteStated m via_cost b.design b.items o.net o.penalty island others route =
+      subst (λ (p : ℕ × Option ℕ). IsRouteStated m via_cost b.design b.items p.0 p.1 island others route)
+      (λ i. (sym bare.net_is i, sym bare.penalty_is i))
+      (on_board (λ e xs. IsRouteStated m via_cost e xs net None island others route) can.own of r) in
+      let j = joins_stated m via_cost b o island others place route stands_on on.is_route on.stated bare.from_is
+      bare.to_is bare.add_is (λ e. made.1) in
+      record {
+        offer = subst (λ (n : ℕ). IsOfferOf m via_cost b worker n None o) (sym own) made.0;
+        takes = made.1;
+        joins = j.joins;
+        stated = j.stated;
+      }
 
   -- the first island and the others on the snapshot are those on the board
   pub first_stands : (penalty : Option ℕ) (found others : List Island) (island : Island)

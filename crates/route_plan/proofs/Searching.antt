@@ -11,7 +11,7 @@ use Rattle.wave_search.specs.Bounds.{IsBound}
 use Rattle.cut_certificate.specs.Backwards.{HasMoveTo, IsMutual}
 use Rattle.ripup.specs.Rips.{CanRip, rip_graph}
 use Rattle.route_plan.specs.Plans.{moves_of}
-use Rattle.route_plan.specs.inner.Searches.{CanWalk}
+use Rattle.route_plan.specs.Searches.{CanWalk}
 
 -- what the laws on legal moves and on those past routed items say
 abbrev pub LegalSound : Type 0

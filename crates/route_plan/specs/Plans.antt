@@ -21,7 +21,8 @@ use Rattle.route_plan.specs.declared.plans.FromIsland.{FromIsland}
 use Rattle.route_plan.specs.declared.plans.FromIsland.TheVariants as from_island
 use Rattle.route_plan.specs.declared.plans.Planned.{Planned}
 use Rattle.route_plan.specs.declared.plans.Planned.TheVariants as planned
-use Rattle.least_offer.specs.Least.{IsLeastOffer, JoinsLeast, MayBeMade, TakesNothing}
+use Rattle.wave_search.specs.Stated.{IsStated}
+use Rattle.least_offer.specs.Least.{IsLeastOffer, JoinsLeast, MayBeMade, TakesNothing, walks_of}
 use Rattle.board_offers.specs.declared.offer.TheConstants.{CLOSER}
 use Rattle.route_plan.specs.Planners.{PlannerOf}
 
@@ -111,6 +112,22 @@ LeadsFrom m via_cost b worker penalty island others (from_island.Offer o) =
 LeadsFrom m via_cost b worker penalty island others (from_island.Shut reach) =
     IsShutFrom b.design m b.items island.net via_cost penalty island others reach.nodes
 
+-- an offer without a penalty that takes nothing out, may be made, and lays the stated walk from the island to one of
+-- the others
+pub record IsStatedOffer (m : Mesh) (via_cost : ℕ) (b : BoardOf) (worker : ℕ) (island : Island) (others : List Island)
+    (o : Offer) : Type 0 where
+  pub offer : IsOfferOf m via_cost b worker island.net None o
+  pub takes : TakesNothing o
+  pub joins : JoinsLeast m via_cost b o island others
+  pub stated : IsStated (walks_of m via_cost b o o.penalty) joins.starts joins.goals joins.walk
+
+-- such an offer, or no legal walk leads so
+abbrev pub StatesFrom : Mesh → ℕ → BoardOf → ℕ → Island → List Island → FromIsland → Type 0
+StatesFrom m via_cost b worker island others (from_island.Offer o) =
+    IsStatedOffer m via_cost b worker island others o
+StatesFrom m via_cost b worker island others (from_island.Shut reach) =
+    IsShutFrom b.design m b.items island.net via_cost None island others reach.nodes
+
 -- the plan of a net on a board
 abbrev pub Plans : Mesh → ℕ → BoardOf → ℕ → ℕ → Option ℕ → Planned → Type 0
 Plans m via_cost b worker net penalty (planned.Offer o) = IsPlanOf m via_cost b worker net penalty o
@@ -129,3 +146,9 @@ abbrev pub LeadsOut : PlannerOf → Option ℕ → Island → List Island → Fr
 LeadsOut p penalty island others answer = (b : BoardOf) (place : ℕ) → IsSnapOf p.snap b
     → StandsAt b.design b.items island.net place island others → (p.worker < CLOSER → place ≡ 0)
     → LeadsFrom p.lat p.via_cost b p.worker penalty island others answer
+
+-- and where it leads by the stated walk
+abbrev pub StatesOut : PlannerOf → Island → List Island → FromIsland → Type 0
+StatesOut p island others answer = (b : BoardOf) (place : ℕ) → IsSnapOf p.snap b
+    → StandsAt b.design b.items island.net place island others → (p.worker < CLOSER → place ≡ 0)
+    → StatesFrom p.lat p.via_cost b p.worker island others answer

@@ -22,3 +22,4 @@ pub use mapped::{MappedSnap, map_board, map_snap};
 pub use planner::{Planner, plan};
 pub use plans::{FromIsland, NetPlan, Planned};
 pub use rips::{MapRips, rips_of};
+pub use route::{NetSearch, Route, Routed};

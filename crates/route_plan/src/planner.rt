@@ -7,7 +7,7 @@ ghost use Rattle.move_maps.specs.Maps.{AreMapsOf};
 ghost use Rattle.pcb_board.specs.Boards.{BoardOf};
 ghost use Rattle.board_offers.specs.declared.offer.TheConstants.{CLOSER};
 ghost use Rattle.route_plan.specs.Planners.{CanSearch, CanAsk, AreMovesOf, planner_of};
-ghost use Rattle.route_plan.specs.Plans.{IsSnapOf, CanPlan, Plans, PlansNet, LeadsOut, moves_of};
+ghost use Rattle.route_plan.specs.Plans.{IsSnapOf, CanPlan, Plans, PlansNet, LeadsOut, StatesOut, moves_of};
 
 use crate::mapped::MappedSnap;
 use crate::plans::{FromIsland, NetPlan, Planned};
@@ -213,6 +213,39 @@ impl<'a> Planner<'a> {
         let moves = LegalMoves::of(self.lat, self.d, self.snap, net, self.via_cost);
         self.over(&moves, net, None)
             .lead(alloc, search, island, others)
+    }
+
+    /// Where an island of a net leads by the stated walk, with memory for searches: an offer that lays it to one of the
+    /// others, or all that the moves reach. `AllocError` comes only for want of memory.
+    pub fn stated_from(
+        &self,
+        alloc: Global,
+        search: &mut Search,
+        island: &Island,
+        others: &List<Island>,
+    ) -> Result<FromIsland, AllocError>
+        requires net { island.now.net < length self.now.snap.design.nets }
+        requires size { search.old ≡ node_count self.now.lat }
+        ensures leads { IfOk result (StatesOut self.now island.now others.now) }
+        ensures size { search.new ≡ search.old }
+    {
+        let net = island.net;
+        if let Some(maps) = self.maps {
+            match maps.net_moves(alloc, self.lat, self.d, self.snap, net, self.via_cost) {
+                Ok(Some(moves)) => {
+                    let led = self
+                        .over(&moves, net, None)
+                        .lead_stated(alloc, search, island, others);
+                    drop(moves);
+                    return led;
+                }
+                Ok(None) => {}
+                Err(error) => return Err(error),
+            }
+        }
+        let moves = LegalMoves::of(self.lat, self.d, self.snap, net, self.via_cost);
+        self.over(&moves, net, None)
+            .lead_stated(alloc, search, island, others)
     }
 }
 

@@ -1,11 +1,11 @@
 //! The plan of a net on a snapshot: a least walk from its first island to another, and what makes way for it.
 //! A plan takes no turn: what it reads stays as it is while the board goes on.
 
-ghost use Rattle.std.specs.Prelude.{◌≡◌, All, IfOk};
+ghost use Rattle.std.specs.Prelude.{◌≡◌, All, IfOk, None};
 ghost use Rattle.route_lattice.specs.Mesh.{node_count};
 ghost use Rattle.path_wire.specs.Lays.{IsWellLaid};
-ghost use Rattle.route_plan.specs.Plans.{PlansNet, LeadsOut};
-ghost use Rattle.route_plan.specs.inner.Routes.{IsRouteOffer, MakesWayFor};
+ghost use Rattle.route_plan.specs.Plans.{PlansNet, LeadsOut, StatesOut};
+ghost use Rattle.route_plan.specs.inner.RouteOffers.{IsRouteOffer, MakesWayFor, search_of};
 
 use crate::route::{NetSearch, Route, Routed};
 use crate::way::{Way, make_way};
@@ -20,7 +20,7 @@ use pcb_model::{Copper, Design, Metal};
 use route_lattice::{Ground, Lattice, Moves, Reach};
 use std::alloc::{AllocError, Global};
 use std::marker::Model;
-use wave_search::Search;
+use wave_search::{Search, stated_walks_are_one};
 
 /// What a plan answers: an offer; all that moves reach from the first island, where no walk leads from it to another;
 /// or that the net has at most one island.
@@ -114,6 +114,59 @@ impl<M: Moves> NetPlan<'_, M> {
         }
     }
 
+    /// The search from an island of the net to the others.
+    fn search_from<'b>(
+        &'b self,
+        island: &'b Island,
+        others: &'b List<Island>,
+    ) -> NetSearch<'b, Snap, M>
+        requires net { island.now.net ≡ self.now.net }
+        ensures { result ≡ search_of self.now island.now others.now }
+    {
+        self.snap.in_order();
+        NetSearch {
+            lat: self.lat,
+            d: self.d,
+            copper: self.snap,
+            moves: self.moves,
+            island,
+            others,
+            via_cost: self.via_cost,
+            penalty: self.penalty,
+        }
+    }
+
+    /// Where an island of the net leads by the stated walk, with memory for searches. Nothing is taken out.
+    pub(crate) fn lead_stated(
+        &self,
+        alloc: Global,
+        search: &mut Search,
+        island: &Island,
+        others: &List<Island>,
+    ) -> Result<FromIsland, AllocError>
+        requires net { island.now.net ≡ self.now.net }
+        requires free { self.now.penalty ≡ None }
+        requires size { search.old ≡ node_count self.now.by.lat }
+        ensures leads { IfOk result (StatesOut self.now.by island.now others.now) }
+        ensures size { search.new ≡ search.old }
+    {
+        copper_well_laid();
+        least_offers_may_be_made();
+        stated_walks_are_one(self.moves);
+        self.snap.in_order();
+        let task = self.search_from(island, others);
+        match task.stated_route(alloc, search)? {
+            Routed::Shut(reach) => Ok(FromIsland::Shut(reach)),
+            Routed::Route(route) => {
+                let way = Way {
+                    rip: List::new(alloc),
+                    shoves: List::new(alloc),
+                };
+                Ok(FromIsland::Offer(self.offer_of(route, way)))
+            }
+        }
+    }
+
     /// Where an island of the net leads, with memory for searches.
     pub(crate) fn lead(
         &self,
@@ -133,16 +186,7 @@ impl<M: Moves> NetPlan<'_, M> {
         made_shoves_stand_together();
         shoves_are_one();
         self.snap.in_order();
-        let task = NetSearch {
-            lat: self.lat,
-            d: self.d,
-            copper: self.snap,
-            moves: self.moves,
-            island,
-            others,
-            via_cost: self.via_cost,
-            penalty: self.penalty,
-        };
+        let task = self.search_from(island, others);
         match task.route(alloc, search)? {
             Routed::Shut(reach) => Ok(FromIsland::Shut(reach)),
             Routed::Route(route) => match self.way_for(alloc, &route.metals) {

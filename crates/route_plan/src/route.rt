@@ -1,31 +1,37 @@
 //! A least walk of a net on some copper, what it lays, and the items that it joins.
 //! The walk leads from one island of the net to another.
 
-ghost use Rattle.std.specs.Prelude.{◌≡◌, ◌<◌, ℕ, IfOk, All, Contains, length};
+ghost use Rattle.std.specs.Prelude.{◌≡◌, ◌↔◌, ◌<◌, ℕ, IfOk, All, Contains, IsTrue, length};
 ghost use Rattle.std.specs.Bool.{OnTrue};
+ghost use Rattle.std.specs.List.Sorted.{IsStrictlyIncreasing};
 ghost use Rattle.route_lattice.specs.Mesh.{node_count};
 ghost use Rattle.route_lattice.specs.Walks.{Answers, NoneLeads};
-ghost use Rattle.cut_certificate.specs.Cuts.{IsGoal};
-ghost use Rattle.route_plan.specs.inner.Routes.{FindsAnchored, IsAnchoredIn, FindsRoute, walks_of};
+ghost use Rattle.cut_certificate.specs.Cuts.{AreGoals, AreStarts, IsGoal};
+ghost use Rattle.wave_search.specs.Stated.{AnswersStated};
+ghost use Rattle.cut_certificate.specs.Goals.{Meets};
+ghost use Rattle.route_plan.specs.Routes.{FindsAnchored, IsAnchoredIn, FindsRoute, FindsStated, walks_of};
+ghost use Rattle.route_plan.specs.Routes.{IsLed, IsRouteOf, JoinsIslands};
 
 use crate::laws::rip_bound_sound;
-use cut_certificate::{are_shut_in, flood, goals_of, legal_moves_lead_back, starts_of};
+use cut_certificate::{
+    are_shut_in, flood, goals_of, legal_moves_lead_back, reach_tells_goals, starts_of,
+};
 use geo_kernel::List;
 use path_wire::{net_walks, walk_items};
 use pcb_islands::Island;
 use pcb_model::{Copper, Design, Metal};
 use ripup::rip_graph_sound;
-use route_lattice::{Found, Ground, Lattice, Moves, Reach, legal_graph_sound};
+use route_lattice::{Found, Ground, Lattice, Moves, Reach, Walk, legal_graph_sound};
 use std::alloc::{AllocError, Global};
 use std::marker::Model;
 use wave_search::{BoxBound, LayerDirections, Search, box_bound_sound};
 
 /// How many nodes are followed from goals to find that they are shut in.
-const MOST_SHUT_IN: u32 = 4_000;
+const MOST_SHUT_IN: u32 = 250;
 
 /// The copper of a walk, and the ids of the items that it joins.
 #[derive(Drop)]
-pub(crate) struct Route {
+pub struct Route {
     pub from: u64,
     pub to: u64,
     pub metals: List<Metal>,
@@ -33,7 +39,7 @@ pub(crate) struct Route {
 
 /// A route, or all that moves reach where none leads on.
 #[derive(Drop)]
-pub(crate) enum Routed {
+pub enum Routed {
     Route(Route),
     Shut(Reach),
 }
@@ -68,10 +74,31 @@ fn anchored_at_goal<C: Copper>(on: &Ground<'_, C>, others: &[Island], node: u32)
     unreachable!()
 }
 
+/// Whether the node is among the nodes, which ascend.
+fn has(nodes: &[u32], node: u32) -> bool
+    requires { IsStrictlyIncreasing nodes.now }
+    ensures { IsTrue result ↔ Contains nodes.now node }
+{
+    nodes.binary_search(&node).is_ok()
+}
+
+/// Whether one of the nodes, which ascend, is a goal.
+fn meets(nodes: &[u32], goals: &[u32]) -> bool
+    requires { IsStrictlyIncreasing nodes.now }
+    ensures { IsTrue result ↔ Meets nodes.now goals.now }
+{
+    for goal in goals {
+        if has(nodes, *goal) {
+            return true;
+        }
+    }
+    false
+}
+
 /// The search from an island of a net to the others on some copper, and the moves of the net that it goes over. A via
 /// costs `via_cost` nm, and a routed item in the way of a move `penalty` nm, if routed items may be passed.
 #[derive(Drop)]
-pub(crate) struct NetSearch<'a, C: Copper, M: Moves> {
+pub struct NetSearch<'a, C: Copper, M: Moves> {
     pub lat: &'a Lattice,
     pub d: &'a Design,
     pub copper: &'a C,
@@ -86,7 +113,7 @@ impl<'a, C: Copper, M: Moves> Model for NetSearch<'a, C, M> {
     ghost use Rattle.route_lattice.specs.Ground.{ground_of};
     ghost use Rattle.route_plan.specs.Plans.{moves_of};
     ghost use Rattle.route_plan.specs.Planners.{AreMovesOf};
-    ghost use Rattle.route_plan.specs.inner.Searches.{NetSearchOf, CanWalk};
+    ghost use Rattle.route_plan.specs.Searches.{NetSearchOf, CanWalk};
 
     ghost Value = { NetSearchOf };
 
@@ -163,11 +190,31 @@ impl<C: Copper, M: Moves> NetSearch<'_, C, M> {
         search.tied_walk(alloc, self.moves, &bound, &ties, starts, goals)
     }
 
-    /// A route from the island to one of the others over the moves of the net.
-    pub(crate) fn route(&self, alloc: Global, search: &mut Search) -> Result<Routed, AllocError>
+    /// The stated walk over the moves of the net.
+    fn stated(
+        &self,
+        alloc: Global,
+        search: &mut Search,
+        starts: &List<u32>,
+        goals: &List<u32>,
+    ) -> Result<Found, AllocError>
         requires size { search.old ≡ node_count self.now.on.lat }
-        ensures finds { IfOk result (FindsRoute self.now) }
+        requires starts { All (λ s. s < node_count self.now.on.lat) starts.now }
+        ensures answers { IfOk result (AnswersStated (walks_of self.now) starts.now goals.now) }
         ensures size { search.new ≡ search.old }
+    {
+        legal_graph_sound();
+        rip_graph_sound();
+        box_bound_sound();
+        rip_bound_sound();
+        let bound = BoxBound::of(alloc, self.lat, goals)?;
+        search.stated_walk(alloc, self.moves, &bound, starts, goals)
+    }
+
+    /// The copper of a walk, and the items that it joins.
+    fn route_of(&self, alloc: Global, walk: Walk) -> Result<Route, AllocError>
+        requires joins { JoinsIslands self.now walk }
+        ensures { IfOk result (IsRouteOf self.now walk) }
     {
         self.copper.in_order();
         let on = Ground {
@@ -176,9 +223,99 @@ impl<C: Copper, M: Moves> NetSearch<'_, C, M> {
             c: self.copper,
         };
         let island = self.island;
-        let others = self.others;
-        let starts = starts_of(alloc, self.lat, self.d, self.copper, island)?;
-        let goals = match goals_of(alloc, self.lat, self.d, self.copper, others) {
+        let nodes = walk.nodes.as_slice();
+        let Some(from) = anchored_among(&on, island.items.as_slice(), nodes[0]) else {
+            unreachable!();
+        };
+        let to = anchored_at_goal(&on, self.others.as_slice(), nodes[nodes.len() - 1]);
+        let laid = walk_items(alloc, self.lat, self.d, island.net, &walk);
+        drop(walk);
+        match laid {
+            Ok(metals) => Ok(Route { from, to, metals }),
+            Err(error) => Err(error),
+        }
+    }
+
+    /// The nodes at which a walk may end: the anchors of the other islands.
+    fn goals(&self, alloc: Global) -> Result<List<u32>, AllocError>
+        ensures { IfOk result (AreGoals self.now.on.d self.now.on.lat self.now.on.items self.now.others) }
+    {
+        self.copper.in_order();
+        goals_of(alloc, self.lat, self.d, self.copper, self.others)
+    }
+
+    /// The nodes at which a walk may start: the legal anchors of the island.
+    fn starts(&self, alloc: Global) -> Result<List<u32>, AllocError>
+        ensures { IfOk result (AreStarts self.now.on.d self.now.on.lat self.now.on.items self.now.island) }
+    {
+        self.copper.in_order();
+        starts_of(alloc, self.lat, self.d, self.copper, self.island)
+    }
+
+    /// Whether a walk leads from the island to one of the others. It is found by a flood, without prices.
+    pub fn leads_on(&self, alloc: Global) -> Result<bool, AllocError>
+        ensures { IfOk result (λ led. IsTrue led ↔ IsLed self.now) }
+    {
+        legal_graph_sound();
+        rip_graph_sound();
+        reach_tells_goals(self.moves);
+        let starts = self.starts(alloc)?;
+        let goals = match self.goals(alloc) {
+            Ok(goals) => goals,
+            Err(error) => {
+                drop(starts);
+                return Err(error);
+            }
+        };
+        let flooded = flood(alloc, self.moves, &starts);
+        drop(starts);
+        match flooded {
+            Ok(reach) => {
+                let led = meets(reach.nodes.as_slice(), goals.as_slice());
+                drop((reach, goals));
+                Ok(led)
+            }
+            Err(error) => {
+                drop(goals);
+                Err(error)
+            }
+        }
+    }
+
+    /// The route of the stated walk from the island to one of the others.
+    pub fn stated_route(&self, alloc: Global, search: &mut Search) -> Result<Routed, AllocError>
+        requires size { search.old ≡ node_count self.now.on.lat }
+        ensures finds { IfOk result (FindsStated self.now) }
+        ensures size { search.new ≡ search.old }
+    {
+        let starts = self.starts(alloc)?;
+        let goals = match self.goals(alloc) {
+            Ok(goals) => goals,
+            Err(error) => {
+                drop(starts);
+                return Err(error);
+            }
+        };
+        let found = self.stated(alloc, search, &starts, &goals);
+        drop((starts, goals));
+        match found {
+            Ok(Found::Closed(reach)) => Ok(Routed::Shut(reach)),
+            Ok(Found::Walk(walk)) => match self.route_of(alloc, walk) {
+                Ok(route) => Ok(Routed::Route(route)),
+                Err(error) => Err(error),
+            },
+            Err(error) => Err(error),
+        }
+    }
+
+    /// A route from the island to one of the others over the moves of the net.
+    pub(crate) fn route(&self, alloc: Global, search: &mut Search) -> Result<Routed, AllocError>
+        requires size { search.old ≡ node_count self.now.on.lat }
+        ensures finds { IfOk result (FindsRoute self.now) }
+        ensures size { search.new ≡ search.old }
+    {
+        let starts = self.starts(alloc)?;
+        let goals = match self.goals(alloc) {
             Ok(goals) => goals,
             Err(error) => {
                 drop(starts);
@@ -189,19 +326,10 @@ impl<C: Copper, M: Moves> NetSearch<'_, C, M> {
         drop((starts, goals));
         match found {
             Ok(Found::Closed(reach)) => Ok(Routed::Shut(reach)),
-            Ok(Found::Walk(walk)) => {
-                let nodes = walk.nodes.as_slice();
-                let Some(from) = anchored_among(&on, island.items.as_slice(), nodes[0]) else {
-                    unreachable!();
-                };
-                let to = anchored_at_goal(&on, others.as_slice(), nodes[nodes.len() - 1]);
-                let laid = walk_items(alloc, self.lat, self.d, island.net, &walk);
-                drop(walk);
-                match laid {
-                    Ok(metals) => Ok(Routed::Route(Route { from, to, metals })),
-                    Err(error) => Err(error),
-                }
-            }
+            Ok(Found::Walk(walk)) => match self.route_of(alloc, walk) {
+                Ok(route) => Ok(Routed::Route(route)),
+                Err(error) => Err(error),
+            },
             Err(error) => Err(error),
         }
     }

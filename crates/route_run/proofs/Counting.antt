@@ -1,64 +1,21 @@
 -- Islands of a net, and the connections that are open over all nets.
-use Rattle.std.proofs.Common.{◌≡◌, ◌∙◌, ℕ, ◌+◌, ◌-◌, ◌<◌, ◌≤◌, ◌^◌, List, [], ◌∷◌, ◌++◌, length, Some}
+use Rattle.std.proofs.Common.{◌≡◌, ◌∙◌, ℕ, ◌+◌, ◌-◌, ◌<◌, ◌≤◌, List, [], ◌∷◌, ◌++◌, length, Some}
 use Rattle.std.proofs.Common.{refl, sym, ap, subst, arith, inl, inr, length-append, All, Contains}
 use Rattle.std.specs.Prelude.{sum_by, slice_get}
-use Rattle.std.specs.List.{AllZip}
-use Rattle.std.proofs.lemmas.Bool.{eqb-true}
-use Rattle.std.proofs.lemmas.Bool.Decides.{Decides-eqb}
 use Rattle.std.proofs.lemmas.List.Elements.{All-nil, All-cons, All-append, All-weaker, Contains-append_left}
 use Rattle.std.proofs.lemmas.List.Elements.{Contains-append_right}
 use borrow.Author.Count.{below_more}
 use Rattle.std.proofs.lemmas.List.Sums.{sum_by_push}
-use Rattle.std.proofs.lemmas.Map.Keys.{sorted_from_strictly_increasing}
-use Rattle.std.proofs.lemmas.Map.Made.{IsDistinct-from_AllPairs}
-use Rattle.std.proofs.lemmas.Map.Steps.{length-le_from_distinct_below}
-use Rattle.std.proofs.lemmas.Map.Views.{length-le_from_below, Contains-from_any}
 use Rattle.std.proofs.lemmas.Option.{slice_get_within}
-use Rattle.std.proofs.lemmas.Slice.Zip.{AllZip-long}
 use Rattle.pcb_model.specs.declared.item.Item.{Item}
-use Rattle.pcb_model.specs.declared.design.Pin.{Pin}
 use Rattle.pcb_model.specs.declared.design.Design.{Design}
-use Rattle.pcb_model.specs.Sound.{IsSound}
 use Rattle.pcb_islands.specs.declared.net.Island.{Island}
-use Rattle.pcb_islands.specs.Islands.{BeginsAt, AreIslands, pins_of}
-use Rattle.pcb_islands.proofs.Pads.{net_pins}
+use Rattle.pcb_islands.specs.Islands.{AreIslands}
 use Rattle.pcb_islands.proofs.Elements.{look_cases}
-use Rattle.board_offers.proofs.Lists.{in_here, that}
-use Rattle.route_run.specs.Runs.{HasSeveral, IsOpenCount}
+use Rattle.board_offers.proofs.Lists.{in_here}
+use Rattle.closing_pass.specs.OpenCount.{IsOpenCount}
+use Rattle.route_run.specs.Runs.{HasSeveral}
 use Rattle.route_run.specs.inner.Passing.{IsOpenNet, AreOpenNets}
-
--- ---- few islands
--- a net has no more pins than the design
-pins_within : (d : Design) (net : ℕ) → IsSound d → length (pins_of d net) ≤ length d.pins
-pins_within d net sound =
-    let pins = pins_of d net in
-    let are = net_pins d net sound in
-    length-le_from_distinct_below pins (length d.pins) (IsDistinct-from_AllPairs Decides-eqb pins are.0)
-    (λ q there.
-    let pin = that (slice_get d.pins q) (λ (p : Pin). p.net ≡ Some net)
-    (are.1 q (Contains-from_any eqb-true q pins there)) in
-    slice_get_within d.pins q pin.value pin.is)
-
-places_within : (pins places : List ℕ) (found : List Island) → AllZip (BeginsAt pins) places found
-    → All (λ i. i < length pins) places
-places_within pins [] [] begin = All-nil (λ i. i < length pins)
-places_within pins [] (s ∷ found) begin = absurd begin
-places_within pins (i ∷ places) [] begin = absurd begin
-places_within pins (i ∷ places) (s ∷ found) begin =
-    All-cons (λ i. i < length pins) i places begin.0.within (places_within pins places found begin.1)
-
--- so a net of a sound design has few islands
-pub few_islands : (d : Design) (items : List Item) (net : ℕ) (found : List Island) → IsSound d
-    → AreIslands d items net found → length found ≤ 2 ^ 26
-few_islands d items net found sound are =
-    let pins = pins_of d net in
-    let each : length are.places ≤ length pins =
-    length-le_from_below (length pins) are.places (sorted_from_strictly_increasing are.places are.ascend)
-    (places_within pins are.places found are.begin) in
-    let same : length found ≡ length are.places = AllZip-long (BeginsAt pins) are.places found are.begin in
-    let own : length pins ≤ length d.pins = pins_within d net sound in
-    let few : length d.pins ≤ 2 ^ 26 = sound.parts.few_pins in
-    omega (arith, each, same, own, few)
 
 -- ---- what is open
 abbrev less_one : List Island → ℕ

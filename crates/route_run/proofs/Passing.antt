@@ -24,7 +24,8 @@ use Rattle.route_plan.specs.Plans.{IsWhole}
 use Rattle.searcher_pool.specs.Passes.{Between, IsJoinOf, IsPassed, IsShutOn, IsSpent, PassOf}
 use Rattle.searcher_pool.specs.Passes.{Grows as GrowsBy}
 use Rattle.route_run.specs.declared.facts.PassLine.{PassLine}
-use Rattle.route_run.specs.Runs.{AreLeast, ArePasses, AreTooLate, HadRoom, HasSeveral, IsOpenCount, IsPass}
+use Rattle.closing_pass.specs.OpenCount.{IsOpenCount}
+use Rattle.route_run.specs.Runs.{AreLeast, ArePasses, AreTooLate, HadRoom, HasSeveral, IsPass}
 use Rattle.route_run.specs.Runs.{IsWorkedOff, RunOf, entries_after, pass_at}
 use Rattle.route_run.specs.inner.Passing.{HasPassed, IsMade, MayFollow}
 

@@ -19,6 +19,7 @@ use Rattle.route_lattice.specs.Mesh.{Mesh, node_count}
 use Rattle.cut_certificate.specs.declared.cut.Cut.{Cut}
 use Rattle.closing_pass.specs.declared.closed.Closed.{Closed}
 use Rattle.closing_pass.specs.Closing.{Closes, IsClosedOut}
+use Rattle.closing_pass.specs.OpenCount.{NeverMore}
 use Rattle.searcher_pool.specs.Passes.{PassOf, IsSpent}
 use Rattle.searcher_pool.specs.Passes.{Grows as GrowsBy}
 use Rattle.route_run.specs.declared.facts.PassLine.{PassLine}
@@ -130,7 +131,7 @@ module _ (d : Design) (m : Mesh) (r : RunOf) (first passed after : BoardOf) (clo
     (begun : IsStarted d (2 ^ 19) first facts.dropped) (same : Stays first passed)
     (has : HasPassed m r passed facts.passes) (ended : HaveEnded r passed facts.passes)
     (best : IsBest facts.passes facts.kept) (gone : GoesBack facts.passes facts.kept passed after)
-    (kept : IsBoard after) (out : IsClosedOut m r.via_cost after closed) (board : IsBoard closed.board)
+    (kept : IsBoard after) (out : IsClosedOut m r.via_cost r.tries after closed) (board : IsBoard closed.board)
     (grid : facts.grid ≡ m.grid) (nodes : facts.nodes ≡ node_count m) (joins : facts.joins ≡ closed.joins)
     (complete : facts.complete ≡ complete_from 0 closed.ends)
     (cuts : facts.cuts ≡ flat_map (λ (cuts : List Cut). cuts) closed.ends) where
@@ -205,10 +206,16 @@ module _ (d : Design) (m : Mesh) (r : RunOf) (first passed after : BoardOf) (clo
         omega (arith, count, has.no_more),
       )
 
+  -- the board from which the closing pass went on
+  from_after : after ≡ board_at closed.board (length after.history)
+  from_after = sym (board_before after closed.board (length after.history) close (omega arith)
+      ∙ board_whole after kept)
+
   closing : Closes m r.via_cost (board_at closed.board (length after.history)) closed.board
-  closing = subst (λ (b : BoardOf). Closes m r.via_cost b closed.board)
-      (sym (board_before after closed.board (length after.history) close (omega arith) ∙ board_whole after kept))
-      out.closes
+  closing = subst (λ (b : BoardOf). Closes m r.via_cost b closed.board) from_after out.closes
+
+  fewer : NeverMore (board_at closed.board (length after.history)) closed.board
+  fewer = subst (λ (b : BoardOf). NeverMore b closed.board) from_after out.fewer
 
   least : AreLeast m r.via_cost closed.board
   least = least_on after closed.board close m r.via_cost
@@ -216,7 +223,7 @@ module _ (d : Design) (m : Mesh) (r : RunOf) (first passed after : BoardOf) (clo
       (λ n o first after late at.
       let l = (out.closes.least n late).each o first after at in (omega (arith, l.0), l.1))
 
-  facts_are : AreFacts m r.via_cost closed.board (length after.history) facts
+  facts_are : AreFacts m r.via_cost r.tries closed.board (length after.history) facts
   facts_are = record {
     grid_is = grid;
     nodes_are = nodes;
@@ -225,6 +232,7 @@ module _ (d : Design) (m : Mesh) (r : RunOf) (first passed after : BoardOf) (clo
     joins_are = omega (arith, joins, out.count);
     ends = closed.ends;
     ends_are = out.ends;
+    settled = out.settled;
     complete_is = complete;
     cuts_are = cuts;
   }
@@ -241,6 +249,7 @@ module _ (d : Design) (m : Mesh) (r : RunOf) (first passed after : BoardOf) (clo
     from = length after.history;
     closes_from = closes_from gone;
     closing = closing;
+    fewer = fewer;
     least = least;
     facts_are = facts_are;
   }
@@ -248,7 +257,7 @@ module _ (d : Design) (m : Mesh) (r : RunOf) (first passed after : BoardOf) (clo
 -- the run that is told
 pub run_told : (d : Design) (m : Mesh) (r : RunOf) (first : BoardOf) (kept : Kept) (dropped : List ℕ) (routed : Routed)
     → IsStarted d (2 ^ 19) first dropped → IsKept m r first kept → IsBoard kept.board
-    → IsFinished m r.via_cost kept dropped routed → IsRun d m r routed.board routed.facts
+    → IsFinished m r.via_cost r.tries kept dropped routed → IsRun d m r routed.board routed.facts
 run_told d m r first kept dropped routed begun is board done =
     subst (λ (x : Routed). IsRun d m r x.board x.facts) (sym done.told)
     (is_run d m r first is.passed kept.board done.closed
@@ -257,9 +266,9 @@ run_told d m r first kept dropped routed begun is board done =
 
 -- ---- what its parts ask for
 -- a board has few nets, and so few ends of them
-pub few_ends : (m : Mesh) (via_cost : ℕ) (b : BoardOf) (closed : Closed) → IsClosedOut m via_cost b closed
+pub few_ends : (m : Mesh) (via_cost tries : ℕ) (b : BoardOf) (closed : Closed) → IsClosedOut m via_cost tries b closed
     → IsBoard closed.board → length closed.ends ≤ 2 ^ 26
-few_ends m via_cost b closed out board =
+few_ends m via_cost tries b closed out board =
     let few = board.sound.parts.few_nets in omega (arith, few, out.ends.all)
 
 -- the first board is one of the design, and has no entry

@@ -23,7 +23,8 @@ use Rattle.searcher_pool.specs.Passes.{AreAmong, EndsPlace, EndsTask, IsFullAnsw
 use Rattle.searcher_pool.specs.Passes.{IsStaleOf, IsTold, MetFull, PassOf, claimed, named}
 use Rattle.route_run.specs.declared.connections.OpenNets.{OpenNets}
 use Rattle.route_run.specs.declared.facts.PassLine.{PassLine}
-use Rattle.route_run.specs.Runs.{AreTooLate, IsOpenCount, IsTooLate, IsWorkedOff}
+use Rattle.closing_pass.specs.OpenCount.{IsOpenCount}
+use Rattle.route_run.specs.Runs.{AreTooLate, IsTooLate, IsWorkedOff}
 use Rattle.route_run.specs.inner.Passing.{AreOpenNets, AreOpenOn, AreWorkedOff, IsMade}
 use Rattle.route_run.proofs.Counting.{open_count}
 

@@ -18,20 +18,25 @@ use Rattle.least_offer.specs.Least.{IsLeastOffer}
 use Rattle.route_plan.specs.Plans.{IsWhole}
 use Rattle.cut_certificate.specs.declared.cut.Cut.{Cut}
 use Rattle.closing_pass.specs.Closing.{Closes, AreEnds}
+use Rattle.closing_pass.specs.OpenCount.{IsOpenCount, NeverMore}
+use Rattle.closing_pass.specs.Settled.{AreSettled}
 use Rattle.searcher_pool.specs.declared.log.WorkerLog.{WorkerLog}
 use Rattle.searcher_pool.specs.Passes.{PassOf, Between, IsJoinOf, IsPassed, IsShutOn, IsSpent, MetFull}
 use Rattle.route_run.specs.declared.facts.PassLine.{PassLine}
 use Rattle.route_run.specs.declared.facts.Facts.{Facts}
 use Rattle.route_lattice.specs.Fits.{FitsDesign}
 
--- what a run goes by: the price of a via in nm, how many workers there are, and how many passes there may be
+-- what a run goes by: the price of a via in nm, how many workers there are, how many passes there may be, and of how
+-- many items that a cut names settled moves are tried
 pub record RunOf : Type 0 where
   pub via_cost : ℕ
   pub workers : ℕ
   pub passes : ℕ
+  pub tries : ℕ
 
-abbrev pub run_from : ℕ → ℕ → ℕ → RunOf
-run_from via_cost workers passes = record { via_cost = via_cost; workers = workers; passes = passes }
+abbrev pub run_from : ℕ → ℕ → ℕ → ℕ → RunOf
+run_from via_cost workers passes tries =
+    record { via_cost = via_cost; workers = workers; passes = passes; tries = tries }
 
 -- ---- open connections
 -- the net has several islands
@@ -39,13 +44,6 @@ pub record HasSeveral (d : Design) (items : List Item) (net : ℕ) : Type 0 wher
   pub found : List Island
   pub islands : AreIslands d items net found
   pub several : 2 ≤ length found
-
--- so many connections are open: over all nets, the islands less one; a net without an island has none
-pub record IsOpenCount (d : Design) (items : List Item) (count : ℕ) : Type 0 where
-  pub found : List (List Island)
-  pub all : length found ≡ length d.nets
-  pub islands : (net : ℕ) (own : List Island) → slice_get found net ≡ Some own → AreIslands d items net own
-  pub sum_is : count ≡ sum_by (λ (own : List Island). length own - 1) found
 
 -- ---- how a net is worked off, between two numbers of entries
 -- A least offer of a worker of the pass for the net came too late for the entry with this number: it rests on a board
@@ -170,14 +168,16 @@ complete_from net ([] ∷ ends) = net ∷ complete_from (net + 1) ends
 complete_from net ((cut ∷ cuts) ∷ ends) = complete_from (net + 1) ends
 
 -- The lattice's grid and nodes, the places of wiring that wasn't legal, how many joins the closing pass made, and how
--- the nets end: each is complete, or has a cut for each of its islands.
-pub record AreFacts (m : Mesh) (via_cost : ℕ) (b : BoardOf) (from : ℕ) (facts : Facts) : Type 0 where
+-- the nets end: each is complete, or has a cut for each of its islands, and no settled move of the first items that
+-- such a cut names helps.
+pub record AreFacts (m : Mesh) (via_cost tries : ℕ) (b : BoardOf) (from : ℕ) (facts : Facts) : Type 0 where
   pub grid_is : facts.grid ≡ m.grid
   pub nodes_are : facts.nodes ≡ node_count m
   pub dropped_are : Starts b.design facts.dropped b.start
   pub joins_are : from + facts.joins ≡ length b.history
   pub ends : List (List Cut)
   pub ends_are : AreEnds b.design m via_cost b.items (length b.design.nets) ends
+  pub settled : AreSettled m via_cost tries b ends
   pub complete_is : facts.complete ≡ complete_from 0 ends
   pub cuts_are : facts.cuts ≡ flat_map (λ (cuts : List Cut). cuts) ends
 
@@ -189,7 +189,8 @@ pub record AreLeast (m : Mesh) (via_cost : ℕ) (b : BoardOf) : Type 0 where
 
 -- A run of a design on a lattice: on the board of the design's fixed items and its legal wiring, which takes at most
 -- 2^19 entries of workers, passes were made until they ended; the best of them is kept; and from its end the closing
--- pass joined what could be joined. The board is legal after each number of its entries.
+-- pass joined what could be joined, after which no more connections are open. The board is legal after each number of
+-- its entries.
 pub record IsRun (d : Design) (m : Mesh) (r : RunOf) (b : BoardOf) (facts : Facts) : Type 0 where
   pub board : IsBoard b
   pub design_is : b.design ≡ d
@@ -200,8 +201,9 @@ pub record IsRun (d : Design) (m : Mesh) (r : RunOf) (b : BoardOf) (facts : Fact
   pub from : ℕ
   pub closes_from : ClosesFrom b facts.passes facts.kept from
   pub closing : Closes m r.via_cost (board_at b from) b
+  pub fewer : NeverMore (board_at b from) b
   pub least : AreLeast m r.via_cost b
-  pub facts_are : AreFacts m r.via_cost b from facts
+  pub facts_are : AreFacts m r.via_cost r.tries b from facts
 
 -- the design is of plain copper, the lattice fits it, and the price of a via is small
 pub record IsTask (d : Design) (m : Mesh) (via_cost : ℕ) : Type 0 where

@@ -14,4 +14,6 @@ pub struct RunInput<'a> {
     pub workers: u32,
     /// The most passes.
     pub passes: u32,
+    /// Of how many items that a cut names settled moves are tried.
+    pub tries: u32,
 }

@@ -106,14 +106,15 @@ fn close_and_tell(
     alloc: Global,
     lat: &Lattice,
     via_cost: u64,
+    tries: u32,
     best: Kept,
     dropped: List<u64>,
 ) -> Result<Routed, AllocError>
     requires { IsTask best.board.design lat.now via_cost }
-    ensures { IfOk result (IsFinished lat.now via_cost best dropped) }
+    ensures { IfOk result (IsFinished lat.now via_cost tries best dropped) }
 {
     let Kept { board, lines, kept } = best;
-    match close_out(alloc, board, lat, via_cost) {
+    match close_out(alloc, board, lat, via_cost, tries) {
         Ok(closed) => {
             closed.board.keeps();
             facts_of(alloc, lat, dropped, lines, kept, closed)
@@ -142,5 +143,5 @@ pub fn run_nets<R: Threads + Wait + Sync, G: Gate + Sync>(
     let (board, dropped) = Board::start(alloc, design, MOST_ENTRIES)?;
     let best = keep_best(rt, alloc, input, board, gate)?;
     best.board.keeps();
-    close_and_tell(alloc, input.lat, input.via_cost, best, dropped)
+    close_and_tell(alloc, input.lat, input.via_cost, input.tries, best, dropped)
 }

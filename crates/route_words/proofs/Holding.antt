@@ -41,7 +41,7 @@ route_fits words = fits route_form route_rules route_serves route_passes (texts 
 
 route_row : (words : List Word) → fit route_form (parts_of route_form words) ≡ true
     → matches_of route_app words ≡ with_default (laid route_form route_rules route_serves 0 (parts_of route_form words))
-    (rule_at 6)
+    (rule_at 7)
 route_row words fit_is = rows_are route_form route_rules route_serves words fit_is
     ∙ route_defaults (laid route_form route_rules route_serves 0 (parts_of route_form words))
 
@@ -50,13 +50,13 @@ module _ (words : List Word) (f : Found) (fit_is : fit route_form (parts_of rout
   abbrev route_rows : List Row
   route_rows = laid route_form route_rules route_serves 0 (parts_of route_form words)
 
-  route_found : (x : Word) → first_value f x ≡ first_of x (with_default route_rows (rule_at 6))
+  route_found : (x : Word) → first_value f x ≡ first_of x (with_default route_rows (rule_at 7))
   route_found x = first_value-rows f x ∙ ap (first_of x) (rows_is ∙ route_row words fit_is)
 
   route_name : (m : ℕ) → nat_lt m 2 ≡ true → bytes_eq (codes "omit-fixed") (name_id m) ≡ false
       → first_value f (name_id m) ≡ slice_get (names_in (parts_of route_form words)) m
   route_name m below apart =
-      route_found (name_id m) ∙ other_default (name_id m) route_rows (rule_at 6) (codes "false") refl apart
+      route_found (name_id m) ∙ other_default (name_id m) route_rows (rule_at 7) (codes "false") refl apart
       ∙ subst (λ t. first_of t route_rows ≡ slice_get (names_in (parts_of route_form words)) m) (route_id m)
       (name_found route_form route_rules route_serves m m 0 (omega arith) below (parts_of route_form words) [] fit_is)
 
@@ -72,13 +72,13 @@ module _ (words : List Word) (f : Found) (fit_is : fit route_form (parts_of rout
 
   route_value : (x : Word) → has route_form.valued x ≡ true → first_value f x ≡ value_in x (parts_of route_form words)
   route_value x known =
-      route_found x ∙ other_default x route_rows (rule_at 6) (codes "false") refl (flag_apart x known)
+      route_found x ∙ other_default x route_rows (rule_at 7) (codes "false") refl (flag_apart x known)
       ∙ option_found route_form route_rules route_serves x (rw known refl) (parts_of route_form words) [] 0 fit_is
 
   route_omits : is_on (first_value f (codes "omit-fixed"))
       ≡ is_some (value_in (codes "omit-fixed") (parts_of route_form words))
   route_omits =
-      ap is_on (route_found (codes "omit-fixed")) ∙ flag_default route_rows (rule_at 6) refl
+      ap is_on (route_found (codes "omit-fixed")) ∙ flag_default route_rows (rule_at 7) refl
       ∙ ap is_on (option_found route_form route_rules route_serves (codes "omit-fixed") refl (parts_of route_form words)
       [] 0 fit_is)
       ∙ flag_text route_form (codes "omit-fixed") refl (parts_of route_form words) [] 0 fit_is

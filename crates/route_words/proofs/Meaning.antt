@@ -56,6 +56,7 @@ module _ (words : List Word) (f : Found) (holds : HoldsRoute (parts_of route_for
     holds.held.values (codes "workers") refl,
     holds.held.values (codes "passes") refl,
     holds.held.values (codes "via-cost") refl,
+    holds.held.values (codes "tries") refl,
     holds.omits,
   ) refl
 

@@ -49,37 +49,43 @@ grid_within (Some word) = by (number_between 1 100000 word) (between_within 1 10
     by None inside = tt
     by (Some um) inside = (omega arith, omega arith)
 
-abbrev joined : Option (Option ℕ) → Option ℕ → Option ℕ → Option ℕ → Bool → Option Knobs
-joined grid workers passes cost omit_fixed =
-    option_and_then (λ grid. option_and_then (λ workers. option_and_then (λ passes. option_map (λ um. record {
+abbrev joined : Option (Option ℕ) → Option ℕ → Option ℕ → Option ℕ → Option ℕ → Bool → Option Knobs
+joined grid workers passes cost tries omit_fixed =
+    option_and_then (λ grid. option_and_then (λ workers. option_and_then (λ passes. option_and_then
+    (λ um. option_map (λ tries. record {
       grid = grid;
       workers = workers;
       passes = passes;
       via_cost = 1000 * um;
+      tries = tries;
       omit_fixed = omit_fixed;
-    }) cost) passes) workers) grid
+    }) tries) cost) passes) workers) grid
 
-joined_within : (grid : Option (Option ℕ)) (workers passes cost : Option ℕ) (omit_fixed : Bool) → IfSome grid GridWithin
-    → IfSome workers (Between 1 16) → IfSome passes (Between 1 99) → IfSome cost (Between 0 1000000)
-    → IfSome (joined grid workers passes cost omit_fixed) AreWithin
-joined_within None workers passes cost o a b d e = tt
-joined_within (Some grid) None passes cost o a b d e = tt
-joined_within (Some grid) (Some workers) None cost o a b d e = tt
-joined_within (Some grid) (Some workers) (Some passes) None o a b d e = tt
-joined_within (Some grid) (Some workers) (Some passes) (Some um) o a b d e =
-    record { grid = a; workers = b; passes = d; via_cost = omega arith }
+joined_within : (grid : Option (Option ℕ)) (workers passes cost tries : Option ℕ) (omit_fixed : Bool)
+    → IfSome grid GridWithin → IfSome workers (Between 1 16) → IfSome passes (Between 1 99)
+    → IfSome cost (Between 0 1000000) → IfSome tries (Between 0 1000)
+    → IfSome (joined grid workers passes cost tries omit_fixed) AreWithin
+joined_within None workers passes cost tries o a b d e h = tt
+joined_within (Some grid) None passes cost tries o a b d e h = tt
+joined_within (Some grid) (Some workers) None cost tries o a b d e h = tt
+joined_within (Some grid) (Some workers) (Some passes) None tries o a b d e h = tt
+joined_within (Some grid) (Some workers) (Some passes) (Some um) None o a b d e h = tt
+joined_within (Some grid) (Some workers) (Some passes) (Some um) (Some t) o a b d e h =
+    record { grid = a; workers = b; passes = d; via_cost = omega (arith, e); tries = h.1 }
 
-knobs_within : (grid workers passes cost : Option Word) (omit_fixed : Bool)
-    → IfSome (knobs_in grid workers passes cost omit_fixed) AreWithin
-knobs_within grid workers passes cost o =
-    joined_within (grid_in grid) (number_or 4 1 16 workers) (number_or 10 1 99 passes) (number_or 2000 0 1000000 cost) o
+knobs_within : (grid workers passes cost tries : Option Word) (omit_fixed : Bool)
+    → IfSome (knobs_in grid workers passes cost tries omit_fixed) AreWithin
+knobs_within grid workers passes cost tries o =
+    joined_within (grid_in grid) (number_or 4 1 16 workers) (number_or 10 1 99 passes) (number_or 2000 0 1000000 cost)
+    (number_or 16 0 1000 tries) o
     (grid_within grid) (or_within 4 1 16 workers (lit≤ tt, lit≤ tt)) (or_within 10 1 99 passes (lit≤ tt, lit≤ tt))
-    (or_within 2000 0 1000000 cost (lit≤ tt, lit≤ tt))
+    (or_within 2000 0 1000000 cost (lit≤ tt, lit≤ tt)) (or_within 16 0 1000 tries (lit≤ tt, lit≤ tt))
 
 knobs_of_within : (parts : List Part) → IfSome (knobs_of parts) AreWithin
 knobs_of_within parts =
     knobs_within (value_in (codes "grid") parts) (value_in (codes "workers") parts) (value_in (codes "passes") parts)
-    (value_in (codes "via-cost") parts) (is_some (value_in (codes "omit-fixed") parts))
+    (value_in (codes "via-cost") parts) (value_in (codes "tries") parts)
+    (is_some (value_in (codes "omit-fixed") parts))
 
 filled_name : (word : Word) → is_empty word ≡ false → 0 < length word
 filled_name [] e = absurd (true≢false e)

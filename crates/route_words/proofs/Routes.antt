@@ -30,32 +30,35 @@ ByLong x = arg_by_long route_rules x
 
 by_long : (x : Word) → ByLong x
 by_long x = by (bytes_eq (codes "grid") x) refl (bytes_eq (codes "workers") x) refl (bytes_eq (codes "passes") x) refl
-    (bytes_eq (codes "via-cost") x) refl (bytes_eq (codes "omit-fixed") x) refl
+    (bytes_eq (codes "via-cost") x) refl (bytes_eq (codes "tries") x) refl (bytes_eq (codes "omit-fixed") x) refl
   where
     by : (a : Bool) → bytes_eq (codes "grid") x ≡ a → (b : Bool) → bytes_eq (codes "workers") x ≡ b → (d : Bool)
         → bytes_eq (codes "passes") x ≡ d → (e : Bool) → bytes_eq (codes "via-cost") x ≡ e
-        → (g : Bool) → bytes_eq (codes "omit-fixed") x ≡ g → ByLong x
-    by true p b q d r e s g t = subst ByLong (same (codes "grid") x p) refl
-    by false p true q d r e s g t = subst ByLong (same (codes "workers") x q) refl
-    by false p false q true r e s g t = subst ByLong (same (codes "passes") x r) refl
-    by false p false q false r true s g t = subst ByLong (same (codes "via-cost") x s) refl
-    by false p false q false r false s true t = subst ByLong (same (codes "omit-fixed") x t) refl
-    by false p false q false r false s false t = rw (p, q, r, s, t) refl
+        → (h : Bool) → bytes_eq (codes "tries") x ≡ h → (g : Bool) → bytes_eq (codes "omit-fixed") x ≡ g → ByLong x
+    by true p b q d r e s h u g t = subst ByLong (same (codes "grid") x p) refl
+    by false p true q d r e s h u g t = subst ByLong (same (codes "workers") x q) refl
+    by false p false q true r e s h u g t = subst ByLong (same (codes "passes") x r) refl
+    by false p false q false r true s h u g t = subst ByLong (same (codes "via-cost") x s) refl
+    by false p false q false r false s true u g t = subst ByLong (same (codes "tries") x u) refl
+    by false p false q false r false s false u true t = subst ByLong (same (codes "omit-fixed") x t) refl
+    by false p false q false r false s false u false t = rw (p, q, r, s, u, t) refl
 
 abbrev ById : Word → Type 0
 ById x = has route_form.valued x ≡ true → arg_by_id route_rules x ≡ Some (V x)
 
 by_id : (x : Word) → ById x
 by_id x = by (bytes_eq (codes "grid") x) refl (bytes_eq (codes "workers") x) refl (bytes_eq (codes "passes") x) refl
-    (bytes_eq (codes "via-cost") x) refl
+    (bytes_eq (codes "via-cost") x) refl (bytes_eq (codes "tries") x) refl
   where
     by : (a : Bool) → bytes_eq (codes "grid") x ≡ a → (b : Bool) → bytes_eq (codes "workers") x ≡ b → (d : Bool)
-        → bytes_eq (codes "passes") x ≡ d → (e : Bool) → bytes_eq (codes "via-cost") x ≡ e → ById x
-    by true p b q d r e s = subst ById (same (codes "grid") x p) (λ known. refl)
-    by false p true q d r e s = subst ById (same (codes "workers") x q) (λ known. refl)
-    by false p false q true r e s = subst ById (same (codes "passes") x r) (λ known. refl)
-    by false p false q false r true s = subst ById (same (codes "via-cost") x s) (λ known. refl)
-    by false p false q false r false s = λ known. absurd (true≢false (sym known ∙ rw (p, q, r, s) refl))
+        → bytes_eq (codes "passes") x ≡ d → (e : Bool) → bytes_eq (codes "via-cost") x ≡ e
+        → (h : Bool) → bytes_eq (codes "tries") x ≡ h → ById x
+    by true p b q d r e s h u = subst ById (same (codes "grid") x p) (λ known. refl)
+    by false p true q d r e s h u = subst ById (same (codes "workers") x q) (λ known. refl)
+    by false p false q true r e s h u = subst ById (same (codes "passes") x r) (λ known. refl)
+    by false p false q false r true s h u = subst ById (same (codes "via-cost") x s) (λ known. refl)
+    by false p false q false r false s true u = subst ById (same (codes "tries") x u) (λ known. refl)
+    by false p false q false r false s false u = λ known. absurd (true≢false (sym known ∙ rw (p, q, r, s, u) refl))
 
 abbrev pub name_id : ℕ → Word
 name_id zero = codes "input"
@@ -88,22 +91,27 @@ Apart name x = (bytes_eq x name ≡ false) × (bytes_eq name x ≡ false)
 
 apart_from : (x : Word) → ours route_form x ≡ true → Apart (codes "input") x × Apart (codes "output") x
 apart_from x mine = by (bytes_eq (codes "grid") x) refl (bytes_eq (codes "workers") x) refl
-    (bytes_eq (codes "passes") x) refl (bytes_eq (codes "via-cost") x) refl (bytes_eq (codes "omit-fixed") x) refl
+    (bytes_eq (codes "passes") x) refl (bytes_eq (codes "via-cost") x) refl (bytes_eq (codes "tries") x) refl
+    (bytes_eq (codes "omit-fixed") x) refl
   where
     by : (a : Bool) → bytes_eq (codes "grid") x ≡ a → (b : Bool) → bytes_eq (codes "workers") x ≡ b → (d : Bool)
         → bytes_eq (codes "passes") x ≡ d → (e : Bool) → bytes_eq (codes "via-cost") x ≡ e
+        → (h : Bool) → bytes_eq (codes "tries") x ≡ h
         → (g : Bool) → bytes_eq (codes "omit-fixed") x ≡ g → Apart (codes "input") x × Apart (codes "output") x
-    by true p b q d r e s g t = subst (λ t. Apart (codes "input") t × Apart (codes "output") t)
+    by true p b q d r e s h u g t = subst (λ t. Apart (codes "input") t × Apart (codes "output") t)
         (same (codes "grid") x p) ((refl, refl), (refl, refl))
-    by false p true q d r e s g t = subst (λ t. Apart (codes "input") t × Apart (codes "output") t)
+    by false p true q d r e s h u g t = subst (λ t. Apart (codes "input") t × Apart (codes "output") t)
         (same (codes "workers") x q) ((refl, refl), (refl, refl))
-    by false p false q true r e s g t = subst (λ t. Apart (codes "input") t × Apart (codes "output") t)
+    by false p false q true r e s h u g t = subst (λ t. Apart (codes "input") t × Apart (codes "output") t)
         (same (codes "passes") x r) ((refl, refl), (refl, refl))
-    by false p false q false r true s g t = subst (λ t. Apart (codes "input") t × Apart (codes "output") t)
+    by false p false q false r true s h u g t = subst (λ t. Apart (codes "input") t × Apart (codes "output") t)
         (same (codes "via-cost") x s) ((refl, refl), (refl, refl))
-    by false p false q false r false s true t = subst (λ t. Apart (codes "input") t × Apart (codes "output") t)
+    by false p false q false r false s true u g t = subst (λ t. Apart (codes "input") t × Apart (codes "output") t)
+        (same (codes "tries") x u) ((refl, refl), (refl, refl))
+    by false p false q false r false s false u true t = subst (λ t. Apart (codes "input") t × Apart (codes "output") t)
         (same (codes "omit-fixed") x t) ((refl, refl), (refl, refl))
-    by false p false q false r false s false t = absurd (true≢false (sym mine ∙ rw (p, q, r, s, t) refl))
+    by false p false q false r false s false u false t =
+        absurd (true≢false (sym mine ∙ rw (p, q, r, s, u, t) refl))
 
 apart : (m : ℕ) → nat_lt m 2 ≡ true → (x : Word) → ours route_form x ≡ true → (bytes_eq x (name_id m) ≡ false)
     × (bytes_eq (name_id m) x ≡ false)
@@ -140,10 +148,10 @@ pub default_passes : (rows : List Row) (a : Rule) → a.defaults ≡ [] → defa
 default_passes rows a none = rw (none, or_true (has_row a.id rows)) refl
 
 -- the flag's default passes
-flag_passes : (rows : List Row) → default_fault rows (rule_at 6) ≡ []
-flag_passes rows = by (has_row (rule_at 6).id rows) refl
+flag_passes : (rows : List Row) → default_fault rows (rule_at 7) ≡ []
+flag_passes rows = by (has_row (rule_at 7).id rows) refl
   where
-    by : (b : Bool) → has_row (rule_at 6).id rows ≡ b → default_fault rows (rule_at 6) ≡ []
+    by : (b : Bool) → has_row (rule_at 7).id rows ≡ b → default_fault rows (rule_at 7) ≡ []
     by true e = rw e refl
     by false e = rw e refl
 
@@ -157,6 +165,7 @@ defaults_pass rows =
       default_passes _ (rule_at 3) refl,
       default_passes _ (rule_at 4) refl,
       default_passes _ (rule_at 5) refl,
+      default_passes _ (rule_at 6) refl,
       flag_passes _,
     ) refl
 
@@ -168,7 +177,7 @@ route_passes = record { defaults = defaults_pass; checks = checks_pass }
     checks_pass rows false = refl
 
 -- the flag alone has a default
-pub route_defaults : (rows : List Row) → fold with_default rows route_rules ≡ with_default rows (rule_at 6)
+pub route_defaults : (rows : List Row) → fold with_default rows route_rules ≡ with_default rows (rule_at 7)
 route_defaults rows =
     rw (
       no_default rows (rule_at 0) refl,
@@ -177,24 +186,28 @@ route_defaults rows =
       no_default rows (rule_at 3) refl,
       no_default rows (rule_at 4) refl,
       no_default rows (rule_at 5) refl,
+      no_default rows (rule_at 6) refl,
     ) refl
 
 -- the flag is no option with a value
 pub flag_apart : (x : Word) → has route_form.valued x ≡ true → bytes_eq (codes "omit-fixed") x ≡ false
 flag_apart x known = by (bytes_eq (codes "grid") x) refl (bytes_eq (codes "workers") x) refl
     (bytes_eq (codes "passes") x) refl
-    (bytes_eq (codes "via-cost") x) refl
+    (bytes_eq (codes "via-cost") x) refl (bytes_eq (codes "tries") x) refl
   where
     by : (a : Bool) → bytes_eq (codes "grid") x ≡ a → (b : Bool) → bytes_eq (codes "workers") x ≡ b
         → (d : Bool) → bytes_eq (codes "passes") x ≡ d → (e : Bool) → bytes_eq (codes "via-cost") x ≡ e
-        → bytes_eq (codes "omit-fixed") x ≡ false
-    by true p b q d r e s = subst (λ t. bytes_eq (codes "omit-fixed") t ≡ false) (same (codes "grid") x p) refl
-    by false p true q d r e s = subst (λ t. bytes_eq (codes "omit-fixed") t ≡ false) (same (codes "workers") x q) refl
-    by false p false q true r e s = subst (λ t. bytes_eq (codes "omit-fixed") t ≡ false) (same (codes "passes") x r)
+        → (h : Bool) → bytes_eq (codes "tries") x ≡ h → bytes_eq (codes "omit-fixed") x ≡ false
+    by true p b q d r e s h u = subst (λ t. bytes_eq (codes "omit-fixed") t ≡ false) (same (codes "grid") x p) refl
+    by false p true q d r e s h u = subst (λ t. bytes_eq (codes "omit-fixed") t ≡ false) (same (codes "workers") x q)
         refl
-    by false p false q false r true s = subst (λ t. bytes_eq (codes "omit-fixed") t ≡ false)
+    by false p false q true r e s h u = subst (λ t. bytes_eq (codes "omit-fixed") t ≡ false) (same (codes "passes") x r)
+        refl
+    by false p false q false r true s h u = subst (λ t. bytes_eq (codes "omit-fixed") t ≡ false)
         (same (codes "via-cost") x s) refl
-    by false p false q false r false s = absurd (true≢false (sym known ∙ rw (p, q, r, s) refl))
+    by false p false q false r false s true u = subst (λ t. bytes_eq (codes "omit-fixed") t ≡ false)
+        (same (codes "tries") x u) refl
+    by false p false q false r false s false u = absurd (true≢false (sym known ∙ rw (p, q, r, s, u) refl))
 
 pub route_id : (m : ℕ) → route_serves.id m ≡ name_id m
 unfolding route_serves

@@ -13,7 +13,7 @@ use Rattle.route_words.specs.declared.command.Knobs.{Knobs}
 use Rattle.route_words.specs.declared.command.WordFault.{WordFault}
 use Rattle.route_words.specs.declared.command.WordFault.TheVariants.{NoCommand, UnknownCommand, Usage, Memory}
 use Rattle.route_words.specs.declared.limits.TheConstants.{LAST_BOARD, LONGEST_GRID, MOST_PASSES, MOST_VIA_COST}
-use Rattle.route_words.specs.declared.limits.TheConstants.{MOST_WORKERS, PASSES, VIA_COST, WORKERS}
+use Rattle.route_words.specs.declared.limits.TheConstants.{MOST_TRIES, MOST_WORKERS, PASSES, TRIES, VIA_COST, WORKERS}
 
 -- ---- numbers
 
@@ -48,22 +48,25 @@ abbrev pub grid_in : Option Word → Option (Option ℕ)
 grid_in None = Some None
 grid_in (Some word) = option_map (λ um. Some (1000 * um)) (number_between 1 LONGEST_GRID word)
 
--- the knobs that these values of `--grid`, `--workers`, `--passes` and `--via-cost` give, the first and last in um
-abbrev pub knobs_in : Option Word → Option Word → Option Word → Option Word → Bool → Option Knobs
-knobs_in grid workers passes via_cost omit_fixed =
-    option_and_then (λ grid. option_and_then (λ workers. option_and_then (λ passes. option_map (λ um. record {
+-- the knobs that these values of `--grid`, `--workers`, `--passes`, `--via-cost` and `--tries` give, the first and the
+-- fourth in um
+abbrev pub knobs_in : Option Word → Option Word → Option Word → Option Word → Option Word → Bool → Option Knobs
+knobs_in grid workers passes via_cost tries omit_fixed =
+    option_and_then (λ grid. option_and_then (λ workers. option_and_then (λ passes. option_and_then
+    (λ um. option_map (λ tries. record {
       grid = grid;
       workers = workers;
       passes = passes;
       via_cost = 1000 * um;
+      tries = tries;
       omit_fixed = omit_fixed;
-    }) (number_or VIA_COST 0 MOST_VIA_COST via_cost)) (number_or PASSES 1 MOST_PASSES passes))
-    (number_or WORKERS 1 MOST_WORKERS workers)) (grid_in grid)
+    }) (number_or TRIES 0 MOST_TRIES tries)) (number_or VIA_COST 0 MOST_VIA_COST via_cost))
+    (number_or PASSES 1 MOST_PASSES passes)) (number_or WORKERS 1 MOST_WORKERS workers)) (grid_in grid)
 
 -- the knobs that the options among the parts give
 abbrev pub knobs_of : List Part → Option Knobs
 knobs_of parts = knobs_in (value_in (codes "grid") parts) (value_in (codes "workers") parts)
-    (value_in (codes "passes") parts) (value_in (codes "via-cost") parts)
+    (value_in (codes "passes") parts) (value_in (codes "via-cost") parts) (value_in (codes "tries") parts)
     (is_some (value_in (codes "omit-fixed") parts))
 
 abbrev pub is_empty : Word → Bool
@@ -78,7 +81,7 @@ route_with names knobs = Err Usage
 abbrev pub route_form : Form
 route_form = record {
   names = 2;
-  valued = codes "grid" ∷ codes "workers" ∷ codes "passes" ∷ codes "via-cost" ∷ [];
+  valued = codes "grid" ∷ codes "workers" ∷ codes "passes" ∷ codes "via-cost" ∷ codes "tries" ∷ [];
   flags = codes "omit-fixed" ∷ [];
 }
 
@@ -134,6 +137,7 @@ pub record AreWithin (knobs : Knobs) : Type 0 where
   pub workers : (1 ≤ knobs.workers) × (knobs.workers ≤ MOST_WORKERS)
   pub passes : (1 ≤ knobs.passes) × (knobs.passes ≤ MOST_PASSES)
   pub via_cost : knobs.via_cost ≤ 1000 * MOST_VIA_COST
+  pub tries : knobs.tries ≤ MOST_TRIES
 
 -- names that aren't empty, and numbers in their ranges
 abbrev pub IsWithin : Command → Type 0

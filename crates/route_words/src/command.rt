@@ -16,6 +16,8 @@ pub struct Knobs {
     pub passes: u32,
     /// What a via costs, as a length in nm, at most 1,000,000,000.
     pub via_cost: u64,
+    /// Of how many items that a cut names settled moves are tried, at most 1,000.
+    pub tries: u32,
     /// Whether the session leaves the fixed wiring out.
     pub omit_fixed: bool,
 }

@@ -63,6 +63,7 @@ fn push_route<'a>(alloc: Global, args: &mut Vec<Arg<'a>>) -> Result<(), AllocErr
     push(args, valued_arg(alloc, "workers"))?;
     push_valued(alloc, args, "passes")?;
     push_valued(alloc, args, "via-cost")?;
+    push_valued(alloc, args, "tries")?;
     push(
         args,
         Arg::new(alloc, "omit-fixed")

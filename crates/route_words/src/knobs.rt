@@ -9,7 +9,8 @@ ghost use Rattle.route_words.specs.Words.{grid_in, knobs_in};
 
 use crate::Knobs;
 use crate::limits::{
-    LONGEST_GRID, MOST_PASSES, MOST_VIA_COST, MOST_WORKERS, PASSES, VIA_COST, WORKERS,
+    LONGEST_GRID, MOST_PASSES, MOST_TRIES, MOST_VIA_COST, MOST_WORKERS, PASSES, TRIES, VIA_COST,
+    WORKERS,
 };
 
 fn are_digits(word: &[u8]) -> bool
@@ -90,27 +91,31 @@ fn read_grid(word: Option<&str>) -> Option<Option<u64>>
     }
 }
 
-/// The knobs that these values of `--grid`, `--workers`, `--passes` and `--via-cost` give.
+/// The knobs that these values of `--grid`, `--workers`, `--passes`, `--via-cost` and `--tries` give.
 /// None comes exactly where one isn't one to seven digits in its range.
 pub(crate) fn read_knobs(
     grid: Option<&str>,
     workers: Option<&str>,
     passes: Option<&str>,
     via_cost: Option<&str>,
+    tries: Option<&str>,
     omit_fixed: bool,
 ) -> Option<Knobs>
     ensures { result ≡ knobs_in (option_map (λ w. w.now) grid.entry) (option_map (λ w. w.now) workers.entry)
-        (option_map (λ w. w.now) passes.entry) (option_map (λ w. w.now) via_cost.entry) omit_fixed }
+        (option_map (λ w. w.now) passes.entry) (option_map (λ w. w.now) via_cost.entry)
+        (option_map (λ w. w.now) tries.entry) omit_fixed }
 {
     let grid = read_grid(grid)?;
     let workers = number_or(WORKERS, 1, MOST_WORKERS, workers)?;
     let passes = number_or(PASSES, 1, MOST_PASSES, passes)?;
     let um = number_or(VIA_COST, 0, MOST_VIA_COST, via_cost)?;
+    let tries = number_or(TRIES, 0, MOST_TRIES, tries)?;
     Some(Knobs {
         grid,
         workers,
         passes,
         via_cost: nm_of(um),
+        tries,
         omit_fixed,
     })
 }

@@ -21,5 +21,11 @@ pub const MOST_VIA_COST: u32 = 1_000_000;
 /// The price of a via where none is asked for, in um.
 pub const VIA_COST: u32 = 2_000;
 
+/// The most items that a cut names of which settled moves may be tried.
+pub const MOST_TRIES: u32 = 1_000;
+
+/// Of how many of them where none are asked for.
+pub const TRIES: u32 = 16;
+
 /// The last generated board.
 pub const LAST_BOARD: u32 = 400;

@@ -18,12 +18,13 @@ use std::alloc::Global;
 
 /// How the program is called: its words, with the ranges and defaults of the options.
 pub const USAGE: &str = "\
-dsnroute route IN OUT [--grid UM] [--workers N] [--passes N] [--via-cost UM] [--omit-fixed]
+dsnroute route IN OUT [--grid UM] [--workers N] [--passes N] [--via-cost UM] [--tries T] [--omit-fixed]
 dsnroute gen N
   --grid UM      1 to 100000 um; without it, the grid that the design asks for
   --workers N    1 to 16; 4 without it
   --passes N     1 to 99; 10 without it
   --via-cost UM  0 to 1000000 um; 2000 without it
+  --tries T      0 to 1000; 16 without it
   --omit-fixed   leave the fixed wiring out of the session
   gen N          the generated board number N, 1 to 400
   --             each word after it is a name
@@ -46,6 +47,7 @@ fn knobs_found(found: &ArgMatches) -> Option<Knobs>
         found.get_str("workers"),
         found.get_str("passes"),
         found.get_str("via-cost"),
+        found.get_str("tries"),
         is_on(found.get_str("omit-fixed")),
     )
 }

@@ -1,5 +1,5 @@
 -- The printed wiring of a board can be read, where that of its design can.
-use Rattle.std.proofs.Common.{◌≡◌, ℕ, ◌≤◌, Bool, true, List, get_or, length, sym, subst, arith}
+use Rattle.std.proofs.Common.{◌≡◌, ℕ, Bool, true, List, get_or, length, sym, subst, arith}
 use Rattle.std.specs.Prelude.{All, Contains, Some, filter, slice_get}
 use Rattle.std.proofs.lemmas.List.Elements.{All-contains, All-filter, All-weaker}
 use Rattle.std.proofs.lemmas.Option.{slice_get-get_or}

@@ -1,5 +1,5 @@
 -- The wires that a well-formed offer lays have two points or more.
-use Rattle.std.proofs.Common.{ℕ, ◌≤◌, List, Option, Some, None, length}
+use Rattle.std.proofs.Common.{ℕ, ◌≤◌, Option, Some, None, length}
 use Rattle.std.specs.Prelude.{All, slice_get}
 use Rattle.std.specs.Option.{IsSomeAnd}
 use Rattle.std.proofs.lemmas.List.Elements.{All-weaker}

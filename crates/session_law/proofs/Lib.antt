@@ -1,5 +1,3 @@
-pub mod ToldBytes
-pub mod ToldSpelling
 pub mod ToldNumbers
 pub mod ToldScales
 pub mod ToldPoints

@@ -5,9 +5,9 @@ use Rattle.board_offers.specs.declared.offer.Offer.{Offer}
 use Rattle.pcb_model.specs.Scale.{scale_of}
 use Rattle.pcb_board.specs.declared.answer.Entry.{Entry}
 use Rattle.pcb_board.specs.declared.answer.Entry.TheVariants.{Join, Back}
-use Rattle.pcb_board.specs.Boards.{BoardOf, past, replayed}
+use Rattle.pcb_board.specs.Boards.{BoardOf, board_at, past, replayed}
 use Rattle.pcb_board.specs.Keeping.{IsBoard}
-use Rattle.least_offer.specs.Least.{TakesNothing}
+use Rattle.closing_pass.specs.Settled.{TakesOne}
 use Rattle.route_lattice.specs.Whole.{lattice_of}
 use Rattle.route_run.specs.Runs.{AreLeast}
 use Rattle.session_law.specs.Told.{IsOnScale}
@@ -18,7 +18,7 @@ use Rattle.session_law.proofs.ScaleEntries.{IsWholeEntry, IsWholePast, each_whol
 
 module _ (grid via_cost : ℕ) (b : BoardOf) (board : IsBoard b) (least : AreLeast (lattice_of b.design grid) via_cost b)
     (takes : (k : ℕ) (o : Offer) (first after : ℕ) → slice_get b.history k ≡ Some (Join o first after)
-    → o.penalty ≡ None → TakesNothing o) where
+    → o.penalty ≡ None → TakesOne (lattice_of b.design grid) (board_at b o.base) o) where
   -- the unit of the session
   abbrev nm : ℕ
   nm = (scale_of b.design).nm

@@ -25,8 +25,9 @@ use Rattle.pcb_board.specs.declared.answer.Entry.{Entry}
 use Rattle.pcb_board.specs.declared.answer.Entry.TheVariants.{Join, Back}
 use Rattle.pcb_board.specs.Boards.{BoardOf, Past, opening, next, past, replayed, board_at, given}
 use Rattle.pcb_board.proofs.Past.{past_more, taken_one}
-use Rattle.least_offer.specs.Least.{IsLeastOffer, Chooses, TakesNothing, IsShoveOf}
+use Rattle.least_offer.specs.Least.{IsLeastOffer, Chooses, IsShoveOf}
 use Rattle.least_offer.proofs.Replacing.{zip_right}
+use Rattle.closing_pass.specs.Settled.{MovesAside, TakesOne}
 use Rattle.session_law.proofs.ScaleLines.{HasWholeLines, at_or}
 use Rattle.session_law.proofs.ToldDesigns.{IsWholeDesign, IsWholeMetal}
 use Rattle.session_law.proofs.ScaleCopper.{IsWholeChain, points_of, rechained, copper_whole, chain_whole}
@@ -169,9 +170,20 @@ module _ (nm : ℕ) (m : Mesh) (via_cost : ℕ) (b : BoardOf) (lines : HasWholeL
       let z = zip_right (IsShoveOf b.design m items new) ids shoves s h there in
       shove_whole items new z.left s all z.holds)
 
+  -- one wire that is moved aside
+  moved_whole : (id : ℕ) (o : Offer) → All (IsWholeItem b.design nm) (replayed b o.base)
+      → MovesAside m (board_at b o.base) o id → All (λ (s : Shoved). IsWholeChain nm s.chain) o.shoves
+  moved_whole id o all moves = subst (All (λ (s : Shoved). IsWholeChain nm s.chain)) (sym moves.shoves_are)
+      (All-cons (λ (s : Shoved). IsWholeChain nm s.chain) (record { id = id; chain = moves.chain }) []
+      (chain_whole nm m lines (chain_of moves.item.metal) moves.r moves.up moves.chain
+      (points_of nm moves.item.metal (All-contains (IsWholeItem b.design nm) (replayed b o.base) moves.item all
+      moves.there)) moves.shove.shoved)
+      (All-nil (λ (s : Shoved). IsWholeChain nm s.chain)))
+
   -- a least offer for a board of whole items
-  pub offer_whole : (o : Offer) → IsLeastOffer m via_cost (board_at b o.base) o → (o.penalty ≡ None → TakesNothing o)
-      → All (IsWholeItem b.design nm) (replayed b o.base) → IsWholeOffer b.design nm o
+  pub offer_whole : (o : Offer) → IsLeastOffer m via_cost (board_at b o.base) o
+      → (o.penalty ≡ None → TakesOne m (board_at b o.base) o) → All (IsWholeItem b.design nm) (replayed b o.base)
+      → IsWholeOffer b.design nm o
   offer_whole o least takes all =
       let j = least.joins in
       let net = has_net b.design (replayed b o.base) o.net least.found least.place least.island least.islands
@@ -184,7 +196,13 @@ module _ (nm : ℕ) (m : Mesh) (via_cost : ℕ) (b : BoardOf) (lines : HasWholeL
     where
       by : (p : Option ℕ) → o.penalty ≡ p → Chooses m (board_at b o.base) o p
           → All (λ (s : Shoved). IsWholeChain nm s.chain) o.shoves
-      by None e h = all_of_none (λ (s : Shoved). IsWholeChain nm s.chain) o.shoves (takes e).no_shove
+      by None e h = elim (takes e) [
+        | inl none ↦ all_of_none (λ (s : Shoved). IsWholeChain nm s.chain) o.shoves none.no_shove
+        | inr one ↦ elim one.1 [
+          | inl out ↦ all_of_none (λ (s : Shoved). IsWholeChain nm s.chain) o.shoves out.no_shove
+          | inr moves ↦ moved_whole one.0 o all moves
+        ]
+      ]
       by (Some penalty) e h = elim h.chosen [
         | inl shoves ↦ shoves_whole (replayed b o.base) (added b.design (given (board_at b o.base)) o) h.ids o.shoves
             all shoves.shoves_are

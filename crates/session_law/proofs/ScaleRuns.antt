@@ -1,23 +1,21 @@
--- The joins of a run that bear no penalty take nothing out.
+-- The joins of a run that bear no penalty take out or move aside at most one item.
 use Rattle.std.proofs.Common.{◌≡◌, inl, inr, ℕ, zero, suc, ◌+◌, ◌<◌, ◌≤◌, Bool, true, false, true≢false, List}
 use Rattle.std.proofs.Common.{length, take, get_or, Some, None, sym, ap, ◌∙◌, subst, arith}
 use Rattle.std.specs.Prelude.{slice_get}
 use Rattle.std.proofs.lemmas.Bool.{cases_lt}
 use Rattle.std.proofs.lemmas.List.{length-take-le}
 use Rattle.std.proofs.lemmas.List.Sums.{sum_by_more}
-use Rattle.std.proofs.lemmas.List.Elements.{All-contains}
-use Rattle.std.proofs.lemmas.Option.{same_Some, slice_get_cases, slice_get_within}
+use Rattle.std.proofs.lemmas.Option.{same_Some, slice_get_cases}
 use Rattle.pcb_model.specs.declared.design.Design.{Design}
 use Rattle.pcb_model.specs.Scale.{scale_of}
 use Rattle.route_lattice.specs.Mesh.{Mesh}
 use Rattle.route_lattice.specs.Whole.{lattice_of}
 use Rattle.board_offers.specs.declared.offer.Offer.{Offer}
-use Rattle.board_offers.proofs.Lists.{look_cases, in_from}
 use Rattle.pcb_board.specs.declared.answer.Entry.{Entry}
 use Rattle.pcb_board.specs.declared.answer.Entry.TheVariants.{Join, Back}
 use Rattle.pcb_board.specs.Boards.{BoardOf, board_at, replayed}
-use Rattle.least_offer.specs.Least.{Chooses, TakesNothing}
-use Rattle.closing_pass.specs.Closing.{IsBareJoin}
+use Rattle.least_offer.specs.Least.{Chooses}
+use Rattle.closing_pass.specs.Settled.{TakesOne}
 use Rattle.route_run.specs.declared.facts.PassLine.{PassLine}
 use Rattle.route_run.specs.declared.facts.Facts.{Facts}
 use Rattle.route_run.specs.Runs.{RunOf, IsRun, AreLeast, ClosesFrom, entries_after}
@@ -60,21 +58,13 @@ module _ (d : Design) (m : Mesh) (r : RunOf) (b : BoardOf) (facts : Facts) (few 
     | inr (behind, none) ↦ absurd (omega (arith, le, behind))
   ]
 
-  -- a join of the closing pass takes nothing out
+  -- a join of the closing pass takes out or moves aside at most one item
   in_closing : (k : ℕ) (o : Offer) (first after : ℕ) → run.from ≤ k
-      → slice_get b.history k ≡ Some (Join o first after) → TakesNothing o
+      → slice_get b.history k ≡ Some (Join o first after) → TakesOne m (board_at b o.base) o
   in_closing k o first after late at =
-      let c = run.closing in
-      let e = Join o first after in
       let long : length (take run.from b.history) ≡ run.from =
       length-take-le run.from b.history (omega (arith, run.facts_are.joins_are)) in
-      elim (look_cases (take run.from b.history) c.entries k e
-      (ap (λ (h : List Entry). slice_get h k) (sym c.history_is) ∙ at)) [
-        | inl there ↦ absurd
-            (let w = slice_get_within (take run.from b.history) k e there in omega (arith, w, long, late))
-        | inr behind ↦ (All-contains (IsBareJoin 16) c.entries e c.joins
-            (in_from c.entries behind.place e behind.there)).2
-      ]
+      ((run.closing.least k (omega (arith, long, late))).each o first after at).2
 
   -- a join behind the passes is one of the closing pass
   behind_passes : (k : ℕ) (o : Offer) (first after : ℕ) → end ≤ k
@@ -89,13 +79,13 @@ module _ (d : Design) (m : Mesh) (r : RunOf) (b : BoardOf) (facts : Facts) (few 
         ∙ ap (slice_get b.history) (sym same) ∙ back.1))))
   ]
 
-  -- so a join without a penalty takes nothing out
+  -- so does a join without a penalty
   run_takes : (k : ℕ) (o : Offer) (first after : ℕ) → slice_get b.history k ≡ Some (Join o first after)
-      → o.penalty ≡ None → TakesNothing o
+      → o.penalty ≡ None → TakesOne m (board_at b o.base) o
   run_takes k o first after at none = elim (cases_lt k end) [
     | inl early ↦
         let chooses = subst (Chooses m (board_at b o.base) o) none (run.least.each k o first after at).1.chooses in
-        chooses (omega (arith, few, in_passes (length lines) (omega arith) k o first after early at))
+        inl (chooses (omega (arith, few, in_passes (length lines) (omega arith) k o first after early at)))
     | inr late ↦ in_closing k o first after (behind_passes k o first after late at run.closes_from) at
   ]
 
@@ -106,4 +96,5 @@ run_on_scale d grid r b facts few run n =
     subst (λ (x : Design). IsOnScale (scale_of x).nm (replayed b n)) run.design_is
     (board_on_scale grid r.via_cost b run.board
     (subst (λ (x : Design). AreLeast (lattice_of x grid) r.via_cost b) (sym run.design_is) run.least)
-    (run_takes d (lattice_of d grid) r b facts few run) n)
+    (λ k o first after at none. subst (λ (x : Design). TakesOne (lattice_of x grid) (board_at b o.base) o)
+    (sym run.design_is) (run_takes d (lattice_of d grid) r b facts few run k o first after at none)) n)

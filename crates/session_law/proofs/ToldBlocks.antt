@@ -9,7 +9,7 @@ use Rattle.std.proofs.lemmas.Bool.{cases_eq}
 use Rattle.board_offers.proofs.Lists.{all_front, pairs_rest}
 use Rattle.pcb_model.specs.Sound.{IsPrintable}
 use Rattle.ses_writer.specs.Words.{spelled}
-use Rattle.session_law.proofs.ToldSpelling.{spelled_tells}
+use Rattle.told_words.proofs.Spelling.{spelled_tells}
 
 -- the line behind the blocks
 abbrev pub part_end : List ℕ

@@ -17,7 +17,7 @@ use Rattle.pcb_model.specs.Sound.{IsMetalInRange, HasDistinctNames, HasPrintable
 use Rattle.ses_writer.specs.Words.{is_bare_byte, length_word, point_words, chain_words}
 use Rattle.ses_writer.specs.Session.{layer_word, padstack_word, metal_line}
 use Rattle.session_law.specs.Told.{is_whole_copper, AreAlike}
-use Rattle.session_law.proofs.ToldBytes.{Stops}
+use Rattle.told_words.specs.Stops.{Stops}
 use Rattle.session_law.proofs.ToldNumbers.{IsExact, length_tells}
 use Rattle.session_law.proofs.ToldPoints.{IsExactPoint, point_tells, chain_tells, chain_stops}
 use Rattle.session_law.proofs.ToldNames.{layer_tells, padstack_tells}

@@ -11,8 +11,8 @@ use Rattle.pcb_model.specs.declared.design.Design.{Design}
 use Rattle.pcb_model.specs.Sound.{IsPrintable, HasDistinctNames, HasPrintableNames}
 use Rattle.ses_writer.specs.Words.{is_bare_byte}
 use Rattle.ses_writer.specs.Session.{layer_word, padstack_word}
-use Rattle.session_law.proofs.ToldBytes.{Stops}
-use Rattle.session_law.proofs.ToldSpelling.{spelled_tells}
+use Rattle.told_words.specs.Stops.{Stops}
+use Rattle.told_words.proofs.Spelling.{spelled_tells}
 
 module _ (X : Type 0) (name : X → List ℕ) where
   -- the name at a place

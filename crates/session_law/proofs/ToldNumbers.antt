@@ -15,7 +15,8 @@ use Rattle.std.proofs.lemmas.Nat.{div-mul-add, div-add-mod'}
 use Rattle.std.proofs.lemmas.Str.Parse.{digit_from_value}
 use Rattle.ses_writer.specs.Words.{nearest, length_word}
 use Rattle.pcb_model.specs.Scale.{is_whole}
-use Rattle.session_law.proofs.ToldBytes.{Stops, cut}
+use Rattle.told_words.specs.Stops.{Stops}
+use Rattle.told_words.proofs.Bytes.{cut}
 
 -- digits pass the test for one digit
 all_digits : (ds : List ℕ) → AllDigits 10 ds → list_all is_ascii_digit ds ≡ true

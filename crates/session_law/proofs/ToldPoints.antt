@@ -10,7 +10,7 @@ use Rattle.geo_kernel.specs.declared.point.Point.{Point}
 use Rattle.geo_kernel.specs.Plane.{IsWithin}
 use Rattle.pcb_model.specs.Scale.{is_whole, is_whole_point}
 use Rattle.ses_writer.specs.Words.{point_words, length_word, chain_words, directed, is_lesser}
-use Rattle.session_law.proofs.ToldBytes.{Stops}
+use Rattle.told_words.specs.Stops.{Stops}
 use Rattle.session_law.proofs.ToldNumbers.{IsExact, length_tells, blank_stops}
 
 -- a point that a session prints exactly

@@ -5,7 +5,7 @@
 
 ghost use Rattle.std.specs.Prelude.{◌≡◌, Bool, List as Seq, ◌++◌, ◌≤◌, ◌<◌, ◌*ℤ◌, ℕ, ℤ, pos, true, length};
 ghost use Rattle.std.specs.Prelude.{unsigned_abs, Some, None, slice_get, All, Result, filter};
-ghost use Rattle.pcb_board.specs.Boards.{BoardOf, replayed};
+ghost use Rattle.pcb_board.specs.Boards.{BoardOf, board_at, replayed};
 ghost use Rattle.pcb_board.specs.Keeping.{IsBoard};
 ghost use Rattle.pcb_model.specs.declared.design.Design.{Design as TheDesign};
 ghost use Rattle.pcb_model.specs.declared.item.Item.{Item as OneItem};
@@ -16,7 +16,7 @@ ghost use Rattle.session_law.specs.Told.{AreRoutedOf, HaveSameCopper, IsOnScale}
 ghost use Rattle.route_lattice.specs.Whole.{lattice_of};
 ghost use Rattle.board_offers.specs.declared.offer.Offer.{Offer as OneOffer};
 ghost use Rattle.pcb_board.specs.declared.answer.Entry.TheVariants.{Join};
-ghost use Rattle.least_offer.specs.Least.{TakesNothing};
+ghost use Rattle.closing_pass.specs.Settled.{TakesOne};
 ghost use Rattle.route_run.specs.declared.facts.Facts.{Facts as RunFacts};
 ghost use Rattle.route_run.specs.Runs.{AreLeast, IsRun, RunOf};
 ghost use Rattle.ses_writer.specs.Words.{nearest};
@@ -55,12 +55,12 @@ pub fn sessions_tell_boards()
 
 // ---- on scale
 
-/// Where each join of a board was a least offer on the design's lattice, and those without a penalty take nothing out,
-/// the routed copper is on the scale of its session after each number of entries.
+/// Where each join of a board was a least offer on the design's lattice, and those without a penalty take out or move
+/// aside at most one item, the routed copper is on the scale of its session after each number of entries.
 pub fn least_joins_are_on_scale()
     ensures { (grid via_cost : ℕ) (b : BoardOf) → IsBoard b → AreLeast (lattice_of b.design grid) via_cost b
         → ((k : ℕ) (o : OneOffer) (first after : ℕ) → slice_get b.history k ≡ Some (Join o first after)
-        → o.penalty ≡ None → TakesNothing o)
+        → o.penalty ≡ None → TakesOne (lattice_of b.design grid) (board_at b o.base) o)
         → (n : ℕ) → n ≤ length b.history → IsOnScale (scale_of b.design).nm (replayed b n) }
 {}
 

@@ -167,7 +167,7 @@ fn tells_refusals_by_number(rt: HostRuntime) {
 // ---- wrong words
 
 /// Words with a bar between each two, and the first line that is said of them.
-static WRONG_WORDS: [(&str, &str); 17] = [
+static WRONG_WORDS: [(&str, &str); 18] = [
     ("draw", "draw: there is no such command"),
     ("route|t.dsn", "a name is missing"),
     ("route|a|", "a name is empty"),
@@ -207,6 +207,10 @@ static WRONG_WORDS: [(&str, &str); 17] = [
     (
         "route|-a|b",
         "-a: there is no such option; behind -- it would be a name",
+    ),
+    (
+        "route|a|b|--tries=1001",
+        "--tries=1001: --tries wants a whole number from 0 to 1000, in one to seven digits",
     ),
     (
         "route|a|b|--omit-fixed=yes",

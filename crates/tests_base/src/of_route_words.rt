@@ -10,6 +10,7 @@ const DEFAULTS: Knobs = Knobs {
     workers: 4,
     passes: 10,
     via_cost: 2_000_000,
+    tries: 16,
     omit_fixed: false,
 };
 
@@ -63,6 +64,7 @@ const OMITS: Knobs = Knobs {
     workers: 4,
     passes: 10,
     via_cost: 2_000_000,
+    tries: 16,
     omit_fixed: true,
 };
 
@@ -71,6 +73,7 @@ const GIVEN: Knobs = Knobs {
     workers: 16,
     passes: 99,
     via_cost: 0,
+    tries: 1_000,
     omit_fixed: true,
 };
 
@@ -79,6 +82,7 @@ const LONG: Knobs = Knobs {
     workers: 4,
     passes: 10,
     via_cost: 1_000_000_000,
+    tries: 0,
     omit_fixed: false,
 };
 
@@ -88,12 +92,17 @@ static ROUTES: [(&str, &str, &str, Knobs); 6] = [
     ("route|a|--|--grid", "a", "--grid", DEFAULTS),
     ("route|-|--omit-fixed|b=c", "-", "b=c", OMITS),
     (
-        "route|--workers|16|a|--grid=1|b|--passes|0099|--omit-fixed|--via-cost=0",
+        "route|--workers|16|a|--grid=1|b|--passes|0099|--tries=1000|--omit-fixed|--via-cost=0",
         "a",
         "b",
         GIVEN,
     ),
-    ("route|a|b|--grid|100000|--via-cost|1000000", "a", "b", LONG),
+    (
+        "route|a|b|--grid|100000|--via-cost|1000000|--tries|0",
+        "a",
+        "b",
+        LONG,
+    ),
 ];
 
 #[test]
@@ -139,6 +148,8 @@ route|a|b|--workers=17
 route|a|b|--passes=100
 route|a|b|--via-cost=1000001
 route|a|b|--via-cost=-1
+route|a|b|--tries=1001
+route|a|b|--tries
 route|a|b|--omit-fixed=yes
 route|a|b|--omit-fixed=
 route|a|b|--grids=5

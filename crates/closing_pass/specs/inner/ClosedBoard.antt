@@ -1,4 +1,4 @@
--- A snapshot of a board on which nothing leads on.
+-- A snapshot of a board.
 use Rattle.std.specs.Prelude.{◌≡◌, ℕ, ◌<◌, ◌≤◌, ◌^◌, List, length}
 use Rattle.pcb_model.specs.declared.item.Item.{Item}
 use Rattle.pcb_model.specs.declared.design.Design.{Design}
@@ -8,7 +8,7 @@ use Rattle.pcb_islands.specs.Islands.{AreIslands}
 use Rattle.route_lattice.specs.Mesh.{Mesh}
 use Rattle.route_lattice.specs.Fits.{FitsDesign}
 use Rattle.pcb_board.specs.Boards.{SnapOf}
-use Rattle.closing_pass.specs.inner.Steps.{IsShutAt, IsClosedOn}
+use Rattle.closing_pass.specs.inner.Steps.{IsShutAt}
 
 -- what it is: its design, a lattice, its items, and the price of a via in nm
 pub record ClosedBoardOf : Type 0 where
@@ -25,12 +25,9 @@ pub record CanCut (d : Design) (m : Mesh) (via_cost : ℕ) (s : SnapOf) : Type 0
   pub own : s.design ≡ d
   pub serves : Serves s.items d
 
--- each net is closed
-abbrev pub AreAllClosed : Design → Mesh → ℕ → List Item → Type 0
-AreAllClosed d m via_cost items = (net : ℕ) → net < length d.nets → IsClosedOn d m via_cost items net
-
--- the net is one of the design, these are its islands, and no legal walk leads from one of them to another
-pub record AreShut (on : ClosedBoardOf) (net : ℕ) (found : List Island) : Type 0 where
+-- these are the islands of a net of the design, and no legal walk leads from one of them to another
+pub record AreShut (on : ClosedBoardOf) (found : List Island) : Type 0 where
+  pub net : ℕ
   pub net_there : net < length on.d.nets
   pub islands : AreIslands on.d on.items net found
   pub shut : (place : ℕ) → IsShutAt on.d on.lat on.via_cost on.items found place

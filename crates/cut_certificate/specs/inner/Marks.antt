@@ -11,7 +11,7 @@ pub record Fill : Type 0 where
   pub waiting : List ℕ
 
 abbrev pub fill_of : Front → Fill
-fill_of f = record { marks = f.marks.items; waiting = f.waiting.items }
+fill_of f = record { marks = f.marks; waiting = f.waiting.items }
 
 -- the node's mark is set
 abbrev pub IsMarked : List Bool → ℕ → Type 0

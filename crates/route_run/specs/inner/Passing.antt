@@ -25,7 +25,8 @@ use Rattle.route_run.specs.declared.run.Kept.{Kept}
 use Rattle.route_run.specs.declared.run.Routed.{Routed}
 use Rattle.route_run.specs.declared.input.RunInput.{RunInput}
 use Rattle.route_run.specs.Inputs.{CanRun}
-use Rattle.route_run.specs.Runs.{RunOf, IsOpenCount, HasSeveral, IsWorkedOff, ArePasses, AreLeast, HaveEnded, IsBest}
+use Rattle.closing_pass.specs.OpenCount.{IsOpenCount}
+use Rattle.route_run.specs.Runs.{RunOf, HasSeveral, IsWorkedOff, ArePasses, AreLeast, HaveEnded, IsBest}
 use Rattle.route_run.specs.Runs.{complete_from, entries_after, HadRoom, pass_at}
 
 -- ---- what is open
@@ -149,8 +150,8 @@ routed_of m dropped lines kept closed = record {
 }
 
 -- the closing pass was made from the end of the kept pass, and is told
-pub record IsFinished (m : Mesh) (via_cost : ℕ) (kept : Kept) (dropped : List ℕ) (routed : Routed) : Type 0 where
+pub record IsFinished (m : Mesh) (via_cost tries : ℕ) (kept : Kept) (dropped : List ℕ) (routed : Routed) : Type 0 where
   pub closed : Closed
-  pub out : IsClosedOut m via_cost kept.board closed
+  pub out : IsClosedOut m via_cost tries kept.board closed
   pub board : IsBoard closed.board
   pub told : routed ≡ routed_of m dropped kept.lines kept.kept closed

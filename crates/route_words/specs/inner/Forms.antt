@@ -46,7 +46,7 @@ with_rules app (rule ∷ rules) = with_rules (with_rule app rule) rules
 
 abbrev pub route_args : List Rule
 route_args = named (codes "input") ∷ named (codes "output") ∷ valued (codes "grid") ∷ valued (codes "workers")
-    ∷ valued (codes "passes") ∷ valued (codes "via-cost") ∷ flag (codes "omit-fixed") ∷ []
+    ∷ valued (codes "passes") ∷ valued (codes "via-cost") ∷ valued (codes "tries") ∷ flag (codes "omit-fixed") ∷ []
 
 abbrev pub route_app : App
 route_app = with_rules bare_app route_args
@@ -111,4 +111,4 @@ FindsGen = Finds gen_form HoldsGen
 abbrev pub knobs_found : Found → Option Knobs
 knobs_found f = knobs_in (first_value f (codes "grid")) (first_value f (codes "workers"))
     (first_value f (codes "passes"))
-    (first_value f (codes "via-cost")) (is_on (first_value f (codes "omit-fixed")))
+    (first_value f (codes "via-cost")) (first_value f (codes "tries")) (is_on (first_value f (codes "omit-fixed")))

@@ -1,6 +1,6 @@
 use Rattle.std.proofs.Common.{◌≤◌, ◌^◌, length, sym, subst, arith}
 use Rattle.pcb_model.specs.Sound.{IsSound}
-use Rattle.route_run.proofs.Counting.{few_islands}
+use Rattle.closing_pass.proofs.Counts.{few_islands}
 use Rattle.route_run.proofs.connections.open_connections.Goals as goal
 
 pub returns-clause-few : goal.returns-clause-few

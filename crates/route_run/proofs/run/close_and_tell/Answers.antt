@@ -13,12 +13,13 @@ close_out-requires c = record {
 
 pub facts_of-requires : goal.facts_of-requires
 facts_of-requires c =
-    few_ends c.args.lat.now c.args.via_cost c.args.best.board c.in-Ok.closed c.in-Ok.ensures.ok c.keeps.ensures
+    few_ends c.args.lat.now c.args.via_cost c.args.tries c.args.best.board c.in-Ok.closed c.in-Ok.ensures.ok
+    c.keeps.ensures
 
 pub returns-in-Ok : goal.returns-in-Ok
 returns-in-Ok c = IfOk-weaker c.facts_of.result
     (λ r. r ≡ routed_of c.args.lat.now c.args.dropped c.args.best.lines c.args.best.kept c.in-Ok.closed)
-    (IsFinished c.args.lat.now c.args.via_cost c.args.best c.args.dropped)
+    (IsFinished c.args.lat.now c.args.via_cost c.args.tries c.args.best c.args.dropped)
     (λ r e. record {
       closed = c.in-Ok.closed;
       out = c.in-Ok.ensures.ok;

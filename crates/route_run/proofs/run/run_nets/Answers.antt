@@ -21,7 +21,8 @@ pub returns : goal.returns
 returns g c =
     let m = c.args.input.lat.now in
     let r = run_of c.args.input in
-    IfOk-weaker c.close_and_tell.result (IsFinished m c.args.input.via_cost c.in_ok-best.best c.in_ok-board.dropped)
+    IfOk-weaker c.close_and_tell.result (IsFinished m c.args.input.via_cost c.args.input.tries c.in_ok-best.best
+    c.in_ok-board.dropped)
     (λ x. IsRun c.args.design m r x.board x.facts)
     (λ x is. run_told c.args.design m r c.in_ok-board.board c.in_ok-best.best c.in_ok-board.dropped x
     c.in_ok-board.ensures c.in_ok-best.ensures c.keeps.ensures is) c.close_and_tell.ensures

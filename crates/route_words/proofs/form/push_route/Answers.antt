@@ -16,6 +16,7 @@ returns c =
     let output = c.in_ok-push_name-2.ensures {u = tt} _ input in
     let grid = c.in_ok-push_valued.ensures {u = tt} _ output in
     let passes = c.in_ok-push_valued-2.ensures {u = tt} _ (option _ grid) in
-    let last : Adds (flag (codes "omit-fixed") ∷ []) c.push_valued-3.new.args.items c.push-2.new.list.items =
-    adds_one c.push_valued-3.new.args.items c.push-2.new.list.items c.action.result _ more is.0 is.1 in
-    last _ (c.in_ok-push_valued-3.ensures {u = tt} _ passes)) c.push-2.ensures
+    let cost = c.in_ok-push_valued-3.ensures {u = tt} _ passes in
+    let last : Adds (flag (codes "omit-fixed") ∷ []) c.push_valued-4.new.args.items c.push-2.new.list.items =
+    adds_one c.push_valued-4.new.args.items c.push-2.new.list.items c.action.result _ more is.0 is.1 in
+    last _ (c.in_ok-push_valued-4.ensures {u = tt} _ cost)) c.push-2.ensures

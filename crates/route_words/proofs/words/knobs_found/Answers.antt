@@ -8,5 +8,6 @@ returns c =
       ← c.get_str-3.ensures,
       ← c.get_str-4.ensures,
       ← c.get_str-5.ensures,
+      ← c.get_str-6.ensures,
       ← c.is_on.ensures,
     ) c.read_knobs.ensures

@@ -17,8 +17,9 @@ pub cut_of-requires : goal.cut_of-requires
 cut_of-requires c =
     let s = c.args.self.now in
     let island = c.remove-island.result in
-    let is = island_at s.d s.items c.args.net (pins_of s.d c.args.net) c.args.found c.args.place island
-    c.requires.shut.islands c.remove-island.ensures.value in
+    let net = c.requires.shut.net in
+    let is = island_at s.d s.items net (pins_of s.d net) c.args.found c.args.place island c.requires.shut.islands
+    c.remove-island.ensures.value in
     record {
       net_there = subst (λ n. n < length s.d.nets) (sym is.net_is) c.requires.shut.net_there;
       pins = slice_get_within island.pins 0 is.first is.first_is;

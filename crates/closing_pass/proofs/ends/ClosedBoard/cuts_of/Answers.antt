@@ -25,7 +25,7 @@ loop-place-preserved c =
 
 pub cut_at-requires-clause-shut : goal.cut_at-requires-clause-shut
 cut_at-requires-clause-shut c =
-    subst (λ (fs : List Island). AreShut c.args.self.now c.args.net fs) (sym c.loop-place.invariant.found) c.requires
+    subst (λ (fs : List Island). AreShut c.args.self.now fs) (sym c.loop-place.invariant.found) c.requires
 
 pub loop-place-init : goal.loop-place-init
 loop-place-init c =

@@ -1,6 +1,6 @@
-use Rattle.std.proofs.Common.{◌≡◌, ◌∙◌, sym, subst, ap, length, arith}
+use Rattle.std.proofs.Common.{◌≡◌, ◌∙◌, sym, ap, length, arith}
 use Rattle.pcb_model.specs.declared.design.Design.{Design}
-use Rattle.closing_pass.proofs.Closings.{joins_on, closed_none, closed_more}
+use Rattle.closing_pass.proofs.Closings.{grows_stays, joins_on, closed_none, closed_more}
 use Rattle.closing_pass.proofs.join.Closer.close_all.Goals as goal
 
 pub loop-net-init : goal.loop-net-init
@@ -39,6 +39,11 @@ returns-in_err-close-clause-closes c =
     joins_on 16 c.args.self.now.lat.now c.args.self.now.via_cost c.args.board.now c.loop-net.board c.close.new.board
     c.loop-net.invariant.closed.closes
     c.in_err-close.ensures.joins.closes
+
+pub returns-in_err-close-clause-stays : goal.returns-in_err-close-clause-stays
+returns-in_err-close-clause-stays c = λ x h.
+    grows_stays c.loop-net.net c.loop-net.board c.close.new.board c.in_err-close.ensures.joins.grows x
+    (c.loop-net.invariant.closed.stays x h)
 
 pub returns-clause-closed : goal.returns-clause-closed
 returns-clause-closed c = λ net below.

@@ -8,4 +8,5 @@ returns g c =
     let f = fill_of c.mark_reached.new.front in
     flood_ends (g.M.Moves.graph c.args.self.now) c.args.starts.now f c.in_ok-mark_reached.ensures.flood
     c.in_ok-mark_reached.ensures.done c.in_ok-nodes.nodes
-    (subst (λ (n : ℕ). AreListed f.marks n c.in_ok-nodes.nodes) c.count-count.ensures c.in_ok-nodes.ensures)
+    (subst (λ (n : ℕ). AreListed f.marks n c.in_ok-nodes.nodes) c.in_ok-mark_reached.ensures.flood.size
+    c.in_ok-nodes.ensures)

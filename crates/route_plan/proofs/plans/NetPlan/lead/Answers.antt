@@ -1,26 +1,14 @@
 use Rattle.std.proofs.Common.{◌≡◌, ℕ, sym, subst, All}
 use Rattle.pcb_model.specs.declared.design.Design.{Design}
 use Rattle.path_wire.specs.Lays.{IsWellLaid}
-use Rattle.route_plan.specs.Planners.{NetPlanOf, AreMovesOf}
-use Rattle.route_plan.specs.Plans.{CanPlan, LeadsOut, moves_of}
-use Rattle.route_plan.specs.inner.Routes.{IsRoute, Finds, MakesWayFor, IsRouteOffer}
+use Rattle.route_plan.specs.Planners.{NetPlanOf}
+use Rattle.route_plan.specs.Plans.{CanPlan, LeadsOut}
+use Rattle.route_plan.specs.Routes.{IsRoute}
+use Rattle.route_plan.specs.inner.RouteOffers.{MakesWayFor, IsRouteOffer}
 use Rattle.route_plan.specs.declared.plans.FromIsland.TheVariants as from_island
-use Rattle.route_plan.proofs.Planning.{can_walk}
+use Rattle.route_plan.proofs.Leading.{found_there}
 use Rattle.route_plan.proofs.Clearing.{well_laid, route_offer}
 use Rattle.route_plan.proofs.plans.NetPlan.lead.Goals as goal
-
--- the island is one of the net
-pub invariant_of-task : goal.invariant_of-task
-invariant_of-task g c =
-    let s = c.self.inside in
-    let island = c.args.island.now in
-    let own : island.net ≡ s.net = subst (λ (y : NetPlanOf). island.net ≡ y.net) (sym c.self.view_is) c.requires.net in
-    let can = subst (λ n. CanPlan s.d.now s.lat.now s.snap.now n s.via_cost s.penalty) (sym own) c.self.invariant.0 in (
-      can_walk s.d.now s.lat.now s.snap.now island.net s.via_cost s.penalty can,
-      (can.own, can.serves),
-      subst (λ n. AreMovesOf g.M.Moves s.moves.now
-          (moves_of s.d.now s.lat.now s.snap.now.items n s.via_cost s.penalty)) (sym own) c.self.invariant.2,
-    )
 
 pub way_for-requires : goal.way_for-requires
 way_for-requires g c =
@@ -31,8 +19,9 @@ way_for-requires g c =
     let own : island.net ≡ s.net = subst (λ (y : NetPlanOf). island.net ≡ y.net) (sym c.self.view_is) c.requires.net in
     let route : IsRoute s.d.now s.lat.now s.snap.now.items s.net s.via_cost s.penalty island others c.in-Route.route =
     subst (λ n. IsRoute s.d.now s.lat.now s.snap.now.items n s.via_cost s.penalty island others c.in-Route.route) own
-    (subst (Finds s.d.now s.lat.now s.snap.now.items island.net s.via_cost s.penalty island others) c.in-Route.is
-    c.in_ok-reach.ensures.finds) in
+    (found_there s.d.now s.lat.now s.snap.now s.net s.via_cost s.worker s.penalty c.args.self.now island others
+    c.search_from-task.result _ c.in-Route.route can.own c.self.view_is c.search_from-task.ensures
+    c.in-Route.is c.in_ok-reach.ensures.finds) in
     let well = well_laid s.d.now s.lat.now s.snap.now.items s.net s.via_cost s.penalty island others c.in-Route.route
     can.sound can.fits can.net_there c.copper_well_laid.ensures route in
     subst (λ (y : NetPlanOf). All (IsWellLaid y.by.snap.design y.net 0) c.in-Route.route.metals) c.self.view_is
@@ -49,8 +38,9 @@ returns-in-Ok-clause-leads g c =
     let own : island.net ≡ s.net = subst (λ (y : NetPlanOf). island.net ≡ y.net) (sym c.self.view_is) c.requires.net in
     let can = subst (λ n. CanPlan s.d.now s.lat.now s.snap.now n s.via_cost s.penalty) (sym own) c.self.invariant.0 in
     let route : IsRoute s.d.now s.lat.now s.snap.now.items island.net s.via_cost s.penalty island others
-    c.in-Route.route = subst (Finds s.d.now s.lat.now s.snap.now.items island.net s.via_cost s.penalty island others)
-    c.in-Route.is c.in_ok-reach.ensures.finds in
+    c.in-Route.route = found_there s.d.now s.lat.now s.snap.now s.net s.via_cost s.worker s.penalty c.args.self.now
+    island others c.search_from-task.result _ c.in-Route.route can.own c.self.view_is
+    c.search_from-task.ensures c.in-Route.is c.in_ok-reach.ensures.finds in
     let makes : MakesWayFor s.d.now s.lat.now s.snap.now.items island.net s.penalty metals way =
     subst (λ (p : Design × ℕ). MakesWayFor p.0 s.lat.now s.snap.now.items p.1 s.penalty metals way)
     (λ i. (can.own i, sym own i))

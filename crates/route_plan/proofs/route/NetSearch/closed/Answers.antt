@@ -4,8 +4,8 @@ use Rattle.route_lattice.specs.Walks.{Answers, NoneLeads}
 use Rattle.route_lattice.specs.declared.moves.Found.TheVariants as found
 use Rattle.cut_certificate.proofs.Same.{flipped, sound_same, reach_same}
 use Rattle.route_plan.specs.Plans.{moves_of}
-use Rattle.route_plan.specs.inner.Searches.{NetSearchOf}
-use Rattle.route_plan.specs.inner.Routes.{walks_of}
+use Rattle.route_plan.specs.Searches.{NetSearchOf}
+use Rattle.route_plan.specs.Routes.{walks_of}
 use Rattle.route_plan.proofs.Searching.{count_is, moves_sound}
 use Rattle.route_plan.proofs.route.NetSearch.closed.Goals as goal
 

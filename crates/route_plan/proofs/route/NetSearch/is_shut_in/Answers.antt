@@ -5,8 +5,8 @@ use Rattle.route_lattice.specs.Mesh.{node_count}
 use Rattle.route_lattice.specs.Walks.{NoneLeads}
 use Rattle.cut_certificate.proofs.Same.{flipped, sound_same}
 use Rattle.route_plan.specs.Plans.{moves_of}
-use Rattle.route_plan.specs.inner.Searches.{NetSearchOf}
-use Rattle.route_plan.specs.inner.Routes.{walks_of}
+use Rattle.route_plan.specs.Searches.{NetSearchOf}
+use Rattle.route_plan.specs.Routes.{walks_of}
 use Rattle.route_plan.proofs.Searching.{count_is, moves_sound, moves_back}
 use Rattle.route_plan.proofs.Alike.{mutual_same, shut_same}
 use Rattle.route_plan.proofs.route.NetSearch.is_shut_in.Goals as goal

@@ -6,8 +6,8 @@ use Rattle.wave_search.specs.Around.{low_at}
 use Rattle.wave_search.specs.Bounds.{IsBound}
 use Rattle.cut_certificate.proofs.Same.{flipped, sound_same}
 use Rattle.route_plan.specs.Plans.{moves_of}
-use Rattle.route_plan.specs.inner.Searches.{NetSearchOf}
-use Rattle.route_plan.specs.inner.Routes.{walks_of}
+use Rattle.route_plan.specs.Searches.{NetSearchOf}
+use Rattle.route_plan.specs.Routes.{walks_of}
 use Rattle.route_plan.proofs.Alike.{bound_same, ok_same}
 use Rattle.route_plan.proofs.Searching.{count_is, moves_sound, moves_bound}
 use Rattle.route_plan.proofs.route.NetSearch.walk.Goals as goal

@@ -1,0 +1,13 @@
+pub mod Lists
+pub mod Printed
+pub mod Stretching
+pub mod Taken
+pub mod Linked
+pub mod Alike
+pub mod Ends
+pub mod Written
+pub mod Right
+pub mod Edges
+pub mod Fixed
+pub mod Routed
+pub mod Whole

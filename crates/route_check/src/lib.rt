@@ -1,0 +1,12 @@
+//! The judge of a session and its report: what it answers, and what its answers are worth.
+#![tactic(auto)]
+
+mod board;
+mod equal;
+mod laws;
+mod left;
+mod verdict;
+
+pub use board::board_items;
+pub use laws::{right_is_vouched, right_is_yes, session_boards_serve};
+pub use verdict::{JudgeFault, Verdict};

@@ -5,9 +5,9 @@
 
 PROGRAM is `dsnroute`, built. It takes memory by `malloc` and `realloc` alone, which a small library in front of the C
 library counts and refuses; `gcc` makes it. A run must end with status 7, nothing or a front of the report put, and a
-session that is whole or absent; or with the status, session and report of the run that is refused nothing. The design
-must stay as it was, and no file may be left but it and the session. The last line is 'N passed, M failed', and the
-status is 0 where none failed. It takes some minutes.
+session that is whole or absent; or with the status, session and report of the run that is refused nothing. The design,
+and what is judged, must stay as they were, and no other file may be left but the session. The last line is 'N passed,
+M failed', and the status is 0 where none failed. It takes some minutes.
 """
 import collections
 import os
@@ -84,13 +84,18 @@ with open(os.path.join(os.path.dirname(os.path.abspath(__file__)), "u.dsn"), enc
 
 REFUSED = CROSSING.replace("(net B (pins", "(net A (pins")
 
-# a design, the name of its session, how many passes, and the status of the run that is refused nothing
+NONE_TRIED = "--grid 1000 --workers 1 --passes 1 --tries 0"
+
+# a design, the words, the status of the run that is refused nothing, and the options by which the session and the
+# report are made that are there before
 ROWS = [
-    ("two pins that face each other", FACING, "out.ses", 1, 0),
-    ("two nets that cross, one pass", CROSSING, "out.ses", 1, 1),
-    ("two nets that cross, three passes", CROSSING, "out.ses", 3, 0),
-    ("a design that is refused", REFUSED, "out.ses", 1, 3),
-    ("a session over its own design", FACING, "in.dsn", 1, 2),
+    ("two pins that face each other", FACING, "route in.dsn out.ses --grid 1000 --workers 1 --passes 1", 0, None),
+    ("two nets that cross, one pass", CROSSING, "route in.dsn out.ses " + NONE_TRIED, 1, None),
+    ("the same with settled moves", CROSSING, "route in.dsn out.ses --grid 1000 --workers 1 --passes 1", 0, None),
+    ("two nets that cross, three passes", CROSSING, "route in.dsn out.ses --grid 1000 --workers 1 --passes 3", 0, None),
+    ("a design that is refused", REFUSED, "route in.dsn out.ses --grid 1000", 3, None),
+    ("a session over its own design", FACING, "route in.dsn in.dsn --grid 1000", 2, None),
+    ("a check of two nets, one of them open", CROSSING, "check in.dsn out.ses out.txt", 0, NONE_TRIED),
 ]
 
 WANTING = 7
@@ -104,20 +109,34 @@ def held(name):
         return read.read()
 
 
-def run(program, library, row, number):
+def put(name, content):
+    with open(name, "wb") as out:
+        out.write(content)
+
+
+def made(program, text, options):
+    """The files of a run: the design, its session and its report; the design alone where there are no options."""
+    design = {"in.dsn": text.encode("ascii")}
+    if options is None:
+        return design
+    with tempfile.TemporaryDirectory() as folder:
+        put(os.path.join(folder, "in.dsn"), design["in.dsn"])
+        words = [program, "route", "in.dsn", "out.ses"] + options.split()
+        report = subprocess.run(words, cwd=folder, capture_output=True, timeout=120, check=False).stdout
+        return dict(design, **{"out.ses": held(os.path.join(folder, "out.ses")), "out.txt": report})
+
+
+def run(program, library, words, files, number):
     """What a run leaves of which this request is refused: status, report, session; whether it was; what it harmed."""
-    _, text, output, passes, _ = row
     with tempfile.TemporaryDirectory() as folder, tempfile.TemporaryDirectory() as beside:
-        design = os.path.join(folder, "in.dsn")
-        with open(design, "w", encoding="ascii") as out:
-            out.write(text)
+        for name, content in files.items():
+            put(os.path.join(folder, name), content)
         mark = os.path.join(beside, "mark")
-        words = ["route", "in.dsn", output, "--grid", "1000", "--workers", "1", "--passes", str(passes)]
         given = dict(os.environ, LD_PRELOAD=library, REFUSED_REQUEST=str(number), REFUSED_MARK=mark)
-        done = subprocess.run([program] + words, cwd=folder, env=given, capture_output=True, timeout=120, check=False)
-        harmed = sorted(set(os.listdir(folder)) - {"in.dsn", "out.ses"})
-        if held(design) != text.encode("ascii"):
-            harmed.append("the design")
+        done = subprocess.run([program] + words.split(), cwd=folder, env=given, capture_output=True, timeout=120,
+                              check=False)
+        harmed = sorted(set(os.listdir(folder)) - set(files) - {"out.ses"})
+        harmed += [name for name in files if held(os.path.join(folder, name)) != files[name]]
         return (done.returncode, done.stdout, held(os.path.join(folder, "out.ses"))), os.path.exists(mark), harmed
 
 
@@ -137,13 +156,14 @@ def fault(left, own):
 
 def tried(program, library, row):
     """How many runs there were, of each status how many, and what was wrong."""
-    name, status = row[0], row[-1]
-    own, _, _ = run(program, library, row, 0)
+    name, text, words, status, before = row
+    files = made(program, text, before)
+    own, _, _ = run(program, library, words, files, 0)
     wrong = [] if own[0] == status else ["%s: status %d and not %d" % (name, own[0], status)]
     counted = collections.Counter()
     number = 1
     while True:
-        left, was_refused, harmed = run(program, library, row, number)
+        left, was_refused, harmed = run(program, library, words, files, number)
         if not was_refused:
             break
         counted[left[0]] += 1

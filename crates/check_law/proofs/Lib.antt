@@ -11,3 +11,4 @@ pub mod Edges
 pub mod Fixed
 pub mod Routed
 pub mod Whole
+pub mod Judging

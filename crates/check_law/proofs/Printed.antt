@@ -17,6 +17,7 @@ use Rattle.ses_writer.specs.Words.{spelled}
 use Rattle.route_run.specs.declared.facts.Facts.{Facts}
 use Rattle.route_run.specs.declared.facts.PassLine.{PassLine}
 use Rattle.route_report.specs.Report as report
+use Rattle.told_words.specs.PinNames.{pin_name}
 use Rattle.report_form.proofs.Joining.{joined-append}
 use Rattle.report_form.specs.Form.{Told, NetTold, CutTold, RunTold, PassTold, lines, joined, line, by_line}
 use Rattle.report_form.specs.Form.{by_lines, outside_lines}
@@ -48,7 +49,7 @@ item_told a = (a.kind, decimal a.id)
 
 abbrev pub cut_told : Design → Mesh → List Item → Cut → CutTold
 cut_told d m items cut = record {
-  pin = report.pin_name d cut.pin;
+  pin = pin_name d cut.pin;
   reached = decimal (length cut.reach.nodes);
   blocked = decimal (length cut.blocked);
   by_items = map item_told (filter (λ (a : Item). report.is_named cut.blocked a.id) items);
@@ -84,7 +85,7 @@ told_of d m items facts = record {
 
 -- ---- words of the report
 -- a pin's name is spelled
-pin_word_is : (d : Design) (pin : ℕ) → report.pin_word d pin ≡ spelled (report.pin_name d pin)
+pin_word_is : (d : Design) (pin : ℕ) → report.pin_word d pin ≡ spelled (pin_name d pin)
 unfolding report.pin_word
 pin_word_is d pin = refl
 
@@ -211,17 +212,17 @@ one_cut : (d : Design) (m : Mesh) (items : List Item) (cut : Cut)
     → cut_line (cut_told d m items cut) ≡ report.cut_line d cut
 unfolding report.cut_line
 one_cut d m items cut =
-    three_numbers (codes "cut ") (spelled (report.pin_name d cut.pin)) (codes " reached ")
+    three_numbers (codes "cut ") (spelled (pin_name d cut.pin)) (codes " reached ")
     (decimal (length cut.reach.nodes)) (codes " blocked ") (decimal (length cut.blocked))
     ∙ sym (ap (λ (x : List ℕ). codes "cut " ++ x ++ report.counted (codes " reached ") (length cut.reach.nodes)
     ++ report.count_line (codes " blocked ") (length cut.blocked)) (pin_word_is d cut.pin)
-    ∙ append_assoc (codes "cut " ++ spelled (report.pin_name d cut.pin))
+    ∙ append_assoc (codes "cut " ++ spelled (pin_name d cut.pin))
     (report.counted (codes " reached ") (length cut.reach.nodes))
     (report.count_line (codes " blocked ") (length cut.blocked))
-    ∙ append_assoc (codes "cut ") (spelled (report.pin_name d cut.pin))
+    ∙ append_assoc (codes "cut ") (spelled (pin_name d cut.pin))
     (report.counted (codes " reached ") (length cut.reach.nodes)
     ++ report.count_line (codes " blocked ") (length cut.blocked))
-    ∙ ap (λ (x : List ℕ). codes "cut " ++ (spelled (report.pin_name d cut.pin) ++ x))
+    ∙ ap (λ (x : List ℕ). codes "cut " ++ (spelled (pin_name d cut.pin) ++ x))
     (told_two (codes " reached ") (codes " blocked ") (length cut.reach.nodes) (length cut.blocked)))
 
 cut_text : (d : Design) (m : Mesh) (items : List Item) (cut : Cut)

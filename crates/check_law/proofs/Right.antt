@@ -28,12 +28,14 @@ use Rattle.copper_alike.proofs.Legal.{all_legal}
 use Rattle.route_run.specs.declared.facts.Facts.{Facts}
 use Rattle.route_run.specs.declared.facts.PassLine.{PassLine}
 use Rattle.ses_reader.specs.declared.item.SesItem.{SesItem}
-use Rattle.route_report.specs.Report.{cuts_of, pin_name, report_of, is_named, is_of_net, goes_on}
+use Rattle.told_words.specs.PinNames.{pin_name}
+use Rattle.route_report.specs.Report.{cuts_of, report_of, is_named, is_of_net, goes_on}
 use Rattle.route_check.specs.Board.{board_of}
 use Rattle.report_form.specs.Form.{NetTold, IsNetTold, IsCutTold, AreCutsTold}
 use Rattle.report_form.specs.Form.{IsNumber, IsRun, IsPassTold}
 use Rattle.report_form.specs.Form.{IsTold, value}
-use Rattle.route_check.specs.Judged.{AreAllIslands, first_name, first_names, IsLineTrue, AreCutsTrue}
+use Rattle.copper_check.specs.Checks.{AreAllIslands}
+use Rattle.route_check.specs.Judged.{first_name, first_names, IsLineTrue, AreCutsTrue}
 use Rattle.route_check.specs.Judged.{IsRight, IsRead}
 use Rattle.check_law.specs.Written.{IsSmallCut, IsWritten}
 use Rattle.report_form.proofs.Numbers.{number_of, value_of}

@@ -30,7 +30,8 @@ use Rattle.copper_alike.proofs.Classes.{pins_in, islands_alike}
 use Rattle.copper_alike.proofs.Places.{set_at}
 use Rattle.copper_alike.proofs.Sets.{cut_set}
 use Rattle.route_run.specs.declared.facts.Facts.{Facts}
-use Rattle.route_report.specs.Report.{cuts_of, pin_name}
+use Rattle.told_words.specs.PinNames.{pin_name}
+use Rattle.route_report.specs.Report.{cuts_of}
 use Rattle.report_form.specs.Form.{CutTold, IsName, IsNameBeside}
 use Rattle.report_form.specs.Form.{has_mark}
 use Rattle.route_check.specs.Judged.{first_of, first_name, IsLineTrue, islands_told, IsCutTrue}

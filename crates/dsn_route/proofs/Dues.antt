@@ -12,34 +12,37 @@ use Rattle.dsn_shapes.specs.declared.refusal.Refusal.{Refusal}
 use Rattle.dsn_design.specs.Reading.{HasDesign, OneOutcome}
 use Rattle.dsn_route.specs.declared.status.Status.{Status}
 use Rattle.dsn_route.specs.declared.status.Status.TheVariants.{Complete, SomeOpen, Usage, Refused, ReadFault}
-use Rattle.dsn_route.specs.declared.status.Status.TheVariants.{WriteFault, Limit, Memory}
+use Rattle.dsn_route.specs.declared.status.Status.TheVariants.{WriteFault, Limit, Memory, Rejected}
 use Rattle.route_words.specs.declared.command.Command.{Command}
-use Rattle.route_words.specs.declared.command.Command.TheVariants.{Route, Gen}
-use Rattle.route_words.specs.declared.command.Knobs.{Knobs}
+use Rattle.route_words.specs.declared.command.Command.TheVariants.{Route, Check, Gen}
 use Rattle.route_words.specs.declared.command.WordFault.{WordFault}
 use Rattle.route_run.specs.declared.run.Routed.{Routed}
 use Rattle.dsn_route.specs.Texts.{LacksDesign}
 use Rattle.dsn_route.specs.declared.outcome.Outcome.{Outcome}
 use Rattle.dsn_route.specs.Lines.{max_bytes}
-use Rattle.dsn_route.specs.Commands.{mesh_of, IsText, IsToldText}
-use Rattle.dsn_route.specs.Answers.{IsUnread, IsOverlong, IsRefusal, IsOverfull, IsCrowded, SessionFaulted}
+use Rattle.dsn_route.specs.Commands.{mesh_of, AsksToRoute, IsInputOf, IsText, IsToldText}
+use Rattle.route_check.specs.declared.verdict.Verdict.{Verdict}
+use Rattle.route_check.specs.declared.verdict.JudgeFault.{JudgeFault}
+use Rattle.dsn_route.specs.Judging.{HasJudged, HasMisread}
+use Rattle.dsn_route.specs.Answers.{IsUnread, IsOverlong, IsRefusal, IsOverfull, IsCrowded, IsRejected}
+use Rattle.dsn_route.specs.Answers.{SessionFaulted}
 use Rattle.dsn_route.specs.Answers.{IsOutcome, Stopped, Leaves, Answers}
 use Rattle.dsn_route.specs.Due.{IsRead, IsFit, IsUnfit, IsOver, IsTooFine, IsRoutable, IsDueAfterRead, HasNoFault}
-use Rattle.dsn_route.specs.Due.{IsDone, IsDue, IsMissing}
+use Rattle.dsn_route.specs.Due.{IsDone, IsDue, IsHeldInput, IsLong, IsMissing}
 use Rattle.dsn_route.proofs.OneText.{one_design, one_lack, apart}
 
-abbrev accepted : Command → Result Command WordFault
+abbrev pub accepted : Command → Result Command WordFault
 accepted command = Ok command
 
 asked_of : Result Command WordFault → Command → Command
 asked_of (Ok command) other = command
 asked_of _ other = other
 
-one_command : (a b : Command) → accepted a ≡ accepted b → a ≡ b
+pub one_command : (a b : Command) → accepted a ≡ accepted b → a ≡ b
 unfolding asked_of
 one_command a b e = ap (λ (r : Result Command WordFault). asked_of r a) e
 
-one_text : (files : Option Files) (name text other : List ℕ) → IsHeld files name text → IsFile files name other
+pub one_text : (files : Option Files) (name text other : List ℕ) → IsHeld files name text → IsFile files name other
     → other ≡ text
 one_text None name text other held is = absurd held
 one_text (Some m) name text other held is = ap (λ (o : Option (List ℕ)). unwrap_or o other) (sym is ∙ held)
@@ -48,6 +51,7 @@ one_text (Some m) name text other held is = ap (λ (o : Option (List ℕ)). unwr
 same_of : (command : Command) (desk : DeskState) (text other : List ℕ) → IsToldText command desk text
     → IsText command desk other → other ≡ text
 same_of (Route input output knobs) desk text other held is = one_text desk.files input text other held is.file
+same_of (Check input session report) desk text other held is = one_text desk.files input text other held is.file
 same_of (Gen n) desk text other told is = is ∙ sym told
 
 -- the lattice of what was read has as many nodes as that of the text at entry
@@ -59,11 +63,11 @@ same_nodes single command again desk text other d e again_is told is first secon
     let same : d ≡ e = one_design single text d e first (subst (λ (t : List ℕ). HasDesign t e) one second) in
     ap (λ (x : Design). mesh_of command x) (sym same) ∙ ap (λ (k : Command). mesh_of k d) again_is
 
-not_absent : (files : Option Files) (name text : List ℕ) → IsHeld files name text → IsAbsent files name → ⊥
+pub not_absent : (files : Option Files) (name text : List ℕ) → IsHeld files name text → IsAbsent files name → ⊥
 not_absent None name text held gone = absurd held
 not_absent (Some m) name text held gone = none-some text (sym gone ∙ held)
 
-not_long : (files : Option Files) (name text : List ℕ) → IsHeld files name text → length text ≤ max_bytes
+pub not_long : (files : Option Files) (name text : List ℕ) → IsHeld files name text → length text ≤ max_bytes
     → IsTooLong files name max_bytes → ⊥
 not_long None name text held fits long = absurd held
 not_long (Some m) name text held fits long =
@@ -71,10 +75,43 @@ not_long (Some m) name text held fits long =
     subst (λ (o : Option (List ℕ)). IsSomeAnd o (λ bytes. max_bytes < length bytes)) held long in
     absurd (omega (arith, past, fits))
 
-not_overlong : (command : Command) (desk : DeskState) (text line : List ℕ) → IsToldText command desk text
-    → length text ≤ max_bytes → IsOverlong command desk line → ⊥
-not_overlong (Route input output knobs) desk text line held fits why = not_long desk.files input text held fits why.0
-not_overlong (Gen n) desk text line told fits why = absurd why
+-- a text within the limit isn't too long, where it lacks a design, and where it is to be routed
+unfit_not_long : (command : Command) (desk : DeskState) (text line : List ℕ) → IsToldText command desk text
+    → length text ≤ max_bytes → ((other : List ℕ) (d : Design) → IsText command desk other → HasDesign other d → ⊥)
+    → IsOverlong command desk line → ⊥
+unfit_not_long (Route input output knobs) desk text line held fits none why =
+    not_long desk.files input text held fits why.0
+unfit_not_long (Check input session report) desk text line held fits none (inl long, is) =
+    not_long desk.files input text held fits long
+unfit_not_long (Check input session report) desk text line held fits none (inr (d, first, rest), is) =
+    none first.text d first.is_text first.reads
+unfit_not_long (Gen n) desk text line told fits none why = absurd why
+
+not_overlong : (command : Command) (desk : DeskState) (text line : List ℕ) → AsksToRoute command
+    → IsToldText command desk text → length text ≤ max_bytes → IsOverlong command desk line → ⊥
+not_overlong (Route input output knobs) desk text line routes held fits why =
+    not_long desk.files input text held fits why.0
+not_overlong (Check input session report) desk text line routes held fits why = absurd routes
+not_overlong (Gen n) desk text line routes told fits why = absurd why
+
+-- what was judged isn't routed, and has a design
+pub not_routed : (command : Command) (desk : DeskState) (answer : Result Verdict JudgeFault)
+    → HasJudged command desk answer → AsksToRoute command → ⊥
+not_routed command desk answer j routes = subst AsksToRoute j.command_is routes
+
+not_misread : (command : Command) (desk : DeskState) (place : ℕ) → HasMisread command desk place
+    → AsksToRoute command → ⊥
+not_misread command desk place m routes = subst AsksToRoute m.command_is routes
+
+judged_text : (command : Command) (desk : DeskState) (answer : Result Verdict JudgeFault)
+    → (j : HasJudged command desk answer) → IsText command desk j.of_input.text
+judged_text command desk answer j =
+    subst (λ (k : Command). IsText k desk j.of_input.text) (sym j.command_is) j.of_input.is_text
+
+misread_text : (command : Command) (desk : DeskState) (place : ℕ) → (m : HasMisread command desk place)
+    → IsText command desk m.of_input.text
+misread_text command desk place m =
+    subst (λ (k : Command). IsText k desk m.of_input.text) (sym m.command_is) m.of_input.is_text
 
 -- an absent file has no text, and is not too long
 not_read : (files : Option Files) (name text : List ℕ) → IsAbsent files name → IsFile files name text → ⊥
@@ -87,15 +124,16 @@ none_long (Some m) name gone long =
     absurd (subst (λ (o : Option (List ℕ)). IsSomeAnd o (λ bytes. max_bytes < length bytes)) gone long)
 
 -- a call that routed this status
-abbrev Ran : Command → DeskState → DeskState → SinkState → SinkState → Status → Type 0
+abbrev pub Ran : Command → DeskState → DeskState → SinkState → SinkState → Status → Type 0
 Ran command desk later sink after status = (made : Routed) × (IsOutcome command desk made
     × Leaves command made.board made.facts desk later sink after status)
 
-abbrev Ends : Command → DeskState → DeskState → SinkState → SinkState → Status → Type 0
+abbrev pub Ends : Command → DeskState → DeskState → SinkState → SinkState → Status → Type 0
 Ends command desk later sink after status = Stopped (Ok command) desk later sink after status
     ⊎ Ran command desk later sink after status
 
-sides : (command : Command) (desk later : DeskState) (sink after : SinkState) (routed : Option Routed) (status : Status)
+pub sides : (command : Command) (desk later : DeskState) (sink after : SinkState) (routed : Option Routed)
+    (status : Status)
     → Answers (Ok command) desk later sink after (record { status = status; routed = routed })
     → Ends command desk later sink after status
 sides command desk later sink after None status s = inl s
@@ -158,6 +196,26 @@ module _ (single : OneOutcome) (desk later : DeskState) (sink after : SinkState)
       (same_lack why.text why.over.refusal unfit.refused.refusal why.is_text why.over.lacks unfit.refused.lacks))
       ∙ why.over.passed)
 
+  -- what is routed was not judged
+  routes_here : (P : ℕ → Type 0) → IsFit P (Ok command) text → AsksToRoute command
+  routes_here P fit = subst AsksToRoute (sym (one_command command fit.asked fit.accepted)) fit.routes
+
+  rejected_not : (line : List ℕ) → IsRejected command desk line → (P : ℕ → Type 0) → IsFit P (Ok command) text → ⊥
+  rejected_not line (inl a) P fit = not_misread command desk a.place a.misread (routes_here P fit)
+  rejected_not line (inr a) P fit = not_routed command desk _ a.judged (routes_here P fit)
+
+  -- what was judged has a design
+  judged_not_lack : (answer : Result Verdict JudgeFault) (r : Refusal) → HasJudged command desk answer
+      → LacksDesign text r → ⊥
+  judged_not_lack answer r j lack =
+      no_design j.of_input.text j.design r (judged_text command desk answer j) j.of_input.reads lack
+
+  rejected_not_lack : (line : List ℕ) (r : Refusal) → IsRejected command desk line → LacksDesign text r → ⊥
+  rejected_not_lack line r (inl a) lack =
+      no_design a.misread.of_input.text a.misread.design r (misread_text command desk a.place a.misread)
+      a.misread.of_input.reads lack
+  rejected_not_lack line r (inr a) lack = judged_not_lack _ r a.judged lack
+
   fine_case : (status : Status) → IsTooFine (Ok command) text → Ends command desk later sink after status
       → IsDueAfterRead Limit status
   fine_case Limit fine answers = refl
@@ -168,7 +226,10 @@ module _ (single : OneOutcome) (desk later : DeskState) (sink after : SinkState)
   fine_case Usage fine (inr w) = absurd w.1.1
   fine_case Refused fine (inl s) = absurd (refused_not s.said.line s.said.stops (λ count. 2 ^ 24 < count) fine)
   fine_case Refused fine (inr w) = absurd w.1.1
-  fine_case Complete fine (inl s) = absurd s.said
+  fine_case Rejected fine (inl s) = absurd (rejected_not s.said.line s.said.stops (λ count. 2 ^ 24 < count) fine)
+  fine_case Rejected fine (inr w) = absurd w.1.1
+  fine_case Complete fine (inl s) =
+      absurd (not_routed command desk _ s.said.stops.0 (routes_here (λ count. 2 ^ 24 < count) fine))
   fine_case Complete fine (inr w) = absurd (too_many w.0 w.1.0 fine)
   fine_case SomeOpen fine (inl s) = absurd s.said
   fine_case SomeOpen fine (inr w) = absurd (too_many w.0 w.1.0 fine)
@@ -182,16 +243,24 @@ module _ (single : OneOutcome) (desk later : DeskState) (sink after : SinkState)
   unfit_case Usage unfit (inl s) = absurd s.said.stops
   unfit_case Usage unfit (inr w) = absurd w.1.1
   unfit_case Limit unfit (inl s) = elim s.said.stops [
-    | inl long ↦ absurd (not_overlong command desk text s.said.line told unfit.fits long)
+    | inl long ↦ absurd (unfit_not_long command desk text s.said.line told unfit.fits
+        (λ other d is reads. no_design other d unfit.refused.refusal is reads unfit.refused.lacks) long)
     | inr counted ↦ elim counted [
       | inl over ↦ absurd (over_not_refused s.said.line over unfit)
-      | inr crowded ↦ absurd
-          (no_design crowded.text crowded.design unfit.refused.refusal crowded.is_text crowded.reads
-          unfit.refused.lacks)
+      | inr nodes ↦ elim nodes [
+        | inl crowded ↦ absurd
+            (no_design crowded.text crowded.design unfit.refused.refusal crowded.is_text crowded.reads
+            unfit.refused.lacks)
+        | inr fine ↦ absurd (judged_not_lack _ unfit.refused.refusal fine.judged unfit.refused.lacks)
+      ]
     ]
   ]
   unfit_case Limit unfit (inr w) = absurd w.1.1
-  unfit_case Complete unfit (inl s) = absurd s.said
+  unfit_case Rejected unfit (inl s) =
+      absurd (rejected_not_lack s.said.line unfit.refused.refusal s.said.stops unfit.refused.lacks)
+  unfit_case Rejected unfit (inr w) = absurd w.1.1
+  unfit_case Complete unfit (inl s) =
+      absurd (judged_not_lack _ unfit.refused.refusal s.said.stops.0 unfit.refused.lacks)
   unfit_case Complete unfit (inr w) =
       absurd (no_design w.1.0.text w.1.0.design unfit.refused.refusal w.1.0.is_text w.1.0.reads unfit.refused.lacks)
   unfit_case SomeOpen unfit (inl s) = absurd s.said
@@ -207,7 +276,10 @@ module _ (single : OneOutcome) (desk later : DeskState) (sink after : SinkState)
   over_case Usage over (inr w) = absurd w.1.1
   over_case Refused over (inl s) = absurd (refused_not_over s.said.line s.said.stops over)
   over_case Refused over (inr w) = absurd w.1.1
-  over_case Complete over (inl s) = absurd s.said
+  over_case Rejected over (inl s) =
+      absurd (rejected_not_lack s.said.line over.over.refusal s.said.stops over.over.lacks)
+  over_case Rejected over (inr w) = absurd w.1.1
+  over_case Complete over (inl s) = absurd (judged_not_lack _ over.over.refusal s.said.stops.0 over.over.lacks)
   over_case Complete over (inr w) =
       absurd (no_design w.1.0.text w.1.0.design over.over.refusal w.1.0.is_text w.1.0.reads over.over.lacks)
   over_case SomeOpen over (inl s) = absurd s.said
@@ -215,61 +287,124 @@ module _ (single : OneOutcome) (desk later : DeskState) (sink after : SinkState)
       absurd (no_design w.1.0.text w.1.0.design over.over.refusal w.1.0.is_text w.1.0.reads over.over.lacks)
 
 -- ---- an input that the desk tells to be absent
-module _ (desk later : DeskState) (sink after : SinkState) (input output : List ℕ) (knobs : Knobs)
-    (gone : IsAbsent desk.files input) where
-  absent_case : (status : Status) → Ends (Route input output knobs) desk later sink after status
-      → IsDue ReadFault status
-  absent_case ReadFault answers = refl
-  absent_case WriteFault answers = tt
-  absent_case Memory answers = tt
-  absent_case Usage (inl s) = absurd s.said.stops
-  absent_case Usage (inr w) = absurd w.1.1
-  absent_case Refused (inl s) = absurd (not_read desk.files input _ gone s.said.stops.is_text.file)
-  absent_case Refused (inr w) = absurd w.1.1
-  absent_case Limit (inl s) = elim s.said.stops [
-    | inl long ↦ absurd (none_long desk.files input gone long.0)
+not_text : (command : Command) (desk : DeskState) (input other : List ℕ) → IsInputOf command input
+    → IsAbsent desk.files input → IsText command desk other → ⊥
+not_text (Route name output knobs) desk input other names gone is =
+    not_read desk.files name other (subst (IsAbsent desk.files) names gone) is.file
+not_text (Check name session report) desk input other names gone is =
+    not_read desk.files name other (subst (IsAbsent desk.files) names gone) is.file
+not_text (Gen n) desk input other names gone is = absurd names
+
+absent_not_long : (command : Command) (desk : DeskState) (input line : List ℕ) → IsInputOf command input
+    → IsAbsent desk.files input → IsOverlong command desk line → ⊥
+absent_not_long (Route name output knobs) desk input line names gone why =
+    none_long desk.files name (subst (IsAbsent desk.files) names gone) why.0
+absent_not_long (Check name session report) desk input line names gone (inl long, is) =
+    none_long desk.files name (subst (IsAbsent desk.files) names gone) long
+absent_not_long (Check name session report) desk input line names gone (inr (d, first, rest), is) =
+    not_read desk.files name first.text (subst (IsAbsent desk.files) names gone) first.is_text.file
+absent_not_long (Gen n) desk input line names gone why = absurd names
+
+-- whatever is due of a call whose input gives no text
+module _ (desk later : DeskState) (sink after : SinkState) (command : Command)
+    (none : (other : List ℕ) → IsText command desk other → ⊥) (Due : Status → Type 0) (unread : Due ReadFault)
+    (unwritten : Due WriteFault) (wanting : Due Memory)
+    (overlong : (line : List ℕ) → IsOverlong command desk line → Due Limit) where
+  textless_case : (status : Status) → Ends command desk later sink after status → Due status
+  textless_case ReadFault answers = unread
+  textless_case WriteFault answers = unwritten
+  textless_case Memory answers = wanting
+  textless_case Usage (inl s) = absurd s.said.stops
+  textless_case Usage (inr w) = absurd w.1.1
+  textless_case Refused (inl s) = absurd (none s.said.stops.text s.said.stops.is_text)
+  textless_case Refused (inr w) = absurd w.1.1
+  textless_case Rejected (inl s) = elim s.said.stops [
+    | inl a ↦ absurd (none _ (misread_text command desk a.place a.misread))
+    | inr a ↦ absurd (none _ (judged_text command desk _ a.judged))
+  ]
+  textless_case Rejected (inr w) = absurd w.1.1
+  textless_case Limit (inl s) = elim s.said.stops [
+    | inl long ↦ overlong s.said.line long
     | inr counted ↦ elim counted [
-      | inl over ↦ absurd (not_read desk.files input _ gone over.is_text.file)
-      | inr crowded ↦ absurd (not_read desk.files input _ gone crowded.is_text.file)
+      | inl over ↦ absurd (none over.text over.is_text)
+      | inr nodes ↦ elim nodes [
+        | inl crowded ↦ absurd (none crowded.text crowded.is_text)
+        | inr fine ↦ absurd (none _ (judged_text command desk _ fine.judged))
+      ]
     ]
   ]
-  absent_case Limit (inr w) = absurd w.1.1
-  absent_case Complete (inl s) = absurd s.said
-  absent_case Complete (inr w) = absurd (not_read desk.files input _ gone w.1.0.is_text.file)
-  absent_case SomeOpen (inl s) = absurd s.said
-  absent_case SomeOpen (inr w) = absurd (not_read desk.files input _ gone w.1.0.is_text.file)
+  textless_case Limit (inr w) = absurd w.1.1
+  textless_case Complete (inl s) = absurd (none _ (judged_text command desk _ s.said.stops.0))
+  textless_case Complete (inr w) = absurd (none w.1.0.text w.1.0.is_text)
+  textless_case SomeOpen (inl s) = absurd s.said
+  textless_case SomeOpen (inr w) = absurd (none w.1.0.text w.1.0.is_text)
 
-pub absent_due : (found : Result Command WordFault) (desk later : DeskState) (sink after : SinkState)
-    (command : Command) → found ≡ Ok command → IsMissing found desk → (o : Outcome)
-    → Answers (Ok command) desk later sink after o → IsDue ReadFault o.status
-absent_due found desk later sink after command is missing o answers =
-    let route : Command = Route missing.input missing.output missing.knobs in
-    let same : command ≡ route = one_command command route (sym is ∙ missing.accepted) in
-    absent_case desk later sink after missing.input missing.output missing.knobs missing.holds o.status
-    (subst (λ (k : Command). Ends k desk later sink after o.status) same
-    (sides command desk later sink after o.routed o.status answers))
+-- a text that is told and too long isn't read
+not_fit : (files : Option Files) (name text other : List ℕ) → IsHeld files name text → max_bytes < length text
+    → IsFile files name other → length other ≤ max_bytes → ⊥
+not_fit files name text other held long is fits =
+    let short : length text ≤ max_bytes =
+    subst (λ (t : List ℕ). length t ≤ max_bytes) (one_text files name text other held is) fits in
+    absurd (omega (arith, long, short))
+
+long_not_text : (command : Command) (desk : DeskState) (input text other : List ℕ) → IsInputOf command input
+    → IsHeld desk.files input text → max_bytes < length text → IsText command desk other → ⊥
+long_not_text (Route name output knobs) desk input text other names held long is =
+    not_fit desk.files name text other (subst (λ (n : List ℕ). IsHeld desk.files n text) names held) long is.file
+    is.fits
+long_not_text (Check name session report) desk input text other names held long is =
+    not_fit desk.files name text other (subst (λ (n : List ℕ). IsHeld desk.files n text) names held) long is.file
+    is.fits
+long_not_text (Gen n) desk input text other names held long is = absurd names
+
+module _ (found : Result Command WordFault) (desk later : DeskState) (sink after : SinkState) (command : Command)
+    (is : found ≡ Ok command) (o : Outcome) (answers : Answers (Ok command) desk later sink after o) where
+  ends_so : Ends command desk later sink after o.status
+  ends_so = sides command desk later sink after o.routed o.status answers
+
+  input_of : (asked : Command) (input : List ℕ) → found ≡ Ok asked → IsInputOf asked input → IsInputOf command input
+  input_of asked input accepted_so names =
+      let same : command ≡ asked = one_command command asked (sym is ∙ accepted_so) in
+      subst (λ (k : Command). IsInputOf k input) (sym same) names
+
+  pub absent_due : IsMissing found desk → IsDue ReadFault o.status
+  absent_due missing =
+      let names = input_of missing.asked missing.input missing.accepted missing.names in
+      textless_case desk later sink after command
+      (λ other t. not_text command desk missing.input other names missing.holds t) (IsDue ReadFault) refl tt tt
+      (λ line long. absurd (absent_not_long command desk missing.input line names missing.holds long)) o.status ends_so
+
+  pub long_due : (text : List ℕ) → IsHeldInput found desk text → IsLong text → IsDueAfterRead Limit o.status
+  long_due text held long =
+      let names = input_of held.asked held.input held.accepted held.names in
+      textless_case desk later sink after command
+      (λ other t. long_not_text command desk held.input text other names held.holds long t) (IsDueAfterRead Limit) tt tt
+      tt (λ line why. refl) o.status ends_so
 
 -- ---- a call without faults is done
-no_desk_fault : {P : Type 0} (desk later : DeskState) (sink after : SinkState) → HasNoFault desk later sink after
+pub no_desk_fault : {P : Type 0} (desk later : DeskState) (sink after : SinkState) → HasNoFault desk later sink after
     → DeskFaulted desk later P → (P → ⊥) → ⊥
 no_desk_fault desk later sink after (inl calm) fault not = not (fault.calm calm.0)
 no_desk_fault desk later sink after (inr still) fault not = still.0 fault.rose
 
-no_sink_fault : (desk later : DeskState) (sink after : SinkState) → HasNoFault desk later sink after
+pub no_sink_fault : (desk later : DeskState) (sink after : SinkState) → HasNoFault desk later sink after
     → SinkFaulted sink after → ⊥
 no_sink_fault desk later sink after (inl calm) fault = true≢false (sym calm.1 ∙ fault.restless)
 no_sink_fault desk later sink after (inr still) fault = still.1 fault.rose
 
 not_unread : (command : Command) (desk later : DeskState) (sink after : SinkState) (text line : List ℕ)
-    → IsToldText command desk text → HasNoFault desk later sink after → IsUnread command desk later line → ⊥
-not_unread (Route input output knobs) desk later sink after text line held calm why =
+    → AsksToRoute command → IsToldText command desk text → HasNoFault desk later sink after
+    → IsUnread command desk later line → ⊥
+not_unread (Route input output knobs) desk later sink after text line routes held calm why =
     no_desk_fault desk later sink after calm why.0 (not_absent desk.files input text held)
-not_unread (Gen n) desk later sink after text line told calm why = absurd why
+not_unread (Check input session report) desk later sink after text line routes held calm why = absurd routes
+not_unread (Gen n) desk later sink after text line routes _ calm why = absurd why
 
 not_cut_short : (command : Command) (b : BoardOf) (desk later : DeskState) (sink after : SinkState)
     → HasNoFault desk later sink after → SessionFaulted command b desk later sink after → ⊥
 not_cut_short (Route input output knobs) b desk later sink after calm s =
     no_desk_fault desk later sink after calm s.fault (λ no. no)
+not_cut_short (Check input session report) b desk later sink after calm s = absurd s
 not_cut_short (Gen n) b desk later sink after calm s = absurd s
 
 module _ (single : OneOutcome) (desk later : DeskState) (sink after : SinkState) (text : List ℕ) (command : Command)
@@ -287,6 +422,9 @@ module _ (single : OneOutcome) (desk later : DeskState) (sink after : SinkState)
       let few : node_count (mesh_of fit.asked fit.design) ≤ 2 ^ 24 = fit.nodes in
       absurd (omega (arith, few, many))
 
+  is_routed : IsRoutable (Ok command) text → AsksToRoute command
+  is_routed fit = routes_here single desk later sink after text command read (λ count. count ≤ 2 ^ 24) fit
+
   done_case : (status : Status) → IsRoutable (Ok command) text → HasNoFault desk later sink after
       → Ends command desk later sink after status → IsDone status
   done_case Complete fit calm answers = tt
@@ -299,17 +437,24 @@ module _ (single : OneOutcome) (desk later : DeskState) (sink after : SinkState)
       (λ count. count ≤ 2 ^ 24) fit)
   done_case Refused fit calm (inr w) = absurd w.1.1
   done_case ReadFault fit calm (inl s) =
-      absurd (not_unread command desk later sink after text s.said.line is_told calm s.said.stops)
+      absurd (not_unread command desk later sink after text s.said.line (is_routed fit) is_told calm s.said.stops)
   done_case ReadFault fit calm (inr w) = absurd w.1.1
   done_case Limit fit calm (inl s) = elim s.said.stops [
-    | inl long ↦ absurd (not_overlong command desk text s.said.line is_told fit.fits long)
+    | inl long ↦ absurd (not_overlong command desk text s.said.line (is_routed fit) is_told fit.fits long)
     | inr counted ↦ elim counted [
       | inl over ↦ absurd (over_not single desk later sink after text command read s.said.line over
           (λ count. count ≤ 2 ^ 24) fit)
-      | inr crowded ↦ absurd (not_crowded s.said.line crowded fit)
+      | inr nodes ↦ elim nodes [
+        | inl crowded ↦ absurd (not_crowded s.said.line crowded fit)
+        | inr fine ↦ absurd (not_routed command desk _ fine.judged (is_routed fit))
+      ]
     ]
   ]
   done_case Limit fit calm (inr w) = absurd w.1.1
+  done_case Rejected fit calm (inl s) =
+      absurd (rejected_not single desk later sink after text command read s.said.line s.said.stops
+      (λ count. count ≤ 2 ^ 24) fit)
+  done_case Rejected fit calm (inr w) = absurd w.1.1
   done_case WriteFault fit calm (inl s) = absurd (no_sink_fault desk later sink after calm s.said.fault)
   done_case WriteFault fit calm (inr w) = elim w.1.1 [
     | inl session ↦ absurd (not_cut_short command w.0.board desk later sink after calm session)

@@ -10,11 +10,12 @@ use Rattle.route_words.specs.declared.command.Command.{Command}
 use Rattle.route_words.specs.declared.command.WordFault.{WordFault}
 use Rattle.route_run.specs.declared.run.Routed.{Routed}
 use Rattle.dsn_route.specs.declared.status.Status.{Status}
-use Rattle.dsn_route.specs.declared.status.Status.TheVariants.{Usage, Refused, ReadFault, Limit}
+use Rattle.dsn_route.specs.declared.status.Status.TheVariants.{Complete, Usage, Refused, ReadFault, Limit}
+use Rattle.dsn_route.specs.declared.status.Status.TheVariants.{Rejected}
 use Rattle.dsn_route.specs.Status.{ended_of}
-use Rattle.dsn_route.specs.Commands.{IsText}
+use Rattle.dsn_route.specs.Commands.{AsksToRoute, IsText}
 use Rattle.dsn_route.specs.Answers.{Stops, Said, Stopped, Answers}
-use Rattle.dsn_route.specs.inner.Said.{RoutesDesign}
+use Rattle.dsn_route.specs.inner.Said.{EndsBy, IsWanting, RoutesDesign}
 
 -- the line of a cause was put
 line_said : (command : Result Command WordFault) (desk later : DeskState) (sink after : SinkState) (status : Status)
@@ -22,6 +23,8 @@ line_said : (command : Result Command WordFault) (desk later : DeskState) (sink 
     → Said command desk later sink after status
 line_said (Err fault) desk later sink after Usage line why put = record { line = line; stops = why; bytes = put }
 line_said (Err fault) desk later sink after _ line why put = absurd why
+line_said (Ok command) desk later sink after Complete line why put = record { line = line; stops = why; bytes = put }
+line_said (Ok command) desk later sink after Rejected line why put = record { line = line; stops = why; bytes = put }
 line_said (Ok command) desk later sink after Refused line why put = record { line = line; stops = why; bytes = put }
 line_said (Ok command) desk later sink after ReadFault line why put = record { line = line; stops = why; bytes = put }
 line_said (Ok command) desk later sink after Limit line why put = record { line = line; stops = why; bytes = put }
@@ -41,22 +44,37 @@ stopped command desk later sink after (Err sink_fail.Failed) status line why fil
 stopped command desk later sink after (Err (sink_fail.Memory e)) status line why files gives =
     record { files = files; said = gives }
 
+-- The same by what a call answers that puts a line.
+pub ended_by : (command : Result Command WordFault) (desk later : DeskState) (sink after : SinkState) (due : Status)
+    (line : List ℕ) (status : Status) → Stops command desk later due line → later.files ≡ desk.files
+    → EndsBy line due sink after status → Stopped command desk later sink after status
+ended_by command desk later sink after due line status why files ends =
+    subst (Stopped command desk later sink after) (sym ends.is)
+    (stopped command desk later sink after ends.put due line why files ends.gives)
+
+-- Where memory was wanting, nothing is put.
+pub wanting : (command : Result Command WordFault) (desk later : DeskState) (sink after : SinkState) (status : Status)
+    → later.files ≡ desk.files → IsWanting sink after status → Stopped command desk later sink after status
+wanting command desk later sink after status files w =
+    record { files = files; said = subst (λ s. Said command desk later sink after s) (sym w.memory) w.bytes }
+
 -- A text of a design that was routed, or for whose run memory was wanting, has its answer.
 pub routed : (command : Command) (desk later : DeskState) (sink after : SinkState) (text : List ℕ) (d : Design)
-    → IsText command desk text → HasDesign text d
+    → IsText command desk text → HasDesign text d → AsksToRoute command
     → (routed : Option Routed) (status : Status)
     → RoutesDesign command d desk later sink after (record { status = status; routed = routed })
     → Answers (Ok command) desk later sink after (record { status = status; routed = routed })
-routed command desk later sink after text d is_text reads None status left = record {
+routed command desk later sink after text d is_text reads routes None status left = record {
   files = left.files;
   said = subst (λ s. Said (Ok command) desk later sink after s) (sym left.memory) left.bytes;
 }
-routed command desk later sink after text d is_text reads (Some made) status out = (
+routed command desk later sink after text d is_text reads routes (Some made) status out = (
   record {
     text = text;
     design = d;
     is_text = is_text;
     reads = reads;
+    routes = routes;
     few = out.few;
     run = out.run;
   },

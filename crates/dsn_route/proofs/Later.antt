@@ -1,19 +1,28 @@
 -- An answer counts from an earlier moment, between which and its start the files stayed.
-use Rattle.std.proofs.Common.{◌≡◌, inl, inr, ℕ, ◌≤◌, Bool, List, Option, Some, None, IsTrue, Ok, subst, arith}
+use Rattle.std.proofs.Common.{◌≡◌, inl, inr, ℕ, ◌≤◌, Bool, List, Option, Some, None, IsTrue, Result, Ok, Err, subst}
+use Rattle.std.proofs.Common.{arith, sym}
 use Rattle.desk_io.specs.States.{Files, DeskState, SinkState}
-use Rattle.desk_io.specs.Answers.{DeskFaulted}
+use Rattle.desk_io.specs.Answers.{IsAbsent, IsFile, IsTooLong, DeskFaulted}
 use Rattle.route_words.specs.declared.command.Command.{Command}
-use Rattle.route_words.specs.declared.command.Command.TheVariants.{Route, Gen}
+use Rattle.route_words.specs.declared.command.Command.TheVariants.{Route, Check, Gen}
 use Rattle.route_run.specs.declared.run.Routed.{Routed}
 use Rattle.route_run.specs.declared.facts.Facts.{Facts}
 use Rattle.pcb_board.specs.Boards.{BoardOf}
 use Rattle.dsn_route.specs.declared.status.Status.{Status}
 use Rattle.dsn_route.specs.declared.status.Status.TheVariants.{Complete, SomeOpen, Usage, Refused, ReadFault}
-use Rattle.dsn_route.specs.declared.status.Status.TheVariants.{WriteFault, Limit, Memory}
+use Rattle.dsn_route.specs.declared.status.Status.TheVariants.{WriteFault, Limit, Memory, Rejected}
 use Rattle.dsn_route.specs.declared.outcome.Outcome.{Outcome}
-use Rattle.dsn_route.specs.Commands.{IsText}
+use Rattle.pcb_model.specs.declared.design.Design.{Design}
+use Rattle.ses_reader.specs.declared.item.SesItem.{SesItem}
+use Rattle.route_check.specs.declared.verdict.Verdict.{Verdict}
+use Rattle.route_check.specs.declared.verdict.Verdict.TheVariants.{Yes, No}
+use Rattle.route_check.specs.declared.verdict.JudgeFault.{JudgeFault}
+use Rattle.route_check.specs.declared.verdict.JudgeFault.TheVariants.{TooManyNodes}
+use Rattle.dsn_route.specs.Commands.{IsInput, IsText}
+use Rattle.dsn_route.specs.Judging.{HasJudged, HasMisread, IsDesignIn, IsSessionIn, OfOneFile}
+use Rattle.dsn_route.specs.Lines.{max_bytes}
 use Rattle.dsn_route.specs.Answers.{Stops, LinePut, Said, IsUnread, IsOverlong, HasWritten, SessionFaulted}
-use Rattle.dsn_route.specs.Answers.{Leaves, Answers}
+use Rattle.dsn_route.specs.Answers.{Leaves, Stopped, Answers}
 
 -- a desk with these files, from some moment on
 abbrev at : Option Files → ℕ → Bool → DeskState
@@ -24,24 +33,88 @@ module _ (desk later : DeskState) (faults : ℕ) (calm : Bool) (le : desk.faults
   faulted : {P : Type 0} → DeskFaulted (at desk.files faults calm) later P → DeskFaulted desk later P
   faulted f = let rose = f.rose in record { rose = omega (arith, le, rose); calm = λ c. f.calm (stays c) }
 
+  input_in : (name text : List ℕ) → IsInput name (at desk.files faults calm) text → IsInput name desk text
+  input_in name text is = record { file = is.file; fits = is.fits }
+
+  design_in : (name : List ℕ) (d : Design) → IsDesignIn name (at desk.files faults calm) d → IsDesignIn name desk d
+  design_in name d is = record { text = is.text; is_text = input_in name is.text is.is_text; reads = is.reads }
+
+  session_in : (name : List ℕ) (d : Design) (items : List SesItem)
+      → IsSessionIn name (at desk.files faults calm) d items → IsSessionIn name desk d items
+  session_in name d items is =
+      record { text = is.text; is_text = input_in name is.text is.is_text; reads = is.reads }
+
+  -- one of the files of `check`
+  one_file : (P Q : List ℕ → Type 0) → ((name : List ℕ) → P name → Q name) → (input session report : List ℕ)
+      → OfOneFile P input session report (at desk.files faults calm) → OfOneFile Q input session report desk
+  one_file P Q to input session report (inl first) = inl (to input first)
+  one_file P Q to input session report (inr (d, is, inl second)) =
+      inr (d, design_in input d is, inl (to session second))
+  one_file P Q to input session report (inr (d, is, inr (items, told, third))) =
+      inr (d, design_in input d is, inr (items, session_in session d items told, to report third))
+
+  judged : (command : Command) (answer : Result Verdict JudgeFault)
+      → HasJudged command (at desk.files faults calm) answer → HasJudged command desk answer
+  judged command answer j = record {
+    input = j.input;
+    session = j.session;
+    report = j.report;
+    command_is = j.command_is;
+    design = j.design;
+    items = j.items;
+    text = j.text;
+    of_input = design_in j.input j.design j.of_input;
+    of_session = session_in j.session j.design j.items j.of_session;
+    of_report = input_in j.report j.text j.of_report;
+    sound = j.sound;
+    sound_items = j.sound_items;
+    judges = j.judges;
+  }
+
+  misread : (command : Command) (place : ℕ) → HasMisread command (at desk.files faults calm) place
+      → HasMisread command desk place
+  misread command place m = record {
+    input = m.input;
+    session = m.session;
+    report = m.report;
+    command_is = m.command_is;
+    design = m.design;
+    of_input = design_in m.input m.design m.of_input;
+    text = m.text;
+    is_text = input_in m.session m.text m.is_text;
+    no_session = m.no_session;
+  }
+
   is_text : (command : Command) (text : List ℕ) → IsText command (at desk.files faults calm) text
       → IsText command desk text
-  is_text (Route input output knobs) text is = record { file = is.file; fits = is.fits }
+  is_text (Route input output knobs) text is = input_in input text is
+  is_text (Check input session report) text is = input_in input text is
   is_text (Gen n) text is = is
 
   unread : (command : Command) (line : List ℕ) → IsUnread command (at desk.files faults calm) later line
       → IsUnread command desk later line
   unread (Route input output knobs) line (fault, is) = (faulted fault, is)
+  unread (Check input session report) line (one, is) = (
+    one_file (λ name. DeskFaulted (at desk.files faults calm) later (IsAbsent desk.files name))
+        (λ name. DeskFaulted desk later (IsAbsent desk.files name)) (λ name f. faulted f) input session report one,
+    is,
+  )
   unread (Gen n) line why = absurd why
 
   overlong : (command : Command) (line : List ℕ) → IsOverlong command (at desk.files faults calm) line
       → IsOverlong command desk line
   overlong (Route input output knobs) line why = why
+  overlong (Check input session report) line (one, is) = (
+    one_file (λ name. IsTooLong desk.files name max_bytes) (λ name. IsTooLong desk.files name max_bytes)
+        (λ name long. long) input session report one,
+    is,
+  )
   overlong (Gen n) line why = absurd why
 
   written : (command : Command) (b : BoardOf) → HasWritten command b (at desk.files faults calm) later
       → HasWritten command b desk later
   written (Route input output knobs) b has = has
+  written (Check input session report) b has = absurd has
   written (Gen n) b has = has
 
   cut_short : (command : Command) (b : BoardOf) (sink after : SinkState)
@@ -49,6 +122,7 @@ module _ (desk later : DeskState) (faults : ℕ) (calm : Bool) (le : desk.faults
       → SessionFaulted command b desk later sink after
   cut_short (Route input output knobs) b sink after s =
       record { fault = faulted s.fault; kept = s.kept; files = s.files; bytes = s.bytes }
+  cut_short (Check input session report) b sink after s = absurd s
   cut_short (Gen n) b sink after s = absurd s
 
   module _ (command : Command) (sink after : SinkState) where
@@ -65,6 +139,16 @@ module _ (desk later : DeskState) (faults : ℕ) (calm : Bool) (le : desk.faults
           to = why.to;
           line_is = why.line_is;
         }
+    stops Complete line (j, is) = (judged command (Ok Yes) j, is)
+    stops Rejected line (inl m) =
+        inl (record { place = m.place; misread = misread command m.place m.misread; line_is = m.line_is })
+    stops Rejected line (inr w) =
+        inr (record {
+          number = w.number;
+          at = w.at;
+          judged = judged command (Ok (No w.number w.at)) w.judged;
+          line_is = w.line_is;
+        })
     stops ReadFault line why = unread command line why
     stops Limit line (inl long) = inl (overlong command line long)
     stops Limit line (inr (inl over)) =
@@ -78,15 +162,22 @@ module _ (desk later : DeskState) (faults : ℕ) (calm : Bool) (le : desk.faults
           most = over.most;
           line_is = over.line_is;
         }))
-    stops Limit line (inr (inr crowded)) =
-        inr (inr (record {
+    stops Limit line (inr (inr (inl crowded))) =
+        inr (inr (inl (record {
           text = crowded.text;
           design = crowded.design;
           is_text = is_text command crowded.text crowded.is_text;
           reads = crowded.reads;
+          routes = crowded.routes;
           many = crowded.many;
           line_is = crowded.line_is;
-        }))
+        })))
+    stops Limit line (inr (inr (inr fine))) =
+        inr (inr (inr (record {
+          count = fine.count;
+          judged = judged command (Err (TooManyNodes fine.count)) fine.judged;
+          line_is = fine.line_is;
+        })))
     stops _ line why = absurd why
 
     put : (status : Status) → LinePut (Ok command) (at desk.files faults calm) later sink after status
@@ -95,7 +186,7 @@ module _ (desk later : DeskState) (faults : ℕ) (calm : Bool) (le : desk.faults
 
     said : (status : Status) → Said (Ok command) (at desk.files faults calm) later sink after status
         → Said (Ok command) desk later sink after status
-    said Complete s = s
+    said Complete s = put Complete s
     said SomeOpen s = s
     said Usage s = put Usage s
     said Refused s = put Refused s
@@ -111,6 +202,7 @@ module _ (desk later : DeskState) (faults : ℕ) (calm : Bool) (le : desk.faults
         }
     said Limit s = put Limit s
     said Memory s = s
+    said Rejected s = put Rejected s
 
     leaves : (b : BoardOf) (facts : Facts) (status : Status)
         → Leaves command b facts (at desk.files faults calm) later sink after status
@@ -137,6 +229,7 @@ module _ (desk later : DeskState) (faults : ℕ) (calm : Bool) (le : desk.faults
         design = r.design;
         is_text = is_text command r.text r.is_text;
         reads = r.reads;
+        routes = r.routes;
         few = r.few;
         run = r.run;
       },
@@ -149,3 +242,26 @@ pub from_before : (command : Command) (desk middle later : DeskState) (sink afte
 from_before command desk middle later sink after o same le stays a =
     earlier desk later middle.faults middle.calm le stays command sink after o.routed o.status
     (subst (λ (f : Option Files). Answers (Ok command) (at f middle.faults middle.calm) later sink after o) same a)
+
+-- The same of a call that didn't route.
+pub stopped_before : (command : Command) (desk middle later : DeskState) (sink after : SinkState) (status : Status)
+    → middle.files ≡ desk.files → desk.faults ≤ middle.faults → (IsTrue desk.calm → IsTrue middle.calm)
+    → Stopped (Ok command) middle later sink after status → Stopped (Ok command) desk later sink after status
+stopped_before command desk middle later sink after status same le stays s =
+    from_before command desk middle later sink after (record { status = status; routed = None }) same le stays s
+
+-- What was read stays so.
+pub input_stays : (name text : List ℕ) (desk middle : DeskState) → middle.files ≡ desk.files → IsInput name desk text
+    → IsInput name middle text
+input_stays name text desk middle same is =
+    record { file = subst (λ (f : Option Files). IsFile f name text) (sym same) is.file; fits = is.fits }
+
+pub design_stays : (name : List ℕ) (desk middle : DeskState) (d : Design) → middle.files ≡ desk.files
+    → IsDesignIn name desk d → IsDesignIn name middle d
+design_stays name desk middle d same is =
+    record { text = is.text; is_text = input_stays name is.text desk middle same is.is_text; reads = is.reads }
+
+pub session_stays : (name : List ℕ) (desk middle : DeskState) (d : Design) (items : List SesItem)
+    → middle.files ≡ desk.files → IsSessionIn name desk d items → IsSessionIn name middle d items
+session_stays name desk middle d items same is =
+    record { text = is.text; is_text = input_stays name is.text desk middle same is.is_text; reads = is.reads }

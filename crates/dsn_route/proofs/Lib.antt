@@ -3,6 +3,10 @@ mod Later
 mod OneText
 mod Unread
 mod Dues
+mod Checking
+mod Checked
+mod Knobbed
+mod Vouching
 mod Written
 mod Wording
 mod Joined

@@ -1,5 +1,5 @@
 -- What the top call answers, and what it leaves.
-use Rattle.std.specs.Prelude.{◌≡◌, ◌≢◌, ◌≤◌, ◌<◌, ◌^◌, ◌⊎◌, ℕ, List, [], take, Result, Ok, Err, Some, MatchOption}
+use Rattle.std.specs.Prelude.{◌≡◌, ◌≢◌, ◌≤◌, ◌<◌, ◌⊎◌, ℕ, List, [], take, Result, Ok, Err, Some, MatchOption}
 use Rattle.desk_io.specs.States.{DeskState, SinkState}
 use Rattle.desk_io.specs.Answers.{IsAbsent, IsTooLong, written, appended, DeskFaulted, SinkFaulted}
 use Rattle.pcb_model.specs.declared.design.Design.{Design}
@@ -10,7 +10,7 @@ use Rattle.dsn_shapes.specs.Limits.{most_of}
 use Rattle.route_lattice.specs.Mesh.{node_count}
 use Rattle.ses_writer.specs.Session.{session_of}
 use Rattle.route_words.specs.declared.command.Command.{Command}
-use Rattle.route_words.specs.declared.command.Command.TheVariants.{Route, Gen}
+use Rattle.route_words.specs.declared.command.Command.TheVariants.{Route, Check, Gen}
 use Rattle.route_words.specs.declared.command.WordFault.{WordFault}
 use Rattle.route_run.specs.declared.facts.Facts.{Facts}
 use Rattle.route_report.specs.Report.{report_of}
@@ -19,16 +19,19 @@ use Rattle.route_run.specs.declared.run.Routed.{Routed}
 use Rattle.route_run.specs.Runs.{IsRun}
 use Rattle.dsn_route.specs.declared.status.Status.{Status}
 use Rattle.dsn_route.specs.declared.status.Status.TheVariants.{Complete, SomeOpen, Usage, Refused, ReadFault}
-use Rattle.dsn_route.specs.declared.status.Status.TheVariants.{WriteFault, Limit, Memory}
+use Rattle.dsn_route.specs.declared.status.Status.TheVariants.{WriteFault, Limit, Memory, Rejected}
 use Rattle.dsn_route.specs.declared.outcome.Outcome.{Outcome}
 use Rattle.dsn_route.specs.Lines.{max_bytes, number_of, usage_line, refused_line, read_fault_line, limit_line}
-use Rattle.dsn_route.specs.Lines.{over_line, nodes_line}
+use Rattle.dsn_route.specs.Lines.{over_line, nodes_line, check_line, check_ok_line}
 use Rattle.dsn_route.specs.Texts.{IsRefused, IsOverLimit}
-use Rattle.dsn_route.specs.Commands.{mesh_of, run_of, IsText, is_short}
+use Rattle.dsn_route.specs.Commands.{mesh_of, run_of, AsksToRoute, IsText, is_short}
+use Rattle.dsn_route.specs.Judging.{HasJudged, HasMisread, OfOneFile}
+use Rattle.route_check.specs.declared.verdict.Verdict.TheVariants.{Yes, No}
+use Rattle.route_check.specs.declared.verdict.JudgeFault.TheVariants.{TooManyNodes}
 use Rattle.dsn_shapes.specs.declared.table.TheConstants.{BAD_PAIR}
 use Rattle.route_lattice.specs.declared.limits.TheConstants.{MOST_NODES}
 
--- ---- calls that stop before they route
+-- ---- calls that don't route
 -- the number of the refused words, and the line that says so
 pub record IsMisworded (fault : WordFault) (line : List ℕ) : Type 0 where
   pub number : ℕ
@@ -63,27 +66,61 @@ pub record IsCrowded (command : Command) (desk : DeskState) (line : List ℕ) : 
   pub design : Design
   pub is_text : IsText command desk text
   pub reads : HasDesign text design
+  pub routes : AsksToRoute command
   pub many : MOST_NODES < node_count (mesh_of command design)
   pub line_is : line ≡ nodes_line (node_count (mesh_of command design))
 
--- the input couldn't be read; a generated board has none
+-- the session or its report isn't as it should be, and the line that says which check fails, and where: the session
+-- can't be read, or it was judged so
+pub record IsUnfitSession (command : Command) (desk : DeskState) (line : List ℕ) : Type 0 where
+  pub place : ℕ
+  pub misread : HasMisread command desk place
+  pub line_is : line ≡ check_line 1 place
+
+pub record IsJudgedWrong (command : Command) (desk : DeskState) (line : List ℕ) : Type 0 where
+  pub number : ℕ
+  pub at : ℕ
+  pub judged : HasJudged command desk (Ok (No number at))
+  pub line_is : line ≡ check_line number at
+
+abbrev pub IsRejected : Command → DeskState → List ℕ → Type 0
+IsRejected command desk line = IsUnfitSession command desk line ⊎ IsJudgedWrong command desk line
+
+-- nothing is wrong with them, and the line that says so
+abbrev pub IsJudgedRight : Command → DeskState → List ℕ → Type 0
+IsJudgedRight command desk line = HasJudged command desk (Ok Yes) × (line ≡ check_ok_line)
+
+-- the lattice of the report's grid has more than 2^24 nodes, and the line that says how many
+pub record IsReportTooFine (command : Command) (desk : DeskState) (line : List ℕ) : Type 0 where
+  pub count : ℕ
+  pub judged : HasJudged command desk (Err (TooManyNodes count))
+  pub line_is : line ≡ nodes_line count
+
+-- a file couldn't be read; a generated board has none
 abbrev pub IsUnread : Command → DeskState → DeskState → List ℕ → Type 0
 IsUnread (Route input output knobs) desk later line = DeskFaulted desk later (IsAbsent desk.files input)
     × (line ≡ read_fault_line)
+IsUnread (Check input session report) desk later line =
+    OfOneFile (λ name. DeskFaulted desk later (IsAbsent desk.files name)) input session report desk
+    × (line ≡ read_fault_line)
 IsUnread (Gen n) desk later line = ⊥
 
--- the input is longer than the limit
+-- a file is longer than the limit
 abbrev pub IsOverlong : Command → DeskState → List ℕ → Type 0
 IsOverlong (Route input output knobs) desk line = IsTooLong desk.files input max_bytes × (line ≡ limit_line)
+IsOverlong (Check input session report) desk line =
+    OfOneFile (λ name. IsTooLong desk.files name max_bytes) input session report desk × (line ≡ limit_line)
 IsOverlong (Gen n) desk line = ⊥
 
--- why a call stops before it routes, and the line that says so
+-- why a call doesn't route, and the line that says so
 abbrev pub Stops : Result Command WordFault → DeskState → DeskState → Status → List ℕ → Type 0
 Stops (Err fault) desk later Usage line = IsMisworded fault line
+Stops (Ok command) desk later Complete line = IsJudgedRight command desk line
+Stops (Ok command) desk later Rejected line = IsRejected command desk line
 Stops (Ok command) desk later Refused line = IsRefusal command desk line
 Stops (Ok command) desk later ReadFault line = IsUnread command desk later line
 Stops (Ok command) desk later Limit line = IsOverlong command desk line
-    ⊎ (IsOverfull command desk line ⊎ IsCrowded command desk line)
+    ⊎ (IsOverfull command desk line ⊎ (IsCrowded command desk line ⊎ IsReportTooFine command desk line))
 Stops _ desk later _ line = ⊥
 
 -- the line was put
@@ -103,9 +140,8 @@ pub record LineFaulted (command : Result Command WordFault) (desk later : DeskSt
   pub kept : ℕ
   pub bytes : after.bytes ≡ appended sink.bytes (take kept line)
 
--- what a call puts that stopped before it routed
+-- what a call puts that didn't route
 abbrev pub Said : Result Command WordFault → DeskState → DeskState → SinkState → SinkState → Status → Type 0
-Said command desk later sink after Complete = ⊥
 Said command desk later sink after SomeOpen = ⊥
 Said command desk later sink after WriteFault = LineFaulted command desk later sink after
 Said command desk later sink after Memory = after.bytes ≡ sink.bytes
@@ -124,6 +160,7 @@ pub record IsOutcome (command : Command) (desk : DeskState) (routed : Routed) : 
   pub design : Design
   pub is_text : IsText command desk text
   pub reads : HasDesign text design
+  pub routes : AsksToRoute command
   pub few : node_count (mesh_of command design) ≤ MOST_NODES
   pub run : IsRun design (mesh_of command design) (run_of command) routed.board routed.facts
 
@@ -131,6 +168,7 @@ pub record IsOutcome (command : Command) (desk : DeskState) (routed : Routed) : 
 abbrev pub HasWritten : Command → BoardOf → DeskState → DeskState → Type 0
 HasWritten (Route input output knobs) b desk later =
     later.files ≡ written desk.files output (session_of b.design b.items knobs.omit_fixed)
+HasWritten (Check input session report) b desk later = ⊥
 HasWritten (Gen n) b desk later = later.files ≡ desk.files
 
 abbrev pub report_for : Command → BoardOf → Facts → List ℕ
@@ -152,6 +190,7 @@ pub record IsCutShort (output session : List ℕ) (desk later : DeskState) (sink
 abbrev pub SessionFaulted : Command → BoardOf → DeskState → DeskState → SinkState → SinkState → Type 0
 SessionFaulted (Route input output knobs) b desk later sink after =
     IsCutShort output (session_of b.design b.items knobs.omit_fixed) desk later sink after
+SessionFaulted (Check input session report) b desk later sink after = ⊥
 SessionFaulted (Gen n) b desk later sink after = ⊥
 
 -- the put of the report failed: the files are as where all went well, and a front of the report was put
@@ -181,7 +220,7 @@ WasRouted (Ok command) desk later sink after s routed =
     IsOutcome command desk routed × Leaves command routed.board routed.facts desk later sink after s
 WasRouted (Err fault) desk later sink after s routed = ⊥
 
--- Each answer has its cause, and leaves what is said of it: nothing was routed, and the call stopped; or it routed.
+-- Each answer has its cause, and leaves what is said of it: nothing was routed, and a line was put; or it routed.
 abbrev pub Answers : Result Command WordFault → DeskState → DeskState → SinkState → SinkState → Outcome → Type 0
 Answers command desk later sink after o = MatchOption o.routed (Stopped command desk later sink after o.status)
     (WasRouted command desk later sink after o.status)

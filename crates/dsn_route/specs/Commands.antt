@@ -1,4 +1,4 @@
--- What a command asks for: a text, a lattice of its design, and a run.
+-- What a command asks for: a text, a lattice of its design, and a run; or to judge.
 use Rattle.std.specs.Prelude.{◌≡◌, ◌≤◌, ℕ, Bool, true, false, List, length, unwrap_or, None}
 use Rattle.desk_io.specs.States.{DeskState}
 use Rattle.desk_io.specs.Answers.{IsFile, IsHeld}
@@ -6,7 +6,7 @@ use Rattle.pcb_model.specs.declared.design.Design.{Design}
 use Rattle.route_lattice.specs.Mesh.{Mesh}
 use Rattle.route_lattice.specs.Whole.{default_grid, lattice_of}
 use Rattle.route_words.specs.declared.command.Command.{Command}
-use Rattle.route_words.specs.declared.command.Command.TheVariants.{Route, Gen}
+use Rattle.route_words.specs.declared.command.Command.TheVariants.{Route, Check, Gen}
 use Rattle.route_words.specs.declared.command.Knobs.{Knobs}
 use Rattle.board_gen.specs.Board.{text_of}
 use Rattle.route_run.specs.Runs.{RunOf, run_from}
@@ -16,8 +16,22 @@ use Rattle.dsn_route.specs.Lines.{max_bytes}
 abbrev pub default_knobs : Knobs
 default_knobs = record { grid = None; workers = 1; passes = 10; via_cost = 2000000; tries = 16; omit_fixed = false }
 
+-- the command asks to route; `check` doesn't
+abbrev pub AsksToRoute : Command → Type 0
+AsksToRoute (Route input output knobs) = Unit {0}
+AsksToRoute (Check input session report) = ⊥
+AsksToRoute (Gen n) = Unit {0}
+
+-- the command reads the design in the file of this name
+abbrev pub IsInputOf : Command → List ℕ → Type 0
+IsInputOf (Route input output knobs) name = name ≡ input
+IsInputOf (Check input session report) name = name ≡ input
+IsInputOf (Gen n) name = ⊥
+
+-- the knobs of a command that asks to route
 abbrev pub knobs_of : Command → Knobs
 knobs_of (Route input output knobs) = knobs
+knobs_of (Check input session report) = default_knobs
 knobs_of (Gen n) = default_knobs
 
 -- the lattice that is asked for: at the grid of the words, or at the design's default grid
@@ -39,17 +53,20 @@ pub record IsInput (name : List ℕ) (desk : DeskState) (text : List ℕ) : Type
   pub file : IsFile desk.files name text
   pub fits : length text ≤ max_bytes
 
--- the text whose design is routed: that of the input, or the generated one
+-- the text of the design: that of the input, or the generated one
 abbrev pub IsText : Command → DeskState → List ℕ → Type 0
 IsText (Route input output knobs) desk text = IsInput input desk text
+IsText (Check input session report) desk text = IsInput input desk text
 IsText (Gen n) desk text = text ≡ text_of n
 
 -- it is told at entry which text that is
 abbrev pub IsToldText : Command → DeskState → List ℕ → Type 0
 IsToldText (Route input output knobs) desk text = IsHeld desk.files input text
+IsToldText (Check input session report) desk text = IsHeld desk.files input text
 IsToldText (Gen n) desk text = text ≡ text_of n
 
 -- the report of a generated board is short
 abbrev pub is_short : Command → Bool
 is_short (Route input output knobs) = false
+is_short (Check input session report) = false
 is_short (Gen n) = true

@@ -1,5 +1,5 @@
 -- Which answer is due: the causes of the answers, from the words, the files at entry and the text.
-use Rattle.std.specs.Prelude.{◌≡◌, ◌≤◌, ◌<◌, ◌^◌, ◌⊎◌, ℕ, List, length, IsTrue, Result, Ok}
+use Rattle.std.specs.Prelude.{◌≡◌, ◌≤◌, ◌<◌, ◌⊎◌, ℕ, List, false, length, IsTrue, Result, Ok}
 use Rattle.desk_io.specs.States.{DeskState, SinkState, Rose}
 use Rattle.desk_io.specs.Answers.{IsAbsent, IsHeld}
 use Rattle.pcb_model.specs.declared.design.Design.{Design}
@@ -8,21 +8,36 @@ use Rattle.dsn_shapes.specs.declared.refusal.What.{What}
 use Rattle.route_lattice.specs.Mesh.{node_count}
 use Rattle.dsn_route.specs.declared.status.Status.{Status}
 use Rattle.dsn_route.specs.declared.status.Status.TheVariants.{Complete, SomeOpen, ReadFault, WriteFault, Memory}
+use Rattle.dsn_route.specs.declared.status.Status.TheVariants.{Rejected}
 use Rattle.route_words.specs.declared.command.Command.{Command}
-use Rattle.route_words.specs.declared.command.Command.TheVariants.{Route}
+use Rattle.route_words.specs.declared.command.Command.TheVariants.{Check}
 use Rattle.route_words.specs.declared.command.Knobs.{Knobs}
 use Rattle.route_words.specs.declared.command.WordFault.{WordFault}
 use Rattle.dsn_route.specs.Texts.{IsRefused, IsOverLimit}
 use Rattle.dsn_route.specs.Lines.{max_bytes}
-use Rattle.dsn_route.specs.Commands.{mesh_of, IsToldText}
+use Rattle.dsn_route.specs.Commands.{mesh_at, mesh_of, run_at, AsksToRoute, IsInputOf, IsToldText}
+use Rattle.dsn_route.specs.Judging.{case_of}
+use Rattle.pcb_board.specs.Boards.{BoardOf}
+use Rattle.pcb_islands.specs.declared.net.Island.{Island}
+use Rattle.route_run.specs.declared.facts.Facts.{Facts}
+use Rattle.route_run.specs.Runs.{IsRun}
+use Rattle.route_report.specs.Report.{report_of}
+use Rattle.route_words.specs.Words.{AreWithin}
+use Rattle.ses_writer.specs.Session.{session_of}
+use Rattle.ses_reader.specs.declared.item.SesItem.{SesItem}
+use Rattle.ses_reader.specs.Reading.{HasSession}
+use Rattle.route_check.specs.Board.{board_of}
+use Rattle.copper_check.specs.Checks.{AreAllIslands}
+use Rattle.route_check.specs.Judged.{IsTooFine as IsCaseTooFine}
+use Rattle.check_law.specs.Written.{AreSmall}
 use Rattle.route_lattice.specs.declared.limits.TheConstants.{MOST_NODES}
 
 -- accepted words name an input, of which P holds
 pub record Names (P : List ℕ → Type 0) (command : Result Command WordFault) : Type 0 where
+  pub asked : Command
+  pub accepted : command ≡ Ok asked
   pub input : List ℕ
-  pub output : List ℕ
-  pub knobs : Knobs
-  pub accepted : command ≡ Ok (Route input output knobs)
+  pub names : IsInputOf asked input
   pub holds : P input
 
 -- the desk tells that it is absent
@@ -57,11 +72,12 @@ pub record IsOver (text : List ℕ) : Type 0 where
   pub limit : ℕ
   pub over : IsOverLimit text what limit
 
--- the text is within the limit, and has a design on whose lattice, at the grid that is asked for, P holds of the
--- number of nodes
+-- it is to be routed: the text is within the limit, and has a design on whose lattice, at the grid that is asked for,
+-- P holds of the number of nodes
 pub record IsFit (P : ℕ → Type 0) (command : Result Command WordFault) (text : List ℕ) : Type 0 where
   pub asked : Command
   pub accepted : command ≡ Ok asked
+  pub routes : AsksToRoute asked
   pub fits : length text ≤ max_bytes
   pub design : Design
   pub reads : HasDesign text design
@@ -97,3 +113,56 @@ IsDone Complete = Unit {0}
 IsDone SomeOpen = Unit {0}
 IsDone Memory = Unit {0}
 IsDone status = ⊥
+
+-- ---- check
+-- accepted words ask to judge; the desk tells the texts of the design and of the session, which are within the limit,
+-- and this is the design
+pub record IsSessionHeld (command : Result Command WordFault) (desk : DeskState) (d : Design) (told : List ℕ) : Type
+    0 where
+  pub input : List ℕ
+  pub session : List ℕ
+  pub report : List ℕ
+  pub accepted : command ≡ Ok (Check input session report)
+  pub text : List ℕ
+  pub held : IsHeld desk.files input text
+  pub fits : length text ≤ max_bytes
+  pub reads : HasDesign text d
+  pub told_held : IsHeld desk.files session told
+  pub told_fits : length told ≤ max_bytes
+
+-- and so it is with the text of the report
+pub record AreHeld (command : Result Command WordFault) (desk : DeskState) (d : Design) (told page : List ℕ) : Type 0
+  where
+    pub first : IsSessionHeld command desk d told
+    pub held : IsHeld desk.files first.report page
+    pub fits : length page ≤ max_bytes
+
+-- the lattice of the report's grid has at most 2^24 nodes
+abbrev pub HasFewNodes : Design → List ℕ → List ℕ → Type 0
+HasFewNodes d told page = (items : List SesItem) (found : List (List Island)) (count : ℕ) → HasSession told d items
+    → AreAllIslands d (board_of d items) found → IsCaseTooFine (case_of d items page found) count → ⊥
+
+-- the texts are the session and the report of a run of the design that a `route` asks for
+pub record AreOfRun (d : Design) (told page : List ℕ) : Type 0 where
+  pub knobs : Knobs
+  pub within : AreWithin knobs
+  pub board : BoardOf
+  pub facts : Facts
+  pub few : node_count (mesh_at knobs d) ≤ MOST_NODES
+  pub run : IsRun d (mesh_at knobs d) (run_at knobs) board facts
+  pub small : AreSmall d board.items facts
+  pub session_is : told ≡ session_of d board.items knobs.omit_fixed
+  pub report_is : page ≡ report_of d (mesh_at knobs d) board.items facts false
+
+-- the answers of a call that judged, and want of memory
+abbrev pub IsJudgedDone : Status → Type 0
+IsJudgedDone Complete = Unit {0}
+IsJudgedDone Rejected = Unit {0}
+IsJudgedDone Memory = Unit {0}
+IsJudgedDone status = ⊥
+
+-- nothing is wrong, or memory was wanting
+abbrev pub IsClean : Status → Type 0
+IsClean Complete = Unit {0}
+IsClean Memory = Unit {0}
+IsClean status = ⊥

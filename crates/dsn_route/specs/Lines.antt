@@ -1,4 +1,4 @@
--- The lines of calls that stop before they route.
+-- The lines of calls that don't route.
 use Rattle.std.specs.Prelude.{ℕ, List, ◌++◌, Option, Some, None, codes}
 use Rattle.std.specs.Fmt.{decimal}
 use Rattle.dsn_shapes.specs.declared.refusal.What.{What}
@@ -29,6 +29,14 @@ read_fault_line = codes "read fault\n"
 
 abbrev pub limit_line : List ℕ
 limit_line = codes "limit bytes " ++ decimal max_bytes ++ codes "\n"
+
+-- the session and its report are as they should be
+abbrev pub check_ok_line : List ℕ
+check_ok_line = codes "check ok\n"
+
+-- which check fails, and where
+abbrev pub check_line : ℕ → ℕ → List ℕ
+check_line number at = codes "check " ++ decimal number ++ codes " at " ++ decimal at ++ codes "\n"
 
 -- the word for what a limit counts; a refusal that is of no limit counts nothing
 abbrev pub what_word : What → List ℕ

@@ -1,7 +1,9 @@
-//! The top call: it reads the design that the words name, routes it, and writes the session and the report.
+//! The top call: it reads the design that the words name, routes it, and writes the session and the report; or it
+//! judges a session and its report by the design.
 //! Its contract says of every answer why it came and what it left.
 #![tactic(auto)]
 
+mod check;
 mod lines;
 mod outcome;
 mod refusals;

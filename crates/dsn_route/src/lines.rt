@@ -4,7 +4,7 @@
 ghost use Rattle.std.specs.Prelude.{◌≡◌, ◌<◌, ◌^◌, IfOk, List as Seq, ℕ, flat_map};
 ghost use Rattle.std.specs.Borrow.{Bor};
 ghost use Rattle.desk_io.specs.Answers.{PutGives};
-ghost use Rattle.dsn_route.specs.Lines.{usage_line, refused_line, read_fault_line};
+ghost use Rattle.dsn_route.specs.Lines.{usage_line, refused_line, read_fault_line, check_line, check_ok_line};
 ghost use Rattle.dsn_route.specs.Lines.{limit_line, over_line, nodes_line, what_word};
 
 use crate::route::MAX_BYTES;
@@ -80,6 +80,30 @@ pub fn say_read_fault<R: Sink>(report: &mut R) -> Result<(), SinkFail>
     ensures { PutGives (R.state report.old) (R.state report.new) read_fault_line result }
 {
     report.put(b"read fault\n")
+}
+
+/// Puts `check ok`.
+pub fn say_check_ok<R: Sink>(report: &mut R) -> Result<(), SinkFail>
+    ensures { PutGives (R.state report.old) (R.state report.new) check_ok_line result }
+{
+    report.put(b"check ok\n")
+}
+
+/// Puts `check N at M`: which check fails, and where.
+pub fn say_check<R: Sink>(
+    alloc: Global,
+    number: u8,
+    at: u64,
+    report: &mut R,
+) -> Result<(), SinkFail>
+    ensures { PutGives (R.state report.old) (R.state report.new) (check_line number at) result }
+{
+    let mut buffer = Buffer::new();
+    let digits = buffer.format(number).as_bytes();
+    let mut other = Buffer::new();
+    let place = other.format(at).as_bytes();
+    let pieces: [&[u8]; 5] = [b"check ", digits, b" at ", place, b"\n"];
+    say(alloc, &pieces, report)
 }
 
 /// Puts `limit bytes` with the most bytes of an input.

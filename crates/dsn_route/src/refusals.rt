@@ -1,14 +1,14 @@
-//! Texts without a design: their refusals by number, and the line of each.
+//! Files that aren't read, and texts without a design: their refusals by number, and the line of each.
 //! Where a refusal is of a limit that is passed, the line and the status are those of the limit.
 
 ghost use Rattle.std.specs.Prelude.{◌≡◌};
 ghost use Rattle.dsn_route.specs.Texts.{refusal_of, tree_refusal};
-ghost use Rattle.dsn_route.specs.inner.Said.{EndsBy, due_of, line_of};
+ghost use Rattle.dsn_route.specs.inner.Said.{EndsBy, EndsUnread, due_of, line_of};
 
 use crate::Status;
-use crate::lines::{say_over, say_refused};
+use crate::lines::{say_limit, say_over, say_read_fault, say_refused};
 use crate::status::ended;
-use desk_io::Sink;
+use desk_io::{DeskFail, Sink};
 use dsn_shapes::table::{
     BAD_QUOTE_BYTE, NO_LIST, PAST_LIMIT, QUOTE_OPEN, SURPLUS, TOO_DEEP, UNCLOSED,
 };
@@ -16,8 +16,8 @@ use dsn_shapes::{DesignFault, Refusal, refused};
 use dsn_tree::TreeFault;
 use std::alloc::Global;
 
-// The faults of a tree have the numbers 1 to 6; want of memory has none.
-fn tree_refusal(fault: &TreeFault) -> Option<Refusal>
+/// The faults of a tree have the numbers 1 to 6; want of memory has none.
+pub(crate) fn tree_refusal(fault: &TreeFault) -> Option<Refusal>
     ensures { result ≡ tree_refusal fault.now }
 {
     match fault {
@@ -28,6 +28,17 @@ fn tree_refusal(fault: &TreeFault) -> Option<Refusal>
         TreeFault::TooDeep { at } => Some(refused(TOO_DEEP, *at)),
         TreeFault::Empty => Some(refused(NO_LIST, 0)),
         TreeFault::Memory(_) => None,
+    }
+}
+
+/// Puts the line of a file that gives no text, and answers how the call ends.
+pub(crate) fn end_unread<R: Sink>(alloc: Global, fail: DeskFail, report: &mut R) -> Status
+    ensures { EndsUnread fail (R.state report.old) (R.state report.new) result }
+{
+    match fail {
+        DeskFail::Failed => ended(say_read_fault(report), Status::ReadFault),
+        DeskFail::TooLong { seen: _ } => ended(say_limit(alloc, report), Status::Limit),
+        DeskFail::Memory(_) => Status::Memory,
     }
 }
 

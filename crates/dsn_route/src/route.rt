@@ -1,36 +1,45 @@
 //! The order of the top call: words, read of the input, its length, the design, its lattice, routing, write of the
-//! output, report.
+//! output, report; or words, and what `check` does.
 //! Each step that fails ends the call with the line of its cause.
 
 ghost use Rattle.std.specs.Prelude.{◌≡◌, ◌≤◌, ◌^◌, ℕ, List as Seq, Ok, IsErr, length};
+ghost use Rattle.pcb_model.specs.declared.design.Design.{Design as TheDesign};
 ghost use Rattle.pcb_model.specs.Sound.{IsSound};
 ghost use Rattle.pcb_model.specs.Plain.{IsPlainCopper};
 ghost use Rattle.route_lattice.specs.Mesh.{node_count};
 ghost use Rattle.route_words.specs.Words.{texts, command_of, IsWithin};
+ghost use Rattle.route_words.specs.declared.command.Command.TheVariants.{Check};
 ghost use Rattle.route_run.specs.Runs.{IsTask};
 ghost use Rattle.dsn_design.specs.Reading.{HasDesign};
 ghost use Rattle.dsn_route.specs.Lines.{number_of as number_told};
-ghost use Rattle.dsn_route.specs.Commands.{knobs_of as knobs_told, mesh_of, IsText};
+ghost use Rattle.dsn_route.specs.Commands.{knobs_of as knobs_told, mesh_of, IsText, IsInputOf};
 ghost use Rattle.dsn_route.specs.Answers.{Answers};
-ghost use Rattle.dsn_route.specs.inner.Said.{RoutesDesign, IsInputOf};
+ghost use Rattle.dsn_route.specs.Judging.{IsNoSession, IsVouchedFor};
+ghost use Rattle.dsn_route.specs.inner.Said.{RoutesDesign, IsOrder};
 ghost use Rattle.dsn_route.specs.Due.{IsMissing, IsHeldInput, IsRead, IsLong, IsUnfit, IsOver, IsTooFine, IsRoutable};
 ghost use Rattle.dsn_route.specs.Due.{IsDue, IsDueAfterRead, HasNoFault, IsDone};
+ghost use Rattle.dsn_route.specs.Due.{IsSessionHeld, AreHeld, HasFewNodes, AreOfRun, IsJudgedDone, IsClean};
 
 use crate::Status;
-use crate::lines::{say_limit, say_nodes, say_read_fault, say_usage};
+use crate::check::check;
+use crate::lines::{say_nodes, say_usage};
 use crate::outcome::{Outcome, unrouted};
-use crate::refusals::{end_refused, refusal_of};
+use crate::refusals::{end_refused, end_unread, refusal_of};
 use crate::status::ended;
 use crate::write::write_out;
 use board_gen::design_text;
 use board_turn::Gate;
-use desk_io::{Desk, DeskFail, Sink};
+use check_law::runs_are_right;
+use desk_io::{Desk, Sink};
 use dsn_design::{one_outcome, read_design};
 use pcb_model::Design;
 use pcb_model::limits::MOST_BYTES;
+use route_check::right_is_vouched;
 use route_lattice::{Lattice, LatticeFault};
 use route_run::{RunInput, run_nets};
 use route_words::{Command, Knobs, Text, WordFault, read_words};
+use ses_reader::one_session;
+use session_law::runs_read_back;
 use std::alloc::Global;
 use std::sync::Wait;
 use std::thread::Threads;
@@ -60,7 +69,7 @@ fn number_of(fault: WordFault) -> Option<u8>
     }
 }
 
-// The knobs of a command.
+// The knobs of a command; `check` has none.
 fn knobs_of(command: &Command) -> Knobs
     ensures { result ≡ knobs_told command.now }
 {
@@ -70,7 +79,12 @@ fn knobs_of(command: &Command) -> Knobs
             output: _,
             knobs,
         } => *knobs,
-        Command::Gen { n: _ } => DEFAULT_KNOBS,
+        Command::Check {
+            input: _,
+            session: _,
+            report: _,
+        }
+        | Command::Gen { n: _ } => DEFAULT_KNOBS,
     }
 }
 
@@ -86,7 +100,7 @@ fn route_on<T: Threads + Wait + Sync, D: Desk, R: Sink, G: Gate + Sync>(
     gate: &G,
 ) -> Outcome
     requires sound { IsSound design }
-    requires within { IsWithin command.now }
+    requires order { IsOrder command.now }
     requires task { IsTask design lat.now (knobs_told command.now).via_cost }
     requires lattice { lat.now ≡ mesh_of command.now design }
     requires few { node_count lat.now ≤ 2 ^ 24 }
@@ -126,7 +140,7 @@ fn route_design<T: Threads + Wait + Sync, D: Desk, R: Sink, G: Gate + Sync>(
 ) -> Outcome
     requires sound { IsSound design }
     requires plain { IsPlainCopper design }
-    requires within { IsWithin command.now }
+    requires order { IsOrder command.now }
     requires is_text { IsText command.now (D.state desk.old) text.now }
     requires reads { HasDesign text.now design }
     ensures { Answers (Ok command.now) (D.state desk.old)
@@ -159,7 +173,7 @@ fn route_text<T: Threads + Wait + Sync, D: Desk, R: Sink, G: Gate + Sync>(
     report: &mut R,
     gate: &G,
 ) -> Outcome
-    requires within { IsWithin command.now }
+    requires order { IsOrder command.now }
     requires is_text { IsText command.now (D.state desk.old) text.now }
     requires fits { length text.now ≤ 2 ^ 26 }
     ensures { Answers (Ok command.now) (D.state desk.old)
@@ -184,19 +198,14 @@ fn route_file<T: Threads + Wait + Sync, D: Desk, R: Sink, G: Gate + Sync>(
     report: &mut R,
     gate: &G,
 ) -> Outcome
-    requires within { IsWithin command.now }
+    requires order { IsOrder command.now }
     requires names { IsInputOf command.now input.now }
     ensures { Answers (Ok command.now) (D.state desk.old)
         (D.state desk.new) (R.state report.old) (R.state report.new) result }
 {
     match desk.read(input.as_str(), MAX_BYTES) {
         Ok(text) => route_text(rt, alloc, &text, command, desk, report, gate),
-        Err(DeskFail::Failed) => unrouted(ended(say_read_fault(report), Status::ReadFault)),
-        Err(DeskFail::TooLong { seen: _ }) => unrouted(ended(
-            say_limit(alloc, report),
-            Status::Limit,
-        )),
-        Err(DeskFail::Memory(_)) => unrouted(Status::Memory),
+        Err(fail) => unrouted(end_unread(alloc, fail, report)),
     }
 }
 
@@ -219,6 +228,11 @@ fn route<T: Threads + Wait + Sync, D: Desk, R: Sink, G: Gate + Sync>(
             output: _,
             knobs: _,
         } => route_file(rt, alloc, input, command, desk, report, gate),
+        Command::Check {
+            input,
+            session,
+            report: page,
+        } => unrouted(check(alloc, input, session, page, desk, report)),
         Command::Gen { n } => match design_text(alloc, *n) {
             Ok(text) => route_text(rt, alloc, &text, command, desk, report, gate),
             Err(_) => unrouted(Status::Memory),
@@ -228,9 +242,10 @@ fn route<T: Threads + Wait + Sync, D: Desk, R: Sink, G: Gate + Sync>(
 
 /// With `route`, reads the design in the file that the words name first, routes it on the lattice at the grid that they
 /// give (or at the design's default grid), writes its session into the file that they name second, and puts the report;
-/// with `gen` routes the generated board of a number and puts its short report. A call that stops before it routes puts
-/// the line of the cause instead. Each worker works in a thread of its own, where
-/// one can be started; `rt` starts it, and lets it wait for its turn.
+/// with `gen` routes the generated board of a number and puts its short report. With `check` it judges the session and
+/// the report in the files that the words name second and third by the design in the first, writes no file, and puts a
+/// line. A call that stops before it routes or judges puts the line of the cause instead. Each worker works in a thread
+/// of its own, where one can be started; `rt` starts it, and lets it wait for its turn.
 /// Over every desk and sink each answer has its cause (`answers`), and the cause that stands at entry has its answer
 /// (the other clauses).
 pub fn dsn_route<T: Threads + Wait + Sync, D: Desk, R: Sink, G: Gate + Sync>(
@@ -258,8 +273,26 @@ pub fn dsn_route<T: Threads + Wait + Sync, D: Desk, R: Sink, G: Gate + Sync>(
         → IsRoutable (command_of (texts words.now)) text
         → HasNoFault (D.state desk.old) (D.state desk.new) (R.state report.old) (R.state report.new)
         → IsDone result.status }
+    ensures rejected { (d : TheDesign) (told : Seq ℕ) (place : ℕ)
+        → IsSessionHeld (command_of (texts words.now)) (D.state desk.old) d told → IsNoSession told d place
+        → IsDueAfterRead Status.Rejected result.status }
+    ensures judged { (d : TheDesign) (told page : Seq ℕ)
+        → AreHeld (command_of (texts words.now)) (D.state desk.old) d told page → HasFewNodes d told page
+        → HasNoFault (D.state desk.old) (D.state desk.new) (R.state report.old) (R.state report.new)
+        → IsJudgedDone result.status }
+    ensures clean { (d : TheDesign) (told page : Seq ℕ)
+        → AreHeld (command_of (texts words.now)) (D.state desk.old) d told page → AreOfRun d told page
+        → HasNoFault (D.state desk.old) (D.state desk.new) (R.state report.old) (R.state report.new)
+        → IsClean result.status }
+    ensures vouched { (input session page : Seq ℕ)
+        → command_of (texts words.now) ≡ Ok (Check input session page) → result.status ≡ Status.Complete
+        → IsVouchedFor input session page (D.state desk.old) }
 {
     one_outcome();
+    one_session();
+    right_is_vouched();
+    runs_are_right();
+    runs_read_back();
     match read_words(alloc, words) {
         Ok(command) => route(rt, alloc, &command, desk, report, gate),
         Err(fault) => match number_of(fault) {

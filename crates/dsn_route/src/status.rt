@@ -6,8 +6,9 @@ ghost use Rattle.dsn_route.specs.Status.{ended_of};
 
 use desk_io::SinkFail;
 
-/// How a call ended: every net is complete; some net is open; the words are refused; the design is refused;
-/// the design couldn't be read; the session or the report couldn't be written; a limit is passed; memory is wanting.
+/// How a call ended: every net is complete, or the session and its report are as they should be; some net is open; the
+/// words are refused; the design is refused; a file couldn't be read; the session or the report couldn't be written; a
+/// limit is passed; memory is wanting; the session or its report isn't as it should be.
 #[derive(Clone, Copy, PartialEq, Eq)]
 pub enum Status {
     Complete,
@@ -18,13 +19,14 @@ pub enum Status {
     WriteFault,
     Limit,
     Memory,
+    Rejected,
 }
 
 impl Status {
     ghost use Rattle.std.specs.Prelude.{◌≡◌};
     ghost use Rattle.dsn_route.specs.Status.{code_of};
 
-    /// The exit code, 0 to 7.
+    /// The exit code, 0 to 8.
     pub fn code(&self) -> u8
         ensures { result ≡ code_of self.now }
     {
@@ -37,6 +39,7 @@ impl Status {
             Status::WriteFault => 5,
             Status::Limit => 6,
             Status::Memory => 7,
+            Status::Rejected => 8,
         }
     }
 }

@@ -4,7 +4,7 @@
 ghost use Rattle.std.specs.Prelude.{◌≡◌, ℕ, List as Seq};
 ghost use Rattle.desk_io.specs.States.{DeskState};
 ghost use Rattle.route_words.specs.declared.command.Command.TheVariants.{Route, Gen};
-ghost use Rattle.dsn_route.specs.Commands.{mesh_at, mesh_of, default_knobs};
+ghost use Rattle.dsn_route.specs.Commands.{mesh_at, mesh_of, default_knobs, AsksToRoute};
 ghost use Rattle.dsn_route.specs.Answers.{Leaves};
 ghost use Rattle.dsn_route.specs.inner.Said.{IsVerdict};
 
@@ -82,6 +82,7 @@ pub(crate) fn write_out<D: Desk, R: Sink>(
     desk: &mut D,
     report: &mut R,
 ) -> Status
+    requires routes { AsksToRoute command.now }
     requires lattice { lat.now ≡ mesh_of command.now routed.now.board.design }
     ensures { Leaves command.now routed.now.board routed.now.facts (D.state desk.old)
         (D.state desk.new) (R.state report.old) (R.state report.new) result }
@@ -92,6 +93,11 @@ pub(crate) fn write_out<D: Desk, R: Sink>(
             output,
             knobs,
         } => write_both(alloc, lat, routed, output, *knobs, desk, report),
-        Command::Gen { n: _ } => put_short(alloc, lat, routed, report),
+        Command::Check {
+            input: _,
+            session: _,
+            report: _,
+        }
+        | Command::Gen { n: _ } => put_short(alloc, lat, routed, report),
     }
 }

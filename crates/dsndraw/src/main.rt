@@ -10,7 +10,7 @@ use crate::names::{Refused, why_refused};
 use crate::notes::{WANTING_NOTE, WORDS_NOTE, note_of};
 use crate::words::read_call;
 use desk_io::{HostDesk, KeptText};
-use fault_notes::{Fault, note_text, why_unwritten};
+use fault_notes::{Fault, FileNames, note_text, why_unwritten};
 use picture_call::{PictureCall, draw};
 use route_words::WordFault;
 use std::process::ExitCode;
@@ -62,7 +62,12 @@ fn tell_refused<R: Files + Eprint + AllocGlobal>(rt: &R, output: &str, why: Refu
     let note = match why {
         Refused::NoPlace => {
             let fault = Fault::Session(why_unwritten(rt, output));
-            note_text(rt.alloc(), fault, output, output, None)
+            let files = FileNames {
+                input: output,
+                session: output,
+                report: output,
+            };
+            note_text(rt.alloc(), fault, files, None)
         }
         _ => {
             let words = why.words();

@@ -6,7 +6,7 @@ use dsn_shapes::table::{BAD_QUOTE_BYTE, NO_LIST, QUOTE_OPEN, SURPLUS, TOO_DEEP, 
 use dsn_shapes::{Refusal, What};
 use dsn_tree::TreeFault;
 use fault_notes::{
-    Bar, Counted, Fault, Said, note_text, place_of, why_unread, why_unwritten, word_at,
+    Bar, Counted, Fault, FileNames, Said, note_text, place_of, why_unread, why_unwritten, word_at,
 };
 use picture_call::{MAX_BYTES, Outcome, PictureCall};
 use ses_reader::table::{NO_LAYER, NO_MEASURE, NO_NET, NO_PADSTACK, NO_SESSION};
@@ -105,7 +105,12 @@ fn file_note<R: Files + AllocGlobal, D: Desk>(
         Fault::Memory => String::from_str(rt.alloc(), WANTING_NOTE),
         _ => {
             let fault = fault_with_bar(rt, file, fault);
-            note_text(rt.alloc(), fault, file, file, desk.text_of(file))
+            let files = FileNames {
+                input: file,
+                session: file,
+                report: file,
+            };
+            note_text(rt.alloc(), fault, files, desk.text_of(file))
         }
     }
 }

@@ -1,4 +1,5 @@
-//! The command `dsnroute`: it reads a design, routes it, writes its session and puts a report.
+//! The command `dsnroute`: it reads a design, routes it, writes its session and puts a report; or it judges a session
+//! and its report by the design.
 //! Its exit code is that of the top call's status; where there is no report, standard error says why to a person.
 #![tactic(auto)]
 
@@ -11,8 +12,8 @@ use board_turn::{Gate, NoGate};
 use desk_io::{Desk, HostDesk, HostSink, KeptText, Sink, WatchedOutput};
 use dsn_route::{Status, dsn_route};
 use fault_notes::{
-    Bar, Fault, KeptLine, Said, find_trouble, note_text, read_line, why_unread, why_unwritten,
-    word_note,
+    Bar, Counted, Fault, FileNames, KeptLine, Said, find_trouble, note_text, read_line, why_unread,
+    why_unwritten, word_note,
 };
 use route_words::{Command, read_words};
 use std::alloc::{AllocError, Global};
@@ -44,9 +45,8 @@ fn wrong_words(alloc: Global) -> Result<Vec<String>, AllocError> {
 fn fault_of(status: Status, line: &[u8]) -> Option<Fault> {
     match status {
         Status::Complete | Status::SomeOpen => None,
-        Status::Usage | Status::Refused | Status::ReadFault | Status::Limit => {
-            Some(Fault::Told(read_line(line)))
-        }
+        Status::Usage | Status::Refused | Status::ReadFault | Status::Limit | Status::Rejected =>
+            Some(Fault::Told(read_line(line))),
         Status::WriteFault => {
             if line.is_empty() {
                 Some(Fault::Session(Bar::Other))
@@ -59,24 +59,79 @@ fn fault_of(status: Status, line: &[u8]) -> Option<Fault> {
 }
 
 // The fault with why a file can't be read or written, which the host is asked once more.
-fn fault_with_bar<R: Files + AllocGlobal>(
-    rt: &R,
-    fault: Fault,
-    input: &str,
-    output: &str,
-) -> Fault {
+fn fault_with_bar<R: Files + AllocGlobal>(rt: &R, fault: Fault, files: FileNames) -> Fault {
     match fault {
-        Fault::Told(Said::ReadFault) => Fault::Unread(why_unread(rt, input)),
-        Fault::Session(_) => Fault::Session(why_unwritten(rt, output)),
+        Fault::Told(Said::ReadFault) => Fault::Unread(why_unread(rt, files.input)),
+        Fault::Session(_) => Fault::Session(why_unwritten(rt, files.session)),
         _ => fault,
     }
+}
+
+fn named<'a>(input: &'a str, session: &'a str, report: &'a str) -> FileNames<'a> {
+    FileNames {
+        input,
+        session,
+        report,
+    }
+}
+
+// The file of `check` that gave no text: the one behind the file that was read last.
+fn unread_file<'a, D: Desk>(desk: &KeptText<D>, files: FileNames<'a>) -> &'a str {
+    if desk.text_of(files.session).is_some() {
+        files.report
+    } else if desk.text_of(files.input).is_some() {
+        files.session
+    } else {
+        files.input
+    }
+}
+
+// The files of `check`, that which a fault is of in the place of the design's.
+fn faulty_files<'a, D: Desk>(
+    desk: &KeptText<D>,
+    fault: Fault,
+    files: FileNames<'a>,
+) -> FileNames<'a> {
+    let file = match fault {
+        Fault::Told(Said::ReadFault) => unread_file(desk, files),
+        Fault::Told(
+            Said::Limit {
+                counted: Counted::Bytes,
+                number: _,
+            },
+        ) => unread_file(desk, files),
+        Fault::Told(
+            Said::Limit {
+                counted: Counted::Nodes,
+                number: _,
+            },
+        ) => files.report,
+        _ => files.input,
+    };
+    named(file, files.session, files.report)
+}
+
+// The note of a call of `check`. A place is told by the text that was read last, if it is of that file.
+fn check_note<R: Files + AllocGlobal, D: Desk>(
+    rt: &R,
+    desk: &KeptText<D>,
+    fault: Fault,
+    files: FileNames,
+) -> Result<String, AllocError> {
+    let files = faulty_files(desk, fault, files);
+    let fault = fault_with_bar(rt, fault, files);
+    let text = match fault {
+        Fault::Told(Said::Check { number: _, at: _ }) => desk.text_of(files.session),
+        _ => desk.text_of(files.input),
+    };
+    note_text(rt.alloc(), fault, files, text)
 }
 
 // The note of words that are no call, or of one that names no file.
 fn word_fault_note(alloc: Global, words: &[String], fault: Fault) -> Result<String, AllocError> {
     match (fault, find_trouble(words)) {
         (Fault::Told(Said::Usage { .. }), Some(trouble)) => word_note(alloc, trouble),
-        _ => note_text(alloc, fault, "the generated board", "", None),
+        _ => note_text(alloc, fault, named("the generated board", "", ""), None),
     }
 }
 
@@ -95,9 +150,19 @@ fn note_of<R: Files + AllocGlobal, D: Desk>(
                 knobs: _,
             },
         ) => {
-            let fault = fault_with_bar(rt, fault, input.as_str(), output.as_str());
-            let text = desk.text_of(input.as_str());
-            note_text(rt.alloc(), fault, input.as_str(), output.as_str(), text)
+            let files = named(input.as_str(), output.as_str(), "");
+            let fault = fault_with_bar(rt, fault, files);
+            note_text(rt.alloc(), fault, files, desk.text_of(files.input))
+        }
+        Ok(
+            Command::Check {
+                input,
+                session,
+                report,
+            },
+        ) => {
+            let files = named(input.as_str(), session.as_str(), report.as_str());
+            check_note(rt, desk, fault, files)
         }
         _ => word_fault_note(rt.alloc(), words, fault),
     }

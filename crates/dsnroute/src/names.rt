@@ -3,7 +3,7 @@
 
 use desk_io::{HostSink, Sink, are_one_file, has_no_place};
 use dsn_route::Status;
-use fault_notes::{Fault, note_text, why_unwritten};
+use fault_notes::{Fault, FileNames, note_text, why_unwritten};
 use route_words::{Command, Text, WordFault, read_words};
 use std::rt::Files;
 
@@ -22,7 +22,12 @@ fn refuse_one_file<R: Print + Eprint>(rt: &R, input: &Text, output: &Text) -> St
 fn refuse_no_place<R: Files + Eprint + AllocGlobal>(rt: &R, output: &Text) -> Status {
     let output = output.as_str();
     let fault = Fault::Session(why_unwritten(rt, output));
-    let _ = match note_text(rt.alloc(), fault, "", output, None) {
+    let files = FileNames {
+        input: output,
+        session: output,
+        report: output,
+    };
+    let _ = match note_text(rt.alloc(), fault, files, None) {
         Ok(note) => eprint!(rt; "{note}"),
         Err(_) => eprint!(rt; "{output}: the file can't be written\n"),
     };

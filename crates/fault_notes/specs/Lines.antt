@@ -4,7 +4,7 @@ use Rattle.std.specs.Fmt.{decimal}
 use Rattle.fault_notes.specs.declared.said.Counted.{Counted}
 use Rattle.fault_notes.specs.declared.said.Counted.TheVariants.{Bytes, Layers, Nets, Pins, Items, Vertices, Nodes}
 use Rattle.fault_notes.specs.declared.said.Said.{Said}
-use Rattle.fault_notes.specs.declared.said.Said.TheVariants.{Usage, Refused, ReadFault, Limit, Other}
+use Rattle.fault_notes.specs.declared.said.Said.TheVariants.{Usage, Refused, ReadFault, Limit, Check, Other}
 
 -- the word for what is counted
 abbrev pub word_of : Counted → List ℕ
@@ -24,6 +24,8 @@ line_for (Refused number place) =
 line_for ReadFault = Some (codes "read fault\n")
 line_for (Limit counted number) =
     Some (codes "limit " ++ (word_of counted ++ (codes " " ++ (decimal number ++ codes "\n"))))
+line_for (Check number at) =
+    Some (codes "check " ++ (decimal number ++ (codes " at " ++ (decimal at ++ codes "\n"))))
 line_for Other = None
 
 -- its numbers fit their types
@@ -31,6 +33,7 @@ abbrev pub IsInRange : Said → Type 0
 IsInRange (Usage number) = number < 2 ^ 64
 IsInRange (Refused number place) = (number < 2 ^ 64) × (place < 2 ^ 64)
 IsInRange (Limit counted number) = number < 2 ^ 128
+IsInRange (Check number at) = (number < 2 ^ 64) × (at < 2 ^ 64)
 IsInRange said = Unit {0}
 
 -- the answer is what the line says, and nothing else is

@@ -1,4 +1,4 @@
-//! Why a call ended without a report.
+//! Why a call ended without a report, and the files that it names.
 
 ghost use Rattle.std.specs.Prelude.{◌≡◌};
 ghost use Rattle.fault_notes.specs.Notes.{unread_words, unwritten_words};
@@ -18,12 +18,23 @@ pub enum Bar {
     Other,
 }
 
+/// The names of a call's files; one that it doesn't have may have any.
+#[derive(Clone, Copy)]
+pub struct FileNames<'a> {
+    /// The design's; where another file is the one that can't be read, or is too large, that one's.
+    pub input: &'a str,
+    /// The session's, which is written or judged.
+    pub session: &'a str,
+    /// That of the report which is judged.
+    pub report: &'a str,
+}
+
 /// Why a call ended without a report.
 #[derive(Clone, Copy)]
 pub enum Fault {
     /// A status line says it.
     Told(Said),
-    /// The design's file can't be read.
+    /// The file of the design, or another one that is to be read, can't be read.
     Unread(Bar),
     /// The session's file can't be written.
     Session(Bar),

@@ -4,6 +4,7 @@
 
 mod fault;
 mod host;
+mod judged;
 mod kept;
 mod line;
 mod look;
@@ -17,13 +18,13 @@ mod told;
 mod trouble;
 mod words;
 
-pub use fault::{Bar, Fault};
+pub use fault::{Bar, Fault, FileNames};
 pub use host::{why_unread, why_unwritten};
 pub use kept::KeptLine;
 pub use line::read_line;
 pub use notes::note_text;
 pub use place::{Place, place_of};
-pub use refusals::refusal_words;
+pub use refusals::{check_words, refusal_words};
 pub use said::{Counted, Said};
 pub use seen::{mistake_in, word_at};
 pub use told::word_note;

@@ -72,6 +72,21 @@ fn read_refused(rest: &[u8]) -> Said
     }
 }
 
+fn read_check(rest: &[u8]) -> Said
+    ensures { Reads (codes "check " ++ rest.now) result }
+{
+    let Some((number, behind)) = short_front(rest) else {
+        return Said::Other;
+    };
+    let Some(last) = behind.strip_prefix(b" at ") else {
+        return Said::Other;
+    };
+    match last_short(last) {
+        Some(at) => Said::Check { number, at },
+        None => Said::Other,
+    }
+}
+
 fn read_limit(rest: &[u8]) -> Said
     ensures { Reads (codes "limit " ++ rest.now) result }
 {
@@ -87,8 +102,8 @@ fn read_limit(rest: &[u8]) -> Said
     }
 }
 
-/// What a line says: `usage N`, `refused N at PLACE`, `read fault` or `limit WHAT NUMBER`, with its line feed and
-/// numbers as the program prints them. `Other` comes exactly where it is no such line.
+/// What a line says: `usage N`, `refused N at PLACE`, `read fault`, `limit WHAT NUMBER` or `check N at M`, with its
+/// line feed and numbers as the program prints them. `Other` comes exactly where it is no such line.
 pub fn read_line(line: &[u8]) -> Said
     ensures { Reads line.now result }
 {
@@ -100,6 +115,9 @@ pub fn read_line(line: &[u8]) -> Said
     }
     if let Some(rest) = line.strip_prefix(b"limit ") {
         return read_limit(rest);
+    }
+    if let Some(rest) = line.strip_prefix(b"check ") {
+        return read_check(rest);
     }
     if line == b"read fault\n".as_slice() {
         Said::ReadFault

@@ -8,9 +8,10 @@ ghost use Rattle.fault_notes.specs.Notes.{mistake_of, limit_front, unread_words,
 ghost use Rattle.fault_notes.specs.inner.Parts.{part_word, part_words};
 
 use crate::fault::{unread_words, unwritten_words};
+use crate::judged::check_note;
 use crate::line::word;
 use crate::refusals::{limit_words, refusal_words, usage_words};
-use crate::{Bar, Counted, Fault, Said, mistake_in, place_of, word_at};
+use crate::{Bar, Counted, Fault, FileNames, Said, mistake_in, place_of, word_at};
 use itoa::Buffer;
 use route_words::USAGE;
 use std::alloc::{AllocError, Global};
@@ -71,7 +72,7 @@ fn usage_note(alloc: Global, number: u64) -> Result<String, AllocError>
     )
 }
 
-fn place_front(
+pub(crate) fn place_front(
     alloc: Global,
     file: &str,
     text: Option<&[u8]>,
@@ -108,8 +109,8 @@ fn place_front(
     }
 }
 
-// The word at a place of the text, behind a colon; nothing where the text isn't known or shows none.
-fn place_word(alloc: Global, text: Option<&[u8]>, at: u64) -> Result<String, AllocError>
+/// The word at a place of the text, behind a colon; nothing where the text isn't known or shows none.
+pub(crate) fn place_word(alloc: Global, text: Option<&[u8]>, at: u64) -> Result<String, AllocError>
     ensures { IfOk result (λ word. string_bytes word ≡ place_word (option_map (λ t. t.now) text.entry) at) }
 {
     let Some(text) = text else {
@@ -215,29 +216,31 @@ fn unwritten_note(alloc: Global, file: &str, bar: Bar) -> Result<String, AllocEr
     text_of(alloc, &[Part::Text(file), Part::Text(unwritten_words(bar))])
 }
 
-/// The note of a fault, for a person. `input` and `output` name the files of the design and of the session, and `text`
-/// is the design's text where it could be read again: a refusal is then told by line, column and word, and else by its
-/// byte, and a file of another kind by what it is.
+/// The note of a fault, for a person, with the names of the call's files. `text` is that of the file which is refused,
+/// the design or the session, where it was kept: a refusal is then told by line, column and word, and else by its byte,
+/// and a file of another kind by what it is.
 pub fn note_text(
     alloc: Global,
     fault: Fault,
-    input: &str,
-    output: &str,
+    files: FileNames,
     text: Option<&[u8]>,
 ) -> Result<String, AllocError>
-    ensures { IfOk result (λ note. IsNote USAGE.now fault input.now output.now
+    ensures { IfOk result (λ note. IsNote USAGE.now fault files.entry
         (option_map (λ t. t.now) text.entry) (string_bytes note)) }
 {
     match fault {
         Fault::Told(Said::Usage { number }) => usage_note(alloc, number),
         Fault::Told(Said::Refused { number, place }) => {
-            refused_note(alloc, input, text, number, place)
+            refused_note(alloc, files.input, text, number, place)
         }
-        Fault::Told(Said::ReadFault) => unread_note(alloc, input, Bar::Other),
-        Fault::Told(Said::Limit { counted, number }) => limit_note(alloc, input, counted, number),
+        Fault::Told(Said::ReadFault) => unread_note(alloc, files.input, Bar::Other),
+        Fault::Told(Said::Limit { counted, number }) => {
+            limit_note(alloc, files.input, counted, number)
+        }
+        Fault::Told(Said::Check { number, at }) => check_note(alloc, files, text, number, at),
         Fault::Told(Said::Other) => Ok(String::new(alloc)),
-        Fault::Unread(bar) => unread_note(alloc, input, bar),
-        Fault::Session(bar) => unwritten_note(alloc, output, bar),
+        Fault::Unread(bar) => unread_note(alloc, files.input, bar),
+        Fault::Session(bar) => unwritten_note(alloc, files.session, bar),
         Fault::Report => String::from_str(alloc, "dsnroute: standard output can't be written\n"),
         Fault::Memory => String::from_str(
             alloc,

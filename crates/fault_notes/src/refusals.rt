@@ -1,4 +1,5 @@
-//! What is wrong with refused words and with a refused design, by number, and what a limit is of.
+//! What is wrong with refused words, with a refused design and with a session and its report, by number, and what a
+//! limit is of.
 //! Each is told in a few words of one line.
 
 ghost use Rattle.fault_notes.specs.Notes.{IsPlain};
@@ -57,6 +58,22 @@ pub fn refusal_words(number: u8) -> &'static str
     }
 }
 
+/// What is wrong with a session or its report, by the numbers from 1 to 7 of the lines `check N at M`.
+pub fn check_words(number: u64) -> &'static str
+    ensures { IsPlain result.now }
+{
+    match number {
+        1 => "this can't be read as a session of the design",
+        2 => "this line isn't in the report's form, or a number in it isn't that of the design",
+        3 => "it comes too near to another item",
+        4 => "it doesn't lie inside the board",
+        5 => "it is too narrow, on a power layer, or a via that its net doesn't list",
+        6 => "the line of this net isn't true of the session",
+        7 => "the cut of the island with this first pin isn't one",
+        _ => "the session or the report isn't as it should be",
+    }
+}
+
 /// What follows the number and the name of what is counted, where a limit is passed.
 pub(crate) fn limit_words(counted: Counted) -> &'static str
     ensures { IsPlain result.now }
@@ -64,7 +81,8 @@ pub(crate) fn limit_words(counted: Counted) -> &'static str
     match counted {
         Counted::Bytes => " are the most of a file",
         Counted::Vertices => " are the most of a shape",
-        Counted::Nodes => " in the lattice, where 16777216 are the most: give a coarser --grid",
+        Counted::Nodes =>
+            " in the lattice, where 16777216 are the most: give `route` a coarser --grid",
         _ => " are the most of a design",
     }
 }

@@ -23,7 +23,7 @@ fn trouble_words(trouble: Trouble) -> &'static str
         Trouble::NoValue(choice, _) | Trouble::Outside(choice, _, _) => unit_words(choice),
         Trouble::Valued(_) => "the option takes no value",
         Trouble::NotABoard(_) => ", in one to seven digits",
-        Trouble::NoOptions(_) => "gen takes no options",
+        Trouble::NoOptions(_) => "this command takes no options",
         Trouble::Empty => "a name is empty",
         Trouble::Surplus(_) => "a name too many",
         Trouble::Missing => "a name is missing",

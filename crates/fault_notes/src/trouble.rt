@@ -45,7 +45,7 @@ pub enum Trouble<'a> {
     Valued(&'a str),
     /// The word is no number of a generated board.
     NotABoard(&'a str),
-    /// `gen` takes no options.
+    /// The command takes no options.
     NoOptions(&'a str),
     /// The name is empty.
     Empty,

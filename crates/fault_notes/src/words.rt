@@ -228,6 +228,35 @@ fn gen_trouble<'a>(words: &'a [String]) -> Option<Trouble<'a>>
     None
 }
 
+// ---- `check`
+
+// The first option, the first name that is empty or one too many, or that one of three is missing.
+fn check_trouble<'a>(words: &'a [String]) -> Option<Trouble<'a>>
+    ensures { IfSome result (IsTrouble words.entry.now) }
+{
+    let mut ended = false;
+    let mut count = 0u32;
+    for at in 1..words.len() {
+        let word = word_at(words, at);
+        if !ended && word == "--" {
+            ended = true;
+        } else if !ended && !matches!(read_look(word.as_bytes()), Look::Plain) {
+            return Some(Trouble::NoOptions(word));
+        } else if count == 3 {
+            return Some(Trouble::Surplus(word));
+        } else {
+            if let [] = word.as_bytes() {
+                return Some(Trouble::Empty);
+            }
+            count = count.saturating_add(1);
+        }
+    }
+    if count < 3 {
+        return Some(Trouble::Missing);
+    }
+    None
+}
+
 fn route_trouble<'a>(words: &'a [String]) -> Option<Trouble<'a>>
     ensures { IfSome result (IsTrouble words.entry.now) }
 {
@@ -244,6 +273,7 @@ fn command_trouble<'a>(words: &'a [String], first: &'a str) -> Option<Trouble<'a
 {
     match first {
         "route" => route_trouble(words),
+        "check" => check_trouble(words),
         "gen" => gen_trouble(words),
         _ => Some(Trouble::NotACommand(first)),
     }

@@ -81,7 +81,7 @@ pub record Four (a b c e a' b' c' e' r s : List ℕ) : Type 0 where
   pub four : e ≡ e'
   pub rest : r ≡ s
 
-four_is : (w v a b c e r : List ℕ)
+pub four_is : (w v a b c e r : List ℕ)
     → line (w ++ a ++ v ++ b ++ v ++ c ++ v ++ e) ++ r ≡ w ++ (a ++ (v ++ (b ++ (v ++ (c ++ (v ++ ended e r))))))
 four_is w v a b c e r =
     ended_is (w ++ a ++ v ++ b ++ v ++ c ++ v) e r
@@ -126,7 +126,7 @@ pub record CutPeel (p a b q c e r s : List ℕ) : Type 0 where
   pub blocked : b ≡ e
   pub rest : r ≡ s
 
-cut_is : (p a b r : List ℕ) → line (codes "cut " ++ p ++ codes " reached " ++ a ++ codes " blocked " ++ b) ++ r
+pub cut_is : (p a b r : List ℕ) → line (codes "cut " ++ p ++ codes " reached " ++ a ++ codes " blocked " ++ b) ++ r
     ≡ codes "cut " ++ (p ++ (codes " reached " ++ (a ++ (codes " blocked " ++ ended b r))))
 cut_is p a b r =
     ended_is (codes "cut " ++ p ++ codes " reached " ++ a ++ codes " blocked ") b r

@@ -4,3 +4,9 @@ pub mod Points
 pub mod Gone
 pub mod Vouched
 pub mod Only
+pub mod Kept
+pub mod Stretching
+pub mod Cutting
+pub mod Least
+pub mod Netting
+pub mod Answering

@@ -11,7 +11,8 @@ use Rattle.route_check.specs.declared.verdict.JudgeFault.TheVariants.{TooManyNod
 use Rattle.report_form.specs.Form.{Told, nodes_of}
 use Rattle.route_check.specs.Judged.{Case, IsRight, IsRead, IsWrong, IsClash, IsOutside, IsIllLaid}
 use Rattle.route_check.specs.Judged.{IsFalseLine, IsNoCut}
-use Rattle.route_check.specs.Judged.{IsTooFine, IsLineTrue, AreCutsTrue, AgreesWithAll, IsWithinEdges, IsLaidWell}
+use Rattle.copper_check.specs.Checks.{AgreesWithAll, IsLaidWell, IsWithinEdges}
+use Rattle.route_check.specs.Judged.{AreCutsTrue, IsLineTrue, IsTooFine}
 use Rattle.route_check.specs.Judged.{Answers, IsYes}
 use Rattle.route_check.specs.Judged.{first_names, mesh_told}
 use Rattle.report_form.proofs.Agree.{one_told}

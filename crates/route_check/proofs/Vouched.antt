@@ -16,7 +16,8 @@ use Rattle.pcb_islands.proofs.Elements.{look_at}
 use Rattle.ses_reader.specs.declared.item.SesItem.{SesItem}
 use Rattle.route_check.specs.Board.{board_of, numbered, left_of}
 use Rattle.report_form.specs.Form.{NetTold, CutTold}
-use Rattle.route_check.specs.Judged.{AreAllIslands, Case, IsRight, IsVouched, IsNetVouched}
+use Rattle.copper_check.specs.Checks.{AreAllIslands}
+use Rattle.route_check.specs.Judged.{Case, IsRight, IsVouched, IsNetVouched}
 use Rattle.route_check.specs.Judged.{islands_told, IsLineTrue}
 use Rattle.route_check.specs.Judged.{AreCutsTrue, mesh_told}
 use Rattle.route_check.proofs.Boards.{in_left, is_numbered}

@@ -6,19 +6,16 @@ use Rattle.std.specs.List.{AllZip}
 use Rattle.std.specs.List.Sorted.{IsStrictlyIncreasing}
 use Rattle.pcb_model.specs.declared.item.Item.{Item}
 use Rattle.pcb_model.specs.declared.design.Design.{Design}
-use Rattle.pcb_model.specs.Pairs.{Agrees}
-use Rattle.pcb_model.specs.Board.{IsRouted, IsLegal, AreInside, IsLaid}
+use Rattle.pcb_model.specs.Board.{IsLegal}
 use Rattle.pcb_islands.specs.declared.net.Island.{Island}
-use Rattle.pcb_islands.specs.Islands.{AreIslands, IsComplete}
+use Rattle.pcb_islands.specs.Islands.{IsComplete}
 use Rattle.route_lattice.specs.Mesh.{Mesh, node_at}
-use Rattle.route_lattice.specs.Ways.{way, way_count}
 use Rattle.route_lattice.specs.Whole.{lattice_of}
 use Rattle.route_lattice.specs.declared.limits.TheConstants.{MOST_NODES}
-use Rattle.cut_certificate.specs.declared.cut.Block.{Block}
-use Rattle.cut_certificate.specs.declared.cut.Blocker.{Blocker}
-use Rattle.cut_certificate.specs.Border.{AreBlocks}
 use Rattle.copper_alike.specs.Sets.{IsCutSet}
-use Rattle.route_report.specs.Report.{pin_name}
+use Rattle.copper_check.specs.Checks.{AgreesWithAll, AreAllIslands, Clashes, IsFirstBad, IsLaidWell, IsWithinEdges}
+use Rattle.cut_check.specs.Sizes.{IsOutCount}
+use Rattle.told_words.specs.PinNames.{pin_name}
 use Rattle.ses_reader.specs.declared.item.SesItem.{SesItem}
 use Rattle.route_check.specs.declared.verdict.Verdict.{Verdict}
 use Rattle.route_check.specs.declared.verdict.Verdict.TheVariants.{Yes, No}
@@ -28,11 +25,7 @@ use Rattle.report_form.specs.Form.{Told, NetTold, CutTold, RunTold, IsTold, IsTr
 use Rattle.report_form.specs.Form.{nodes_of, value}
 use Rattle.route_check.specs.Board.{board_of}
 
--- ---- the islands of all nets, and the names of their first pins
-pub record AreAllIslands (d : Design) (items : List Item) (found : List (List Island)) : Type 0 where
-  pub all : length found ≡ length d.nets
-  pub each : (net : ℕ) (own : List Island) → slice_get found net ≡ Some own → AreIslands d items net own
-
+-- ---- the names of first pins
 abbrev pub first_of : List ℕ → ℕ
 first_of [] = 0
 first_of (pin ∷ pins) = pin
@@ -42,33 +35,6 @@ first_name d s = pin_name d (first_of s.pins)
 
 abbrev pub first_names : Design → List (List Island) → List (List (List ℕ))
 first_names d found = map (map (first_name d)) found
-
--- ---- copper
--- the item disagrees with another, and one of them is of the session
-pub record Clashes (d : Design) (items : List Item) (a : Item) : Type 0 where
-  pub other : Item
-  pub there : Contains items other
-  pub apart : other.id ≡ a.id → ⊥
-  pub one_routed : IsRouted a ⊎ IsRouted other
-  pub disagree : Agrees d a other → ⊥
-
--- the least id of an item of which Bad holds; of all before, Good holds
-pub record IsFirstBad (Bad Good : Item → Type 0) (items : List Item) (id : ℕ) : Type 0 where
-  pub item : Item
-  pub there : Contains items item
-  pub id_is : item.id ≡ id
-  pub bad : Bad item
-  pub before : (b : Item) → Contains items b → b.id < id → Good b
-
--- it agrees with all, where one of the two is of the session
-pub record AgreesWithAll (d : Design) (items : List Item) (a : Item) : Type 0 where
-  pub each : (b : Item) → Contains items b → (b.id ≡ a.id → ⊥) → IsRouted a ⊎ IsRouted b → Agrees d a b
-
-abbrev pub IsWithinEdges : Design → Item → Type 0
-IsWithinEdges d a = IsRouted a → AreInside d.bounds a.pieces
-
-abbrev pub IsLaidWell : Design → Item → Type 0
-IsLaidWell d a = IsRouted a → IsLaid d a
 
 -- ---- nets
 -- a net without several islands is complete, another has a cut for each
@@ -97,12 +63,6 @@ pub record AreNodesOf (m : Mesh) (runs : List RunTold) (nodes : List ℕ) : Type
   pub ascends : IsStrictlyIncreasing nodes
   pub only : All (λ node. (r : RunTold) × Contains runs r × IsOfRun m r node) nodes
   pub all : (r : RunTold) (node : ℕ) → Contains runs r → IsOfRun m r node → Contains nodes node
-
--- so many moves of the net lead out of the nodes
-pub record IsOutCount (d : Design) (m : Mesh) (net : ℕ) (nodes : List ℕ) (count : ℕ) : Type 0 where
-  pub moves : List Block
-  pub all : AreBlocks (way d m net) (way_count d m net) (λ (v i : ℕ) (by : Blocker). Unit {0}) nodes moves
-  pub count_is : length moves ≡ count
 
 -- the cut in the place of an island names its first pin, and its stretches give a set that shuts the island in
 pub record IsCutTrue (d : Design) (m : Mesh) (items : List Item) (island : Island) (others : List Island)
@@ -247,12 +207,18 @@ Answers c (Ok (No number at)) = IsWrong c number at
 Answers c (Err (TooManyNodes count)) = IsTooFine c count
 Answers c (Err (Memory e)) = Unit {0}
 
--- The answer on the board of the session, by the islands on it.
-pub record Judges (d : Design) (xs : List SesItem) (report : List ℕ) (answer : Result Verdict JudgeFault) : Type 0
+-- the answer on the board of the session, by the islands on it
+pub record IsJudged (d : Design) (xs : List SesItem) (report : List ℕ) (answer : Result Verdict JudgeFault) : Type 0
   where
     pub found : List (List Island)
     pub islands : AreAllIslands d (board_of d xs) found
     pub answers : Answers (record { design = d; items = board_of d xs; found = found; report = report }) answer
+
+-- What judging answers. Memory may be wanting before any islands are known, so then nothing is said.
+abbrev pub Judges : Design → List SesItem → List ℕ → Result Verdict JudgeFault → Type 0
+Judges d xs report (Ok verdict) = IsJudged d xs report (Ok verdict)
+Judges d xs report (Err (TooManyNodes count)) = IsJudged d xs report (Err (TooManyNodes count))
+Judges d xs report (Err (Memory e)) = Unit {0}
 
 -- ---- what a yes is worth
 -- a net that is told complete has all its pins joined, and each island of a net that is told open has a set that shuts

@@ -1,2 +1,4 @@
 -- What private functions give: a reader of the public contracts needs none of it.
 pub mod Left
+pub mod Kept
+pub mod Order

@@ -5,10 +5,11 @@ ghost use Rattle.pcb_model.specs.declared.design.Design.{Design as TheDesign};
 ghost use Rattle.pcb_model.specs.Copper.{Ascends};
 ghost use Rattle.pcb_model.specs.Sound.{IsSound, Serves};
 ghost use Rattle.pcb_islands.specs.declared.net.Island.{Island as OneIsland};
+ghost use Rattle.copper_check.specs.Checks.{AreAllIslands};
 ghost use Rattle.ses_reader.specs.declared.item.SesItem.{SesItem as OneSesItem};
 ghost use Rattle.ses_reader.specs.Sound.{IsItemSound};
 ghost use Rattle.route_check.specs.Board.{board_of};
-ghost use Rattle.route_check.specs.Judged.{AreAllIslands, Answers, Case, IsRight, IsVouched, IsYes};
+ghost use Rattle.route_check.specs.Judged.{Answers, Case, IsRight, IsVouched, IsYes};
 ghost use Rattle.route_check.specs.declared.verdict.Verdict.{Verdict as TheVerdict};
 ghost use Rattle.route_check.specs.declared.verdict.JudgeFault.{JudgeFault as TheFault};
 

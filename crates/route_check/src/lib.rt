@@ -2,11 +2,17 @@
 #![tactic(auto)]
 
 mod board;
+mod cuts;
 mod equal;
+mod judging;
 mod laws;
 mod left;
+mod lines;
+mod names;
+mod order;
 mod verdict;
 
 pub use board::board_items;
+pub use judging::judge;
 pub use laws::{right_is_vouched, right_is_yes, session_boards_serve};
 pub use verdict::{JudgeFault, Verdict};

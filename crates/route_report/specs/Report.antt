@@ -1,13 +1,10 @@
 -- The report: what a run tells of the design, the lattice, the passes and each net.
 use Rattle.std.specs.Prelude.{ℕ, ◌+◌, ◌==◌, Bool, false, true, not, ◌&&◌, if◌then◌else◌, List, [], ◌∷◌, ◌++◌}
-use Rattle.std.specs.Prelude.{length, filter, flat_map, slice_get, codes, decimal}
+use Rattle.std.specs.Prelude.{length, filter, flat_map, codes, decimal}
 use Rattle.std.specs.List.{list_any, enumerate_from}
-use Rattle.std.specs.Option.{option_map_or}
 use Rattle.pcb_model.specs.declared.item.Item.{Item}
 use Rattle.pcb_model.specs.declared.item.Kind.{Kind}
 use Rattle.pcb_model.specs.declared.item.Kind.TheVariants as kind
-use Rattle.pcb_model.specs.declared.design.Component.{Component}
-use Rattle.pcb_model.specs.declared.design.Pin.{Pin}
 use Rattle.pcb_model.specs.declared.design.Net.{Net}
 use Rattle.pcb_model.specs.declared.design.Design.{Design}
 use Rattle.route_lattice.specs.Mesh.{Mesh, column, row, level}
@@ -16,6 +13,7 @@ use Rattle.cut_certificate.specs.declared.cut.Blocker.TheVariants as blocker
 use Rattle.cut_certificate.specs.declared.cut.Block.{Block}
 use Rattle.cut_certificate.specs.declared.cut.Cut.{Cut}
 use Rattle.ses_writer.specs.Words.{spelled}
+use Rattle.told_words.specs.PinNames.{pin_name}
 use Rattle.route_run.specs.declared.facts.Facts.{Facts}
 use Rattle.route_run.specs.declared.facts.PassLine.{PassLine}
 
@@ -60,17 +58,7 @@ run_lines facts = pass_lines facts.passes ++ count_line (codes "kept ") facts.ke
 
 -- ---- a cut
 
-abbrev pub component_name : Design → ℕ → List ℕ
-component_name d component = option_map_or (λ (c : Component). c.name) (slice_get d.components component) []
-
--- the component's name, a hyphen and the pin's name
-abbrev pub name_of_pin : Design → Pin → List ℕ
-name_of_pin d p = component_name d p.component ++ codes "-" ++ p.name
-
--- that of the pin with this number, as one word
-abbrev pub pin_name : Design → ℕ → List ℕ
-pin_name d pin = option_map_or (name_of_pin d) (slice_get d.pins pin) []
-
+-- the name of the pin with this number, as one word
 unfoldable pub pin_word : Design → ℕ → List ℕ
 pin_word d pin = spelled (pin_name d pin)
 

@@ -2,7 +2,8 @@
 
 ghost use Rattle.std.specs.Prelude.{◌≡◌, ◌++◌, [], false, OnOk, IfOk, codes, filter, flat_map};
 ghost use Rattle.ses_writer.specs.Words.{Appends};
-ghost use Rattle.route_report.specs.Report.{component_name as component_name_of, name_of_pin, pin_name, pin_word};
+ghost use Rattle.route_report.specs.Report.{pin_word};
+ghost use Rattle.told_words.specs.PinNames.{component_name as component_name_of, name_of_pin, pin_name};
 ghost use Rattle.route_report.specs.Report.{cut_line, kind_word};
 ghost use Rattle.route_report.specs.Report.{has_outside as has_outside_in, by_line, outside_line, by_lines};
 ghost use Rattle.route_report.specs.Report.{detail_lines, cut_lines};

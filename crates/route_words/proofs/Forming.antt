@@ -18,7 +18,8 @@ use Rattle.clap.specs.declared.error.Error.{Error}
 use Rattle.clap.specs.Simple.{new_rule}
 use Rattle.clap.specs.declared.builder.action.ArgAction.TheVariants.{SetTrue}
 use denote.Bor.{Bor}
-use Rattle.route_words.specs.inner.Forms.{Adds, IsPlainForm, Makes, Reads, bare_app, flag, gen_app, route_app}
+use Rattle.route_words.specs.inner.Forms.{Adds, IsPlainForm, Makes, Reads, bare_app, check_app, flag, gen_app}
+use Rattle.route_words.specs.inner.Forms.{route_app}
 
 abbrev step : App → Arg → App
 step a x = with_rule a (rule_of x)
@@ -58,6 +59,9 @@ none_make = record { is = refl; local = All-nil (λ (a : Arg). a.global ≡ fals
 
 pub route_is_plain : IsPlainForm route_app
 route_is_plain = record { simple = refl; free = refl }
+
+pub check_is_plain : IsPlainForm check_app
+check_is_plain = record { simple = refl; free = refl }
 
 pub gen_is_plain : IsPlainForm gen_app
 gen_is_plain = record { simple = refl; free = refl }

@@ -15,10 +15,11 @@ use Rattle.clap.specs.declared.error.kind.ErrorKind.{ErrorKind}
 use Rattle.clap.specs.declared.error.kind.ErrorKind.TheVariants.{OutOfMemory}
 use Rattle.clap.specs.declared.parser.matches.ArgMatches.{ArgMatches}
 use Rattle.clap.specs.declared.parser.matches.Found.{Found}
-use Rattle.route_words.specs.inner.Forms.{FindsGen, FindsRoute, Holds, HoldsRoute, Reads, fault_by, gen_app, is_on}
-use Rattle.route_words.specs.inner.Forms.{route_app}
+use Rattle.route_words.specs.inner.Forms.{FindsCheck, FindsGen, FindsRoute, Holds, HoldsCheck, HoldsRoute, Reads}
+use Rattle.route_words.specs.inner.Forms.{check_app, fault_by, gen_app, is_on, route_app}
 use Rattle.route_words.specs.Parts.{Word, fit, has, parts_of, names_in, value_in}
-use Rattle.route_words.specs.Words.{gen_form, route_form, texts}
+use Rattle.route_words.specs.Words.{check_form, gen_form, route_form, texts}
+use Rattle.route_words.proofs.Checks.{check_defaults, check_id, check_passes, check_rules, check_serves, file_id}
 use Rattle.route_words.proofs.Finding.{flag_default, flag_text, name_found, option_found, other_default}
 use Rattle.route_words.proofs.Fitting.{fits, rows_are}
 use Rattle.route_words.proofs.Gens.{gen_defaults, gen_id, gen_passes, gen_rules, gen_serves}
@@ -101,6 +102,59 @@ route_refused words e (inr among) = by (kind_of e) (sym (route_fits words) ∙ u
   where
     by : (k : ErrorKind) → fit route_form (parts_of route_form (texts words)) ≡ false
         → FindsRoute (texts words) (Err (fault_by k))
+    by OutOfMemory misfit = tt
+    by _ misfit = misfit
+
+-- ---- check
+
+check_fits : (words : List (String Global)) → clear (fault_of check_app (texts words))
+    ≡ fit check_form (parts_of check_form (texts words))
+check_fits words = fits check_form check_rules check_serves check_passes (texts words) (words_spelt words)
+
+check_row : (words : List Word) → fit check_form (parts_of check_form words) ≡ true
+    → matches_of check_app words ≡ laid check_form check_rules check_serves 0 (parts_of check_form words)
+check_row words fit_is = rows_are check_form check_rules check_serves words fit_is
+    ∙ check_defaults (laid check_form check_rules check_serves 0 (parts_of check_form words))
+
+module _ (words : List Word) (f : Found) (fit_is : fit check_form (parts_of check_form words) ≡ true)
+    (rows_is : rows_of f ≡ matches_of check_app words) where
+  check_name : (m : ℕ) → nat_lt m 3 ≡ true
+      → first_value f (file_id m) ≡ slice_get (names_in (parts_of check_form words)) m
+  check_name m below =
+      first_value-rows f (file_id m) ∙ ap (first_of (file_id m)) (rows_is ∙ check_row words fit_is)
+      ∙ subst (λ t. first_of t (laid check_form check_rules check_serves 0 (parts_of check_form words))
+      ≡ slice_get (names_in (parts_of check_form words)) m)
+      (check_id m) (name_found check_form check_rules check_serves m m 0 (omega arith) below (parts_of check_form words)
+      [] fit_is)
+
+  check_names : (k : ℕ) (id : Word) → slice_get (codes "input" ∷ codes "session" ∷ codes "report" ∷ []) k ≡ Some id
+      → first_value f id ≡ slice_get (names_in (parts_of check_form words)) k
+  check_names zero id is =
+      let same : codes "input" ≡ id = cc in
+      subst (λ t. first_value f t ≡ slice_get (names_in (parts_of check_form words)) 0) same (check_name 0 refl)
+  check_names (suc zero) id is =
+      let same : codes "session" ≡ id = cc in
+      subst (λ t. first_value f t ≡ slice_get (names_in (parts_of check_form words)) 1) same (check_name 1 refl)
+  check_names (suc (suc zero)) id is =
+      let same : codes "report" ≡ id = cc in
+      subst (λ t. first_value f t ≡ slice_get (names_in (parts_of check_form words)) 2) same (check_name 2 refl)
+  check_names (suc (suc (suc k))) id is = cc
+
+  check_holds : HoldsCheck (parts_of check_form words) f
+  check_holds = record { fits = fit_is; values = λ x known. absurd (true≢false (sym known)); names = check_names }
+
+pub check_found_in : (words : List (String Global)) (m : ArgMatches) → Reads check_app (texts words) (Ok m)
+    → HoldsCheck (parts_of check_form (texts words)) (found_of m)
+check_found_in words m reads = check_holds (texts words) (found_of m) (sym (check_fits words) ∙ ap clear reads.0)
+    reads.1
+
+pub check_refused : (words : List (String Global)) (e : Error) → Reads check_app (texts words) (Err e)
+    → FindsCheck (texts words) (Err (fault_by (kind_of e)))
+check_refused words e (inl memory) = rw memory tt
+check_refused words e (inr among) = by (kind_of e) (sym (check_fits words) ∙ unclear _ e among)
+  where
+    by : (k : ErrorKind) → fit check_form (parts_of check_form (texts words)) ≡ false
+        → FindsCheck (texts words) (Err (fault_by k))
     by OutOfMemory misfit = tt
     by _ misfit = misfit
 

@@ -6,6 +6,7 @@ mod Rows
 mod Reading
 mod Laying
 mod Routes
+mod Checks
 mod Gens
 mod Finding
 mod Fitting

@@ -4,9 +4,11 @@ use Rattle.std.proofs.Common.{List, [], ◌∷◌, length, Option, Some, None, s
 use Rattle.std.proofs.lemmas.Bool.{ltb-true}
 use Rattle.clap.specs.Matches.{first_value}
 use Rattle.clap.specs.declared.parser.matches.Found.{Found}
-use Rattle.route_words.specs.inner.Forms.{FindsGen, FindsRoute, Holds, HoldsRoute, knobs_found}
+use Rattle.route_words.specs.inner.Forms.{FindsCheck, FindsGen, FindsRoute, Holds, HoldsCheck, HoldsRoute}
+use Rattle.route_words.specs.inner.Forms.{knobs_found}
 use Rattle.route_words.specs.Parts.{Form, Part, Word, fit_from, name, names_in, option, parts_of, stray}
-use Rattle.route_words.specs.Words.{Says, gen_form, gen_of, gen_with, knobs_of, route_form, route_of, route_with}
+use Rattle.route_words.specs.Words.{Says, check_form, check_of, check_with, gen_form, gen_of, gen_with, knobs_of}
+use Rattle.route_words.specs.Words.{route_form, route_of, route_with}
 use Rattle.route_words.specs.declared.command.WordFault.{WordFault}
 use Rattle.route_words.specs.declared.command.Knobs.{Knobs}
 use Rattle.route_words.specs.declared.command.WordFault.TheVariants.{Memory, NoCommand, UnknownCommand, Usage}
@@ -89,6 +91,61 @@ route_misfit words (Memory e) found = tt
 route_misfit words Usage found = rw found refl
 route_misfit words NoCommand found = absurd found
 route_misfit words UnknownCommand found = absurd found
+
+-- ---- check
+
+-- words that don't fit the form of `check`
+pub check_misfit : (words : List Word) (fault : WordFault) → FindsCheck words (Err fault)
+    → Says (check_of words) (Err fault)
+check_misfit words (Memory e) found = tt
+check_misfit words Usage found = rw found refl
+check_misfit words NoCommand found = absurd found
+check_misfit words UnknownCommand found = absurd found
+
+three_names : (names : List Word) (a b d : Word) → length names ≤ 3 → slice_get names 0 ≡ Some a
+    → slice_get names 1 ≡ Some b → slice_get names 2 ≡ Some d → names ≡ a ∷ b ∷ d ∷ []
+three_names [] a b d few first second third = cc
+three_names (x ∷ []) a b d few first second third = cc
+three_names (x ∷ y ∷ []) a b d few first second third = cc
+three_names (x ∷ y ∷ z ∷ []) a b d few first second third = cc
+three_names (x ∷ y ∷ z ∷ w ∷ names) a b d few first second third = absurd (omega arith)
+
+without_first : (names : List Word) → slice_get names 0 ≡ None → check_with names ≡ Err Usage
+without_first [] none = refl
+without_first (x ∷ names) none = cc
+
+without_second : (names : List Word) → slice_get names 1 ≡ None → check_with names ≡ Err Usage
+without_second [] none = refl
+without_second (x ∷ []) none = refl
+without_second (x ∷ y ∷ names) none = cc
+
+without_third : (names : List Word) → slice_get names 2 ≡ None → check_with names ≡ Err Usage
+without_third [] none = refl
+without_third (x ∷ []) none = refl
+without_third (x ∷ y ∷ []) none = refl
+without_third (x ∷ y ∷ z ∷ names) none = cc
+
+module _ (words : List Word) (f : Found) (holds : HoldsCheck (parts_of check_form words) f) where
+  check_is : check_of words ≡ check_with (names_in (parts_of check_form words))
+  check_is = rw holds.fits refl
+
+  pub no_design : first_value f (codes "input") ≡ None → check_of words ≡ Err Usage
+  no_design none = check_is ∙ without_first _ (sym (holds.names 0 (codes "input") refl) ∙ none)
+
+  pub no_session : first_value f (codes "session") ≡ None → check_of words ≡ Err Usage
+  no_session none = check_is ∙ without_second _ (sym (holds.names 1 (codes "session") refl) ∙ none)
+
+  pub no_report : first_value f (codes "report") ≡ None → check_of words ≡ Err Usage
+  no_report none = check_is ∙ without_third _ (sym (holds.names 2 (codes "report") refl) ∙ none)
+
+  pub check_named : (a b d : Word) → first_value f (codes "input") ≡ Some a → first_value f (codes "session") ≡ Some b
+      → first_value f (codes "report") ≡ Some d → check_of words ≡ check_with (a ∷ b ∷ d ∷ [])
+  check_named a b d first second third =
+      let few = few_names check_form (parts_of check_form words) [] 0 (omega arith) holds.fits in
+      let names = three_names (names_in (parts_of check_form words)) a b d (omega arith)
+      (sym (holds.names 0 (codes "input") refl) ∙ first) (sym (holds.names 1 (codes "session") refl) ∙ second)
+      (sym (holds.names 2 (codes "report") refl) ∙ third) in
+      check_is ∙ rw names refl
 
 -- ---- gen
 

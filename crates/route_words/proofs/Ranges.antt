@@ -7,8 +7,8 @@ use Rattle.std.specs.Prelude.{option_and_then}
 use Rattle.std.specs.Str.{bytes_eq}
 use Rattle.std.proofs.lemmas.Bool.{leb-true}
 use Rattle.route_words.specs.Parts.{Part, Word, fit, names_in, parts_of, value_in}
-use Rattle.route_words.specs.Words.{AreWithin, IsWithin, Says, command_of, gen_form, gen_of, gen_with, grid_in}
-use Rattle.route_words.specs.Words.{is_between}
+use Rattle.route_words.specs.Words.{AreWithin, IsWithin, Says, check_form, check_of, check_with, command_of, gen_form}
+use Rattle.route_words.specs.Words.{gen_of, gen_with, grid_in, is_between}
 use Rattle.route_words.specs.Words.{is_empty, is_short_number, knobs_in, knobs_of, number_between, number_in, number_or}
 use Rattle.route_words.specs.Words.{route_form, route_of, route_with}
 use Rattle.route_words.specs.declared.command.Command.{Command}
@@ -127,6 +127,31 @@ route_within words =
     (route_with_within (names_in (parts_of route_form words)) (knobs_of (parts_of route_form words))
     (knobs_of_within (parts_of route_form words)))
 
+files_within : (input session report : Word) → IfOk (check_with (input ∷ session ∷ report ∷ [])) IsWithin
+files_within input session report = by (is_empty input || is_empty session || is_empty report) refl
+  where
+    by : (b : Bool) → (is_empty input || is_empty session || is_empty report) ≡ b
+        → IfOk (check_with (input ∷ session ∷ report ∷ [])) IsWithin
+    by true e = rw e tt
+    by false e =
+        let two = or_left (is_empty input || is_empty session) (is_empty report) e in
+        rw e (
+          filled_name input (or_left (is_empty input) (is_empty session) two),
+          filled_name session (or_right (is_empty input) (is_empty session) two),
+          filled_name report (or_right (is_empty input || is_empty session) (is_empty report) e),
+        )
+
+check_with_within : (names : List Word) → IfOk (check_with names) IsWithin
+check_with_within [] = tt
+check_with_within (a ∷ []) = tt
+check_with_within (a ∷ b ∷ []) = tt
+check_with_within (a ∷ b ∷ d ∷ []) = files_within a b d
+check_with_within (a ∷ b ∷ d ∷ e ∷ names) = tt
+
+check_within : (words : List Word) → IfOk (check_of words) IsWithin
+check_within words = if_fits (fit check_form (parts_of check_form words)) _
+    (check_with_within (names_in (parts_of check_form words)))
+
 gen_with_within : (names : List Word) → IfOk (gen_with names) IsWithin
 gen_with_within [] = tt
 gen_with_within (word ∷ []) = by (number_between 1 400 word) (between_within 1 400 word)
@@ -143,12 +168,15 @@ gen_within words = if_fits (fit gen_form (parts_of gen_form words)) _
 
 command_within : (words : List Word) → IfOk (command_of words) IsWithin
 command_within [] = tt
-command_within (first ∷ words) = by (bytes_eq first (codes "route")) (bytes_eq first (codes "gen"))
+command_within (first ∷ words) = by (bytes_eq first (codes "route")) (bytes_eq first (codes "check"))
+    (bytes_eq first (codes "gen"))
   where
-    by : (a b : Bool) → IfOk (if a then route_of words else if b then gen_of words else Err UnknownCommand) IsWithin
-    by true b = route_within words
-    by false true = gen_within words
-    by false false = tt
+    by : (a b d : Bool) → IfOk (if a then route_of words else if b then check_of words
+        else if d then gen_of words else Err UnknownCommand) IsWithin
+    by true b d = route_within words
+    by false true d = check_within words
+    by false false true = gen_within words
+    by false false false = tt
 
 -- an answer as it is defined
 pub said_within : (words : List Word) (r : Result Command WordFault) → Says (command_of words) r → IfOk r IsWithin

@@ -8,7 +8,7 @@ use Rattle.std.specs.List.{list_all}
 use Rattle.std.specs.Str.{bytes_eq}
 use Rattle.route_words.specs.Parts.{Word, Form, Part, fit, names_in, parts_of, value_in}
 use Rattle.route_words.specs.declared.command.Command.{Command}
-use Rattle.route_words.specs.declared.command.Command.TheVariants.{Route, Gen}
+use Rattle.route_words.specs.declared.command.Command.TheVariants.{Route, Check, Gen}
 use Rattle.route_words.specs.declared.command.Knobs.{Knobs}
 use Rattle.route_words.specs.declared.command.WordFault.{WordFault}
 use Rattle.route_words.specs.declared.command.WordFault.TheVariants.{NoCommand, UnknownCommand, Usage, Memory}
@@ -91,6 +91,23 @@ route_of words =
     let parts = parts_of route_form words in
     if fit route_form parts then route_with (names_in parts) (knobs_of parts) else Err Usage
 
+-- ---- check
+
+-- exactly three names, none of them empty
+abbrev pub check_with : List Word → Result Command WordFault
+check_with (input ∷ session ∷ report ∷ []) =
+    if is_empty input || is_empty session || is_empty report then Err Usage else Ok (Check input session report)
+check_with names = Err Usage
+
+abbrev pub check_form : Form
+check_form = record { names = 3; valued = []; flags = [] }
+
+-- what the words behind `check` ask for
+abbrev pub check_of : List Word → Result Command WordFault
+check_of words =
+    let parts = parts_of check_form words in
+    if fit check_form parts then check_with (names_in parts) else Err Usage
+
 -- ---- gen
 
 -- exactly one name, which is the number of a generated board
@@ -114,6 +131,7 @@ abbrev pub command_of : List Word → Result Command WordFault
 command_of [] = Err NoCommand
 command_of (first ∷ words) =
     if bytes_eq first (codes "route") then route_of words
+    else if bytes_eq first (codes "check") then check_of words
     else if bytes_eq first (codes "gen") then gen_of words
     else Err UnknownCommand
 
@@ -142,4 +160,5 @@ pub record AreWithin (knobs : Knobs) : Type 0 where
 -- names that aren't empty, and numbers in their ranges
 abbrev pub IsWithin : Command → Type 0
 IsWithin (Route input output knobs) = (0 < length input) × (0 < length output) × AreWithin knobs
+IsWithin (Check input session report) = (0 < length input) × (0 < length session) × (0 < length report)
 IsWithin (Gen n) = (1 ≤ n) × (n ≤ LAST_BOARD)

@@ -31,6 +31,13 @@ pub enum Command {
         output: Text,
         knobs: Knobs,
     },
+    /// Judge the session in the file `session` and the report in the file `report` by the design in the file `input`.
+    /// No name is empty.
+    Check {
+        input: Text,
+        session: Text,
+        report: Text,
+    },
     /// Route the generated board of this number, from 1 to 400.
     Gen {
         n: u32,

@@ -7,8 +7,8 @@ ghost use Rattle.clap.specs.Walk.{rule_of};
 ghost use Rattle.clap.specs.Values.{kind_of};
 ghost use Rattle.route_words.specs.Words.{texts};
 ghost use Rattle.route_words.specs.inner.Forms.{bare_app, named, valued, fault_by, Reads};
-ghost use Rattle.route_words.specs.inner.Forms.{route_args, Adds, Makes, IsPlainForm};
-ghost use Rattle.route_words.specs.inner.Forms.{FindsRoute, FindsGen};
+ghost use Rattle.route_words.specs.inner.Forms.{route_args, check_args, Adds, Makes, IsPlainForm};
+ghost use Rattle.route_words.specs.inner.Forms.{FindsRoute, FindsCheck, FindsGen};
 
 use crate::WordFault;
 use clap::error::ErrorKind;
@@ -72,6 +72,15 @@ fn push_route<'a>(alloc: Global, args: &mut Vec<Arg<'a>>) -> Result<(), AllocErr
     )
 }
 
+// The arguments of the words after `check`.
+fn push_check<'a>(alloc: Global, args: &mut Vec<Arg<'a>>) -> Result<(), AllocError>
+    ensures { IfOk result (λ _. Adds check_args args.old.items args.new.items) }
+{
+    push_name(alloc, args, "input")?;
+    push_name(alloc, args, "session")?;
+    push_name(alloc, args, "report")
+}
+
 // What the words hold by the form with these arguments.
 fn parse<'a>(
     alloc: Global,
@@ -102,6 +111,21 @@ pub(crate) fn find_route<'a>(
 {
     let mut args = Vec::new(alloc);
     push_route(alloc, &mut args)?;
+    match parse(alloc, args, words) {
+        Ok(found) => Ok(found),
+        Err(error) => Err(fault_by(&error)),
+    }
+}
+
+/// What the words after `check` hold, where they fit its form.
+pub(crate) fn find_check<'a>(
+    alloc: Global,
+    words: &'a [String],
+) -> Result<ArgMatches<'a>, WordFault>
+    ensures { FindsCheck (texts words.entry.now) result }
+{
+    let mut args = Vec::new(alloc);
+    push_check(alloc, &mut args)?;
     match parse(alloc, args, words) {
         Ok(found) => Ok(found),
         Err(error) => Err(fault_by(&error)),

@@ -1,15 +1,15 @@
 //! The words of the command line.
-//! `route` and `gen` are read by forms of their own; what a list of words means is one definition.
+//! `route`, `check` and `gen` are read by forms of their own; what a list of words means is one definition.
 
 ghost use Rattle.std.specs.Prelude.{◌≡◌, ◌∷◌, [], List as Seq, Some, IfOk};
 ghost use Rattle.std.specs.Option.{option_map};
 ghost use Rattle.clap.specs.Matches.{found_of};
-ghost use Rattle.route_words.specs.Words.{texts, route_with, route_of, gen_with, gen_of, command_of, Says, IsWithin};
-ghost use Rattle.route_words.specs.Words.{gen_form, route_form};
+ghost use Rattle.route_words.specs.Words.{texts, route_with, route_of, check_with, check_of, gen_with, gen_of};
+ghost use Rattle.route_words.specs.Words.{command_of, Says, IsWithin, gen_form, check_form, route_form};
 ghost use Rattle.route_words.specs.Parts.{Word, parts_of};
-ghost use Rattle.route_words.specs.inner.Forms.{is_on, knobs_found, HoldsGen, HoldsRoute};
+ghost use Rattle.route_words.specs.inner.Forms.{is_on, knobs_found, HoldsGen, HoldsCheck, HoldsRoute};
 
-use crate::form::{find_gen, find_route};
+use crate::form::{find_check, find_gen, find_route};
 use crate::knobs::{read_knobs, read_number};
 use crate::limits::LAST_BOARD;
 use crate::{Command, Knobs, Text, WordFault};
@@ -19,6 +19,7 @@ use std::alloc::Global;
 /// How the program is called: its words, with the ranges and defaults of the options.
 pub const USAGE: &str = "\
 dsnroute route IN OUT [--grid UM] [--workers N] [--passes N] [--via-cost UM] [--tries T] [--omit-fixed]
+dsnroute check IN SES REPORT
 dsnroute gen N
   --grid UM      1 to 100000 um; without it, the grid that the design asks for
   --workers N    1 to 16; 4 without it
@@ -26,6 +27,7 @@ dsnroute gen N
   --via-cost UM  0 to 1000000 um; 2000 without it
   --tries T      0 to 1000; 16 without it
   --omit-fixed   leave the fixed wiring out of the session
+  check          judge a session and its report by the design
   gen N          the generated board number N, 1 to 400
   --             each word after it is a name
 ";
@@ -93,6 +95,48 @@ fn read_route(alloc: Global, words: &[String]) -> Result<Command, WordFault>
     }
 }
 
+fn check_with(alloc: Global, input: &str, session: &str, report: &str) -> Result<Command, WordFault>
+    ensures { Says (check_with (input.now ∷ session.now ∷ report.now ∷ [])) result }
+{
+    if input.is_empty() || session.is_empty() || report.is_empty() {
+        return Err(WordFault::Usage);
+    }
+    let input = Text::from_str(alloc, input)?;
+    let session = Text::from_str(alloc, session)?;
+    let report = Text::from_str(alloc, report)?;
+    Ok(Command::Check {
+        input,
+        session,
+        report,
+    })
+}
+
+// The command by what `clap` found in the words after `check`.
+fn check_found(alloc: Global, found: &ArgMatches) -> Result<Command, WordFault>
+    ensures { (words : Seq Word) → HoldsCheck (parts_of check_form words) (found_of found.now)
+        → Says (check_of words) result }
+{
+    let Some(input) = found.get_str("input") else {
+        return Err(WordFault::Usage);
+    };
+    let Some(session) = found.get_str("session") else {
+        return Err(WordFault::Usage);
+    };
+    let Some(report) = found.get_str("report") else {
+        return Err(WordFault::Usage);
+    };
+    check_with(alloc, input, session, report)
+}
+
+fn read_check(alloc: Global, words: &[String]) -> Result<Command, WordFault>
+    ensures { Says (check_of (texts words.now)) result }
+{
+    match find_check(alloc, words) {
+        Ok(found) => check_found(alloc, &found),
+        Err(fault) => Err(fault),
+    }
+}
+
 // The command by what `clap` found in the words after `gen`.
 fn gen_found(found: &ArgMatches) -> Result<Command, WordFault>
     ensures { (words : Seq Word) → HoldsGen (parts_of gen_form words) (found_of found.now)
@@ -124,6 +168,7 @@ fn read_command(alloc: Global, words: &[String]) -> Result<Command, WordFault>
     };
     match first.as_str() {
         "route" => read_route(alloc, rest),
+        "check" => read_check(alloc, rest),
         "gen" => read_gen(alloc, rest),
         _ => Err(WordFault::UnknownCommand),
     }

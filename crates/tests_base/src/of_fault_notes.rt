@@ -3,8 +3,8 @@
 
 use crate::of_route_words::words_of;
 use fault_notes::{
-    Bar, Counted, Fault, Place, Said, find_trouble, note_text, place_of, refusal_words, word_at,
-    word_note,
+    Bar, Counted, Fault, FileNames, Place, Said, check_words, find_trouble, note_text, place_of,
+    read_line, refusal_words, word_at, word_note,
 };
 use route_words::USAGE;
 use std::alloc::Global;
@@ -31,7 +31,12 @@ fn places_bytes(rt: HostRuntime) {
 
 /// Whether that is the note of a fault.
 fn is_noted(alloc: Global, fault: Fault, text: Option<&[u8]>, note: &str) -> bool {
-    match note_text(alloc, fault, "a.dsn", "a.ses", text) {
+    let files = FileNames {
+        input: "a.dsn",
+        session: "a.ses",
+        report: "a.txt",
+    };
+    match note_text(alloc, fault, files, text) {
         Ok(told) => told.as_str() == note,
         Err(_) => false,
     }
@@ -70,7 +75,7 @@ static NOTES: [(Fault, &str); 11] = [
     ),
     (
         FINE,
-        "a.dsn: too large: 20000000 nodes in the lattice, where 16777216 are the most: give a coarser --grid\n",
+        "a.dsn: too large: 20000000 nodes in the lattice, where 16777216 are the most: give `route` a coarser --grid\n",
     ),
     (
         Fault::Session(Bar::Other),
@@ -164,10 +169,62 @@ fn tells_refusals_by_number(rt: HostRuntime) {
     assert!(rt; refusal_words(27) == "the design isn't as it should be");
 }
 
+// ---- what is wrong with a session or its report
+
+/// What is said of each number, as docs/REPORT.md has it.
+static CHECKS: [(u64, &str); 7] = [
+    (1, "this can't be read as a session of the design"),
+    (
+        2,
+        "this line isn't in the report's form, or a number in it isn't that of the design",
+    ),
+    (3, "it comes too near to another item"),
+    (4, "it doesn't lie inside the board"),
+    (
+        5,
+        "it is too narrow, on a power layer, or a via that its net doesn't list",
+    ),
+    (6, "the line of this net isn't true of the session"),
+    (7, "the cut of the island with this first pin isn't one"),
+];
+
+/// Lines that are put, and what is said of them where the session's text wasn't kept.
+static CHECK_NOTES: [(&[u8], &str); 4] = [
+    (
+        b"check 1 at 7\n",
+        "a.ses: refused at byte 7: this can't be read as a session of the design (check 1)\n",
+    ),
+    (
+        b"check 2 at 5\n",
+        "a.txt:5: this line isn't in the report's form, or a number in it isn't that of the design (check 2)\n",
+    ),
+    (
+        b"check 5 at 3\n",
+        "a.ses: item 3: it is too narrow, on a power layer, or a via that its net doesn't list (check 5)\n",
+    ),
+    (
+        b"check 6 at 0\n",
+        "a.txt: net 0: the line of this net isn't true of the session (check 6)\n",
+    ),
+];
+
+#[test]
+fn tells_checks_by_number(rt: HostRuntime) {
+    for &(number, words) in &CHECKS {
+        assert!(rt; check_words(number) == words, "{number}");
+    }
+    for &(line, note) in &CHECK_NOTES {
+        assert!(rt;
+            is_noted(rt.alloc(), Fault::Told(read_line(line)), None, note),
+            "{note}"
+        );
+    }
+}
+
 // ---- wrong words
 
 /// Words with a bar between each two, and the first line that is said of them.
-static WRONG_WORDS: [(&str, &str); 18] = [
+static WRONG_WORDS: [(&str, &str); 23] = [
     ("draw", "draw: there is no such command"),
     ("route|t.dsn", "a name is missing"),
     ("route|a|", "a name is empty"),
@@ -216,12 +273,20 @@ static WRONG_WORDS: [(&str, &str); 18] = [
         "route|a|b|--omit-fixed=yes",
         "--omit-fixed=yes: the option takes no value",
     ),
+    ("check|a|b", "a name is missing"),
+    ("check|a||c", "a name is empty"),
+    ("check|a|b|--|c|-d", "-d: a name too many"),
+    (
+        "check|a|b|c|--grid=5",
+        "--grid=5: this command takes no options",
+    ),
+    ("check|a|b|-c", "-c: this command takes no options"),
     (
         "gen|401",
         "401: gen wants a whole number from 1 to 400, in one to seven digits",
     ),
     ("gen|1|2", "2: a name too many"),
-    ("gen|1|--grid=5", "--grid=5: gen takes no options"),
+    ("gen|1|--grid=5", "--grid=5: this command takes no options"),
 ];
 
 /// Whether that is the first line of what is said of these words, and the usage follows.

@@ -43,6 +43,20 @@ fn routes(alloc: Global, line: &str, input: &str, output: &str, knobs: Knobs) ->
     }
 }
 
+/// Whether the words of a line ask to judge these files.
+fn judges(alloc: Global, line: &str, design: &str, session: &str, report: &str) -> bool {
+    match read(alloc, line) {
+        Ok(
+            Command::Check {
+                input,
+                session: second,
+                report: third,
+            },
+        ) => input.as_str() == design && second.as_str() == session && third.as_str() == report,
+        _ => false,
+    }
+}
+
 /// Whether the words of a line ask for the generated board of this number.
 fn generates(alloc: Global, line: &str, number: u32) -> bool {
     match read(alloc, line) {
@@ -113,6 +127,20 @@ fn reads_what_to_route(rt: HostRuntime) {
 }
 
 #[test]
+fn reads_what_to_judge(rt: HostRuntime) {
+    assert!(rt;
+        judges(
+            rt.alloc(),
+            "check|t.dsn|t.ses|t.txt",
+            "t.dsn",
+            "t.ses",
+            "t.txt"
+        )
+    );
+    assert!(rt; judges(rt.alloc(), "check|-|--|-b|--grid", "-", "-b", "--grid"));
+}
+
+#[test]
 fn reads_numbers_of_boards(rt: HostRuntime) {
     assert!(rt; generates(rt.alloc(), "gen|1", 1));
     assert!(rt; generates(rt.alloc(), "gen|--|0000400", 400));
@@ -121,7 +149,7 @@ fn reads_numbers_of_boards(rt: HostRuntime) {
 #[test]
 fn refuses_commands(rt: HostRuntime) {
     assert!(rt; matches!(read_words(rt.alloc(), &[]), Err(WordFault::NoCommand)));
-    for &command in &["draw", "", "--", "Route", "--grid"] {
+    for &command in &["draw", "", "--", "Route", "checks", "--grid"] {
         assert!(rt;
             refuses(rt.alloc(), command, WordFault::UnknownCommand),
             "{command}"
@@ -129,7 +157,7 @@ fn refuses_commands(rt: HostRuntime) {
     }
 }
 
-/// Uses of `route` and of `gen` that don't fit them. A bar at the end stands before an empty word.
+/// Uses of `route`, `check` and `gen` that don't fit them. A bar at the end stands before an empty word.
 const USES: &str = "\
 route|t.dsn
 route|a|
@@ -157,6 +185,16 @@ route|a|b|--gri=5
 route|a|b|--help
 route|a|b|-h
 route|a|b|-g
+check
+check|a|b
+check|a|b|
+check||b|c
+check|a||c
+check|a|b|c|d
+check|a|b|c|--grid=5
+check|a|b|c|--omit-fixed
+check|a|b|c|--help
+check|a|b|-c
 gen|0
 gen|401
 gen|

@@ -1,5 +1,5 @@
 //! Calls over a desk in memory that has a design in its file u.dsn, and what they leave.
-//! Sessions are written into the file u.ses.
+//! Sessions are written into the file u.ses; where one is judged it is read from there, and its report from u.txt.
 
 use crate::designs::swapped;
 use board_turn::{Gate, NoGate};
@@ -70,10 +70,12 @@ fn words_of(alloc: Global, line: &str) -> Result<Vec<String>, AllocError> {
     Ok(words)
 }
 
-/// A desk that has the bytes, whose call of a number fails.
-fn desk_of(alloc: Global, bytes: &[u8], fails: u64) -> Result<MemDesk, AllocError> {
+/// A desk that has these files, whose call of a number fails.
+fn desk_of(alloc: Global, held: &[(&str, &[u8])], fails: u64) -> Result<MemDesk, AllocError> {
     let mut files = Vec::new(alloc);
-    files.push((String::from_str(alloc, "u.dsn")?, bytes.to_vec(alloc)?))?;
+    for &(name, bytes) in held {
+        files.push((String::from_str(alloc, name)?, bytes.to_vec(alloc)?))?;
+    }
     MemDesk::new(alloc, files, vec![in alloc; fails]?)
 }
 
@@ -94,18 +96,18 @@ fn told<T: Threads + Wait + Sync, G: Gate + Sync>(
     (outcome.status, made)
 }
 
-/// What a call with the words of a line leaves over a design's bytes, where its workers go through the gate, and the
-/// call of the desk and the put of the sink with these numbers fail. They count from 1, so 0 lets none fail.
-pub(crate) fn called<T: Threads + Wait + Sync + Abort, G: Gate + Sync>(
+/// What a call with the words of a line leaves over a desk with these files, where its workers go through the gate, and
+/// the call of the desk and the put of the sink with these numbers fail. They count from 1, so 0 lets none fail.
+pub(crate) fn called_over<T: Threads + Wait + Sync + Abort, G: Gate + Sync>(
     rt: &T,
     alloc: Global,
-    bytes: &[u8],
+    held: &[(&str, &[u8])],
     line: &str,
     fails: (u64, u64),
     gate: &G,
 ) -> Left {
     let words = words_of(alloc, line).expect(rt, "no words");
-    let mut desk = desk_of(alloc, bytes, fails.0).expect(rt, "no desk");
+    let mut desk = desk_of(alloc, held, fails.0).expect(rt, "no desk");
     let puts = vec![in alloc; fails.1].expect(rt, "no sink");
     let mut sink = MemSink::new(alloc, puts);
     let (status, made) = told(rt, alloc, words.as_slice(), &mut desk, &mut sink, gate);
@@ -115,6 +117,18 @@ pub(crate) fn called<T: Threads + Wait + Sync + Abort, G: Gate + Sync>(
         desk,
         sink,
     }
+}
+
+/// The same over a design's bytes.
+pub(crate) fn called<T: Threads + Wait + Sync + Abort, G: Gate + Sync>(
+    rt: &T,
+    alloc: Global,
+    bytes: &[u8],
+    line: &str,
+    fails: (u64, u64),
+    gate: &G,
+) -> Left {
+    called_over(rt, alloc, &[("u.dsn", bytes)], line, fails, gate)
 }
 
 /// Whether a call with the words of a line leaves that over a design's text with these edits.

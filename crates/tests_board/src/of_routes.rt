@@ -226,7 +226,7 @@ fn crossing_nets_get_least_walks_and_a_later_pass_rips_what_is_in_the_way(rt: Ho
 // ---- two pins that face each other, on two layers
 
 /// The lines of a report up to its passes: of one net, of two, of none and of three.
-const ONE_NET: &str = "board T
+pub(crate) const ONE_NET: &str = "board T
 layers 2 nets 1 pins 2
 grid 1000000 nodes 162
 dropped 0
@@ -256,7 +256,7 @@ drop 577
 notes 0
 ";
 
-const THREE_NETS: &str = "board T
+pub(crate) const THREE_NETS: &str = "board T
 layers 2 nets 3 pins 2
 grid 1000000 nodes 162
 dropped 0
@@ -264,7 +264,7 @@ notes 0
 ";
 
 /// The sessions of the two pins on two layers, up to their nets, and after them.
-const PAIR_SESSION: &str = "(session T
+pub(crate) const PAIR_SESSION: &str = "(session T
   (base_design T)
   (placement
     (resolution um 10)
@@ -287,7 +287,7 @@ const PAIR_SESSION: &str = "(session T
 ";
 
 /// Net A's wire on the front and on the back.
-const FACING: &str = "      (net A
+pub(crate) const FACING: &str = "      (net A
         (wire (path F.Cu 2000 20000 50000 80000 50000))
       )
 ";
@@ -297,7 +297,7 @@ const ON_BACK: &str = "      (net A
       )
 ";
 
-const JOINED: &str = "pass 1 commits 1 open 0
+pub(crate) const JOINED: &str = "pass 1 commits 1 open 0
 kept 1
 joins 0
 net A complete
@@ -305,7 +305,7 @@ complete 1 open 0
 ";
 
 /// The rest of the report where a wall parts the two pins on all layers.
-const PARTED: &str = "pass 1 commits 0 open 1
+pub(crate) const PARTED: &str = "pass 1 commits 0 open 1
 kept 1
 joins 0
 net A open 2
@@ -357,7 +357,7 @@ const WALL_ON_FRONT: (&str, &str) = (
     "    (keepout W (rect F.Cu 4900 0 5100 10000))\n    (via V)\n",
 );
 
-const WALL: (&str, &str) = (
+pub(crate) const WALL: (&str, &str) = (
     "    (via V)\n",
     "    (keepout W (rect signal 4900 0 5100 10000))\n    (via V)\n",
 );
@@ -395,7 +395,7 @@ const WITH_TOO_NEAR: &str = "      (net A
 ";
 
 /// Fixed wires of both nets, and what they are in a session.
-const FIXED: [(&str, &str); 3] = [
+pub(crate) const FIXED: [(&str, &str); 3] = [
     ON_FRONT,
     NETS_B_AND_C,
     (
@@ -437,7 +437,7 @@ net B complete
 complete 2 open 0
 ";
 
-const ALL_COMPLETE: &str = "pass 1 commits 1 open 0
+pub(crate) const ALL_COMPLETE: &str = "pass 1 commits 1 open 0
 kept 1
 joins 0
 net A complete

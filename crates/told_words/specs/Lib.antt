@@ -1,1 +1,2 @@
+pub mod PinNames
 pub mod Stops

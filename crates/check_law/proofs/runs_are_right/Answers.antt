@@ -14,6 +14,7 @@ use Rattle.session_law.proofs.ToldBoards.{is_routed}
 use Rattle.route_check.specs.Board.{board_of}
 use Rattle.route_check.specs.Judged.{IsRight}
 use Rattle.check_law.specs.Written.{AreSmall, IsWritten}
+use Rattle.check_law.proofs.Judging.{judged_yes}
 use Rattle.check_law.proofs.Whole.{run_written}
 use Rattle.check_law.proofs.runs_are_right.Goals as goal
 
@@ -33,21 +34,13 @@ returns c = λ text d grid r b facts omit xs answer has workers from to few run 
     from to own_few own_small own_reads) has few run small reads in
     let sound : All (IsItemSound d) xs = subst (All (IsItemSound d)) (sym session.session.items_are)
     (session_sound d session.tree written.sound.parts session.session.none_refused) in
-    let right = c.written_is_right.ensures d b.items
-    (filter is_routed b.items) omit xs facts judged.found written sound
-    judged.islands in
-    c.right_is_yes.ensures
-    (record {
+    judged_yes c.right_is_yes.ensures d xs (report_of d (lattice_of d grid) b.items facts false) (λ found islands.
+    subst (λ (g : ℕ). IsRight (record {
       design = d;
       items = board_of d xs;
-      found = judged.found;
-      report = report_of d (lattice_of d grid) b.items facts false;
-    })
-    answer
-    (subst (λ (g : ℕ). IsRight (record {
-      design = d;
-      items = board_of d xs;
-      found = judged.found;
+      found = found;
       report = report_of d (lattice_of d g) b.items facts false;
-    })) run.facts_are.grid_is right)
-    judged.answers
+    }))
+    run.facts_are.grid_is
+    (c.written_is_right.ensures d b.items (filter is_routed b.items) omit xs facts found written sound islands))
+    answer judged

@@ -16,7 +16,7 @@ use Rattle.clap.specs.declared.error.Error.{Error}
 use Rattle.clap.specs.declared.error.kind.ErrorKind.{ErrorKind}
 use Rattle.clap.specs.declared.error.kind.ErrorKind.TheVariants.{OutOfMemory}
 use Rattle.route_words.specs.Parts.{Form, Part, Word, fit, has, names_in, parts_of, value_in}
-use Rattle.route_words.specs.Words.{gen_form, knobs_in, route_form}
+use Rattle.route_words.specs.Words.{check_form, gen_form, knobs_in, route_form}
 use Rattle.route_words.specs.declared.command.Knobs.{Knobs}
 use Rattle.route_words.specs.declared.command.WordFault.{WordFault}
 use Rattle.route_words.specs.declared.command.WordFault.TheVariants.{Usage, Memory}
@@ -50,6 +50,12 @@ route_args = named (codes "input") ∷ named (codes "output") ∷ valued (codes 
 
 abbrev pub route_app : App
 route_app = with_rules bare_app route_args
+
+abbrev pub check_args : List Rule
+check_args = named (codes "input") ∷ named (codes "session") ∷ named (codes "report") ∷ []
+
+abbrev pub check_app : App
+check_app = with_rules bare_app check_args
 
 abbrev pub gen_app : App
 gen_app = with_rule bare_app (named (codes "number"))
@@ -101,6 +107,12 @@ pub record HoldsRoute (parts : List Part) (f : Found) : Type 0 where
 
 abbrev pub FindsRoute : List Word → Result ArgMatches WordFault → Type 0
 FindsRoute = Finds route_form HoldsRoute
+
+abbrev pub HoldsCheck : List Part → Found → Type 0
+HoldsCheck = Holds check_form (codes "input" ∷ codes "session" ∷ codes "report" ∷ [])
+
+abbrev pub FindsCheck : List Word → Result ArgMatches WordFault → Type 0
+FindsCheck = Finds check_form HoldsCheck
 
 abbrev pub HoldsGen : List Part → Found → Type 0
 HoldsGen = Holds gen_form (codes "number" ∷ [])

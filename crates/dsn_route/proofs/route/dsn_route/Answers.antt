@@ -1,8 +1,11 @@
-use Rattle.std.proofs.Common.{Err, refl, sym}
+use Rattle.std.proofs.Common.{Err, refl, sym, ◌∙◌}
 use Rattle.dsn_route.specs.declared.status.Status.TheVariants.{Usage}
 use Rattle.dsn_route.specs.Lines.{usage_line}
 use Rattle.dsn_route.proofs.Ended.{stopped}
-use Rattle.dsn_route.proofs.Dues.{absent_due, refused_due, over_due, nodes_due, complete_due}
+use Rattle.dsn_route.proofs.Dues.{absent_due, long_due, refused_due, over_due, nodes_due, complete_due}
+use Rattle.dsn_route.proofs.Checked.{clean_due, judged_due, rejected_due}
+use Rattle.dsn_route.proofs.Knobbed.{is_readable, is_yes}
+use Rattle.dsn_route.proofs.Vouching.{vouched_for}
 use Rattle.dsn_route.proofs.Wording.{misworded}
 use Rattle.dsn_route.proofs.route.dsn_route.Goals as goal
 
@@ -16,7 +19,11 @@ returns-in-Some-clause-answers g c =
 
 pub returns-in-Ok-clause-absent : goal.returns-in-Ok-clause-absent
 returns-in-Ok-clause-absent g c = λ missing.
-    absent_due _ _ _ _ _ c.in-Ok.command c.in-Ok.ensures.says missing _ c.route.ensures
+    absent_due _ _ _ _ _ c.in-Ok.command c.in-Ok.ensures.says _ c.route.ensures missing
+
+pub returns-in-Ok-clause-limit : goal.returns-in-Ok-clause-limit
+returns-in-Ok-clause-limit g c = λ text held long.
+    long_due _ _ _ _ _ c.in-Ok.command c.in-Ok.ensures.says _ c.route.ensures text held long
 
 pub returns-in-Ok-clause-refused : goal.returns-in-Ok-clause-refused
 returns-in-Ok-clause-refused g c = λ text read unfit.
@@ -34,3 +41,24 @@ pub returns-in-Ok-clause-complete : goal.returns-in-Ok-clause-complete
 returns-in-Ok-clause-complete g c = λ text read routable calm.
     complete_due c.one_outcome.ensures _ _ _ _ _ text c.in-Ok.command c.in-Ok.ensures.says read _ c.route.ensures
     routable calm
+
+pub returns-in-Ok-clause-rejected : goal.returns-in-Ok-clause-rejected
+returns-in-Ok-clause-rejected g c = λ d told place held none.
+    rejected_due c.one_outcome.ensures _ _ _ _ d told _ c.in-Ok.command c.in-Ok.ensures.says _ c.route.ensures
+    c.one_session.ensures held place none
+
+pub returns-in-Ok-clause-judged : goal.returns-in-Ok-clause-judged
+returns-in-Ok-clause-judged g c = λ d told page held few calm.
+    judged_due c.one_outcome.ensures _ _ _ _ d told _ c.in-Ok.command c.in-Ok.ensures.says _ c.route.ensures page held
+    few calm
+
+pub returns-in-Ok-clause-clean : goal.returns-in-Ok-clause-clean
+returns-in-Ok-clause-clean g c = λ d told page held run calm.
+    clean_due c.one_outcome.ensures _ _ _ _ d told _ c.in-Ok.command c.in-Ok.ensures.says _ c.route.ensures page held
+    calm (is_readable held.first.text d held.first.reads told page run c.runs_read_back.ensures)
+    (is_yes held.first.text d held.first.reads told page run c.runs_are_right.ensures)
+
+pub returns-in-Ok-clause-vouched : goal.returns-in-Ok-clause-vouched
+returns-in-Ok-clause-vouched g c = λ input session page is status.
+    vouched_for c.right_is_vouched.ensures input session page _ _ _ _ c.in-Ok.command _
+    (sym c.in-Ok.ensures.says ∙ is) status c.route.ensures

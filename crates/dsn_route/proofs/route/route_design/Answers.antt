@@ -1,4 +1,4 @@
-use Rattle.std.proofs.Common.{Ok, inr, refl, ap}
+use Rattle.std.proofs.Common.{Ok, inl, inr, refl, ap}
 use Rattle.dsn_route.specs.declared.status.Status.TheVariants.{Limit}
 use Rattle.dsn_route.specs.Lines.{nodes_line}
 use Rattle.dsn_route.proofs.Ended.{stopped, routed}
@@ -7,6 +7,7 @@ use Rattle.dsn_route.proofs.route.route_design.Goals as goal
 pub returns-in-Ok : goal.returns-in-Ok
 returns-in-Ok g c =
     routed c.args.command.now _ _ _ _ c.args.text.now c.args.design c.requires.is_text c.requires.reads
+    c.requires.order.routes
     c.route_on-outcome.result.routed c.route_on-outcome.result.status c.route_on-outcome.ensures
 
 pub returns-in-Err-TooManyNodes : goal.returns-in-Err-TooManyNodes
@@ -14,11 +15,12 @@ returns-in-Err-TooManyNodes g c =
     let gives = rw (c.in-Err-TooManyNodes.field-0-is, c.knobs_of.ensures) at c.in-Err-TooManyNodes.ensures.lattice in
     rw (c.unrouted.ensures, c.ended.ensures)
     (stopped (Ok c.args.command.now) _ _ _ _ _ Limit (nodes_line c.in-Err-TooManyNodes.count)
-    (inr (inr (record {
+    (inr (inr (inl (record {
       text = c.args.text.now;
       design = c.args.design;
       is_text = c.requires.is_text;
       reads = c.requires.reads;
+      routes = c.requires.order.routes;
       many = gives.1;
       line_is = ap nodes_line gives.0;
-    }))) refl c.say_nodes.ensures)
+    })))) refl c.say_nodes.ensures)

@@ -6,6 +6,7 @@ use Rattle.dsn_route.proofs.route.route_on.Goals as goal
 pub write_out-status-requires : goal.write_out-status-requires
 write_out-status-requires g c =
     record {
+      routes = c.requires.order.routes;
       lattice = c.requires.lattice
           ∙ ap (λ (d : Design). mesh_of c.args.command.now d) (sym c.in-Ok.ensures.design_is);
     }

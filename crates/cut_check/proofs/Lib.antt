@@ -1,0 +1,6 @@
+mod Stretching
+mod Marking
+mod Single
+pub mod Outgoing
+mod Sizing
+mod Anchoring

@@ -1,0 +1,15 @@
+use Rattle.std.proofs.lemmas.List.Filters.{dedup_is}
+use Rattle.std.proofs.lemmas.List.Kept.{Contains-dedup_nat, Contains-from_dedup}
+use Rattle.std.proofs.lemmas.List.Sorted.{Contains-permutation, IsPermutation-sym}
+use Rattle.std.proofs.lemmas.Map.Keys.{IsStrictlyIncreasing-dedup}
+use Rattle.cut_check.proofs.marks.sorted.Goals as goal
+
+pub returns : goal.returns
+returns c =
+    let is = dedup_is _ _ _ c.dedup.ensures.filtered in
+    let moved = c.sort_unstable.ensures.permutation in
+    record {
+      ascends = rw is (IsStrictlyIncreasing-dedup _ c.sort_unstable.ensures.sorted);
+      only = λ v h. Contains-permutation _ _ v (IsPermutation-sym _ _ moved) (Contains-from_dedup _ _ v (rw is at h));
+      all = λ v h. rw is (Contains-dedup_nat _ v (Contains-permutation _ _ v moved h));
+    }

@@ -1,0 +1,4 @@
+pub mod Stretches
+pub mod Sizes
+pub mod Marks
+pub mod inner

@@ -341,11 +341,11 @@ keeps_routed d (a ∷ routed) h =
     (All-head (IsWired d) a routed h).routed
     ∙ ap (λ (xs : List Item). a ∷ xs) (keeps_routed d routed (All-tail (IsWired d) a routed h))
 
-abbrev nets_of : Design → List ℕ
+abbrev pub nets_of : Design → List ℕ
 nets_of d = range_with_len 0 (length d.nets)
 
 -- what is left is of the routed wiring
-left_is : (d : Design) (items routed : List Item) (xs : List SesItem) → IsSource d items routed false xs
+pub left_is : (d : Design) (items routed : List Item) (xs : List SesItem) → IsSource d items routed false xs
     → map told (left_of d.fixed xs) ≡ wiring (nets_of d) routed
 left_is d items routed xs s =
     told_left d.fixed xs

@@ -7,6 +7,7 @@ use Rattle.std.specs.List.{flat_map}
 use Rattle.std.proofs.lemmas.List.{length-map}
 use Rattle.std.proofs.lemmas.List.Elements.{All-cons, All-contains_itself, All-nil, Contains-append_left}
 use Rattle.geo_kernel.specs.declared.point.Point.{Point}
+use Rattle.geo_kernel.specs.Spine.{closed}
 use Rattle.pcb_model.specs.declared.design.Design.{Design}
 use Rattle.pcb_model.specs.declared.design.Padstack.{Padstack}
 use Rattle.pcb_model.specs.declared.item.Item.{Item}
@@ -17,13 +18,11 @@ use Rattle.dsn_design.specs.declared.parts.Parts.{Parts}
 use Rattle.dsn_design.specs.Copper.{below}
 use Rattle.dsn_design.specs.Items.{ban_item, component_items, edge_item, edge_pieces, fixed_wiring, loops_of}
 use Rattle.dsn_design.specs.Items.{numbered_from, with_id}
-use Rattle.dsn_design.specs.Items as items
 use Rattle.dsn_design.specs.Made.{board_layer, bounds_of, design_from, design_with}
 use Rattle.dsn_design.specs.Pins.{layer_count, placed_components}
 use Rattle.dsn_design.specs.Reading.{HasDesign}
 use Rattle.dsn_design.proofs.FixedItems.{unnumbered}
 use Rattle.dsn_design.proofs.FixedSound.{fixed_are}
-use Rattle.turned_chain.specs.Turned.{closed}
 use Rattle.copper_alike.specs.Twins.{HasEdges, IsEdge}
 use Rattle.check_law.proofs.Lists.{flat, in_range, mapped}
 
@@ -45,11 +44,6 @@ has_numbered id (b ∷ xs) a h = elim (in_cons b a xs h) [
       record { id = r.id; there = in_later (with_id id b) (with_id r.id a) (numbered_from (id + 1) xs) r.there }
 ]
 
--- a loop is closed in one way
-same_closed : (loop : List Point) → items.closed loop ≡ closed loop
-same_closed [] = refl
-same_closed (p ∷ ps) = refl
-
 -- the edge of a boundary is one
 edge_of : (n id : ℕ) (s : LayerShape) → IsEdge n (loops_of s.spine) (with_id id (edge_item n s))
 unfolding edge_item
@@ -61,10 +55,8 @@ edge_of n id s = record {
     flat (edge_pieces (below n) s.width) (loops_of s.spine) (get_or (loops_of s.spine) i x)
         (wire_piece layer s.width (closed (get_or (loops_of s.spine) i x)))
         (All-contains_itself (loops_of s.spine) i x lt)
-        (subst (λ (c : List Point). Contains (edge_pieces (below n) s.width (get_or (loops_of s.spine) i x))
-        (wire_piece layer s.width c)) (same_closed (get_or (loops_of s.spine) i x))
-        (mapped (λ (l : ℕ). wire_piece l s.width (items.closed (get_or (loops_of s.spine) i x))) (below n) layer
-        (in_range 0 n layer (omega arith) (omega (arith, within))))),
+        (mapped (λ (l : ℕ). wire_piece l s.width (closed (get_or (loops_of s.spine) i x))) (below n) layer
+        (in_range 0 n layer (omega arith) (omega (arith, within)))),
   );
 }
 

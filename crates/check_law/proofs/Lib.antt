@@ -10,5 +10,6 @@ pub mod Right
 pub mod Edges
 pub mod Fixed
 pub mod Routed
+pub mod Sourced
 pub mod Whole
 pub mod Judging

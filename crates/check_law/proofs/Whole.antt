@@ -1,25 +1,23 @@
 -- A run of a design that was read, its session read back, and its report.
-use Rattle.std.proofs.Common.{◌≡◌, ◌⊎◌, ◌∙◌, inl, inr, ℕ, suc, ◌+◌, ◌-◌, ◌<◌, ◌≤◌, Bool, true, List, [], ◌∷◌, All}
+use Rattle.std.proofs.Common.{◌≡◌, ◌⊎◌, ◌∙◌, inl, inr, ℕ, suc, ◌+◌, ◌-◌, ◌<◌, ◌≤◌, Bool, List, [], ◌∷◌, All}
 use Rattle.std.proofs.Common.{Some}
 use Rattle.std.proofs.Common.{ap, arith, filter, get_or, length, map, refl, subst, sym}
-use Rattle.std.specs.Prelude.{Contains, slice_get}
-use Rattle.std.proofs.lemmas.List.Elements.{All-contains, All-nil}
+use Rattle.std.specs.Prelude.{slice_get}
+use Rattle.std.proofs.lemmas.List.Elements.{All-nil}
 use Rattle.std.proofs.lemmas.Option.{slice_get-get_or}
 use Rattle.pcb_model.specs.declared.item.Item.{Item}
 use Rattle.pcb_model.specs.declared.design.Design.{Design}
 use Rattle.pcb_model.specs.Pairs.{AreTouching}
-use Rattle.pcb_model.specs.Board.{IsLegal, IsMade, IsRouted}
+use Rattle.pcb_model.specs.Board.{IsLegal}
 use Rattle.pcb_model.specs.Copper.{Ascends}
 use Rattle.pcb_model.specs.Sound.{Serves}
 use Rattle.pcb_islands.specs.Islands.{pins_of}
-use Rattle.pcb_islands.proofs.Elements.{in_filter}
 use Rattle.pcb_islands.proofs.Gathering.{island_at}
 use Rattle.pcb_islands.proofs.Whole.{whole}
 use Rattle.route_lattice.specs.Mesh.{Mesh, node_count}
 use Rattle.route_lattice.specs.Whole.{lattice_of}
 use Rattle.route_lattice.specs.declared.limits.TheConstants.{MOST_NODES}
 use Rattle.cut_certificate.specs.declared.cut.Cut.{Cut}
-use Rattle.board_offers.proofs.Lists.{all_from, not_true, passes}
 use Rattle.pcb_board.specs.Boards.{BoardOf}
 use Rattle.pcb_board.specs.Keeping.{IsBoard}
 use Rattle.closing_pass.specs.Closing.{Ends}
@@ -31,13 +29,12 @@ use Rattle.dsn_design.specs.Reading.{HasDesign}
 use Rattle.ses_reader.specs.declared.item.SesItem.{SesItem}
 use Rattle.session_law.specs.Back.{printed_wiring, told}
 use Rattle.session_law.specs.Wired.{HasWiring}
-use Rattle.session_law.proofs.ToldBoards.{is_routed, items_are}
-use Rattle.check_law.specs.Written.{AreSmall, IsSource, IsWired, IsWritten, NetEnds}
+use Rattle.session_law.proofs.ToldBoards.{is_routed}
+use Rattle.check_law.specs.Written.{AreSmall, IsWritten, NetEnds}
 use Rattle.check_law.proofs.Edges.{edges_of_read}
 use Rattle.check_law.proofs.Ends.{AreEndsFrom, AreOf, all_of, own_cuts}
-use Rattle.check_law.proofs.Fixed.{fixed_kinds}
 use Rattle.check_law.proofs.Lists.{there}
-use Rattle.check_law.proofs.Routed.{IsWiring, routed_wiring}
+use Rattle.check_law.proofs.Sourced.{source}
 
 -- ---- the cuts of the nets
 -- those with which a net ends are its own
@@ -117,44 +114,6 @@ module _ (touch_back : (a b : Item) → AreTouching a b → AreTouching b a) (te
         ];
       }
 
-  -- ---- the copper
-  -- a routed item is wiring of a net
-  wired : (a : Item) → Contains (filter is_routed b.items) a → IsWired d a
-  wired a h =
-      let routed : IsRouted a = not_true a.fixed (passes is_routed b.items a h) in
-      let on_board : Contains b.items a = in_filter is_routed b.items a h in
-      let made = All-contains (λ (x : Item). IsRouted x → IsMade d x) b.items a legal.made on_board routed in
-      record {
-        routed = routed;
-        net = made.net;
-        net_is = ap (λ (x : Item). x.net) made.made;
-        within = made.net_there;
-        copper = (All-contains IsWiring b.items a (routed_wiring b board) on_board).copper routed;
-        of_metal = record {
-          kind = ap (λ (x : Item). x.kind) made.made;
-          pieces = ap (λ (x : Item). x.pieces) made.made;
-        };
-      }
-
-  -- fixed items are fixed
-  fixed_there : All (λ (a : Item). a.fixed ≡ true) d.fixed
-  fixed_there = λ i x within.
-      (board.sound.fixed i (get_or d.fixed i x) (slice_get-get_or d.fixed i x within)).fixed
-
-  -- what a session of the board is read from
-  source : (omit : Bool) (xs : List SesItem) → map told xs ≡ printed_wiring d b.items omit
-      → IsSource d b.items (filter is_routed b.items) omit xs
-  source omit xs reads = record {
-    items_are = items_are b board serve.fixed_there up;
-    fixed = fixed_there;
-    fixed_copper = λ i x within copper. record {
-      kind = (fixed_kinds text d has i x within).kind copper;
-      pieces = (wiring.fixed i x within).pieces (fixed_there i x within) copper;
-    };
-    wired = all_from (IsWired d) (filter is_routed b.items) wired;
-    reads = reads;
-  }
-
   -- ---- the whole
   one_grid : facts.grid ≡ grid
   one_grid = run.facts_are.grid_is
@@ -171,7 +130,7 @@ module _ (touch_back : (a b : Item) → AreTouching a b → AreTouching b a) (te
     legal = legal;
     rise = up;
     serve = serve;
-    source = source omit xs reads;
+    source = source text b board has legal up serve wiring omit xs reads;
     grid_from = subst (λ (n : ℕ). 1000 ≤ n) (sym one_grid) from;
     grid_to = subst (λ (n : ℕ). n ≤ 409600000) (sym one_grid) to;
     nodes_are = one_count ∙ ap (λ (g : ℕ). node_count (lattice_of d g)) (sym one_grid);

@@ -10,8 +10,8 @@ use Rattle.std.proofs.lemmas.Option.{slice_get_within, slice_get_cases}
 use Rattle.std.specs.Option.{IsSomeAnd}
 use Rattle.pcb_model.specs.declared.design.BoardLayer.{BoardLayer}
 use Rattle.geo_kernel.specs.declared.point.Point.{Point}
-use Rattle.geo_kernel.specs.Spine.{BeginInside}
-use Rattle.turned_chain.specs.Turned.{closed, KeepsFromEdges}
+use Rattle.geo_kernel.specs.Spine.{BeginInside, closed}
+use Rattle.turned_chain.specs.Turned.{KeepsFromEdges}
 use Rattle.turned_chain.proofs.Turned.{turned_inside}
 use Rattle.pcb_model.specs.declared.item.Kind.{Kind}
 use Rattle.pcb_model.specs.declared.item.Kind.TheVariants as kind

@@ -1,12 +1,12 @@
 -- Copper that is the same up to ids, the direction of chains, and whether it is fixed.
 use Rattle.std.specs.Prelude.{◌≡◌, ◌⊎◌, ◌<◌, ℕ, true, List, [], ◌∷◌, reverse, length, All, Contains, None}
 use Rattle.geo_kernel.specs.declared.point.Point.{Point}
+use Rattle.geo_kernel.specs.Spine.{closed}
 use Rattle.pcb_model.specs.declared.item.Metal.TheVariants.{Wire, Ban}
 use Rattle.pcb_model.specs.declared.item.Item.{Item}
 use Rattle.pcb_model.specs.declared.design.Design.{Design}
 use Rattle.pcb_model.specs.Pieces.{wire_piece}
 use Rattle.pcb_model.specs.Board.{IsRouted}
-use Rattle.turned_chain.specs.Turned.{closed}
 
 -- two wires, the one from its other end
 pub record AreTurned (a b : Item) : Type 0 where

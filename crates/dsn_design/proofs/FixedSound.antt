@@ -10,7 +10,7 @@ use Rattle.geo_kernel.specs.declared.point.Point.{Point}
 use Rattle.geo_kernel.specs.declared.spine.Spine.{Spine}
 use Rattle.geo_kernel.specs.declared.spine.Spine.TheVariants.{Chain, Area}
 use Rattle.geo_kernel.specs.Plane.{IsWithin}
-use Rattle.geo_kernel.specs.Spine.{IsSpineWithin, IsWellFormed}
+use Rattle.geo_kernel.specs.Spine.{IsSpineWithin, IsWellFormed, closed}
 use Rattle.pcb_model.specs.declared.item.Item.{Item}
 use Rattle.pcb_model.specs.declared.item.Metal.{Metal}
 use Rattle.pcb_model.specs.declared.item.Metal.TheVariants.{Wire, Via, Pad, Ban}
@@ -39,7 +39,7 @@ use Rattle.dsn_wiring.specs.Sound.{IsCopperSound, IsStackNear, IsWireSound, IsWi
 use Rattle.dsn_wiring.proofs.Sound.{at_place, copper_fit, shapes_at_place}
 use Rattle.dsn_design.specs.declared.parts.Parts.{Parts}
 use Rattle.dsn_design.specs.Copper.{below, piece_on, pieces_of, stack_pieces}
-use Rattle.dsn_design.specs.Items.{ban_item, closed, edge_item, edge_pieces, loops_of, pad_item, pad_pieces, placed_ban}
+use Rattle.dsn_design.specs.Items.{ban_item, edge_item, edge_pieces, loops_of, pad_item, pad_pieces, placed_ban}
 use Rattle.dsn_design.specs.Items.{wiring_item, wiring_pieces, with_id, numbered_from}
 use Rattle.dsn_design.specs.Made.{ArePadstacksOf, board_layer, design_from, design_with}
 use Rattle.dsn_design.specs.Pins.{image_bans, layer_count, net_of_pin, pin_ref}

@@ -6,6 +6,7 @@ use Rattle.std.specs.Option.{option_map_or}
 use Rattle.geo_kernel.specs.declared.point.Point.{Point}
 use Rattle.geo_kernel.specs.declared.spine.Spine.{Spine}
 use Rattle.geo_kernel.specs.declared.spine.Spine.TheVariants.{Chain, Area}
+use Rattle.geo_kernel.specs.Spine.{closed}
 use Rattle.pcb_model.specs.declared.item.Piece.{Piece}
 use Rattle.pcb_model.specs.declared.item.Kind.{Kind}
 use Rattle.pcb_model.specs.declared.item.Kind.TheVariants as kind
@@ -47,11 +48,7 @@ abbrev pub loops_of : Spine → List (List Point)
 loops_of (Area loops) = loops
 loops_of (Chain points) = points ∷ []
 
--- a loop as a chain that ends where it begins
-abbrev pub closed : List Point → List Point
-closed [] = []
-closed (p ∷ ps) = (p ∷ ps) ++ p ∷ []
-
+-- the edge of a loop on layers
 abbrev pub edge_pieces : List ℕ → ℕ → List Point → List Piece
 edge_pieces layers width loop = map (λ layer. wire_piece layer width (closed loop)) layers
 

@@ -1,4 +1,4 @@
--- How a call of `check` ends, file by file.
+-- How a call ends that reads a session, file by file.
 use Rattle.std.proofs.Common.{◌≡◌, inl, inr, ℕ, refl, List, All, Result, Ok, Err}
 use Rattle.desk_io.specs.States.{DeskState, SinkState}
 use Rattle.desk_io.specs.Answers.{IsAbsent, IsTooLong, DeskFaulted, ReadGives}
@@ -22,12 +22,12 @@ use Rattle.route_words.specs.declared.command.Command.TheVariants.{Check}
 use Rattle.dsn_route.specs.declared.status.Status.{Status}
 use Rattle.dsn_route.specs.declared.status.Status.TheVariants.{Complete, ReadFault, Limit, Rejected}
 use Rattle.dsn_route.specs.Lines.{max_bytes, check_line, check_ok_line, limit_line, nodes_line, read_fault_line}
-use Rattle.dsn_route.specs.Commands.{IsInput, IsInputOf}
+use Rattle.dsn_route.specs.Commands.{IsInput, IsInputOf, IsSessionOf}
 use Rattle.dsn_route.specs.Judging.{HasJudged, IsDesignIn, IsNoSession, IsSessionIn, OfOneFile, place_of}
 use Rattle.dsn_route.specs.Answers.{Stopped}
 use Rattle.dsn_route.specs.inner.Said.{EndsBy, EndsJudged, EndsMisread, EndsUnread}
 use Rattle.dsn_route.proofs.Ended.{ended_by, wanting}
-use Rattle.dsn_route.proofs.Wording.{unread_of, overlong_of}
+use Rattle.dsn_route.proofs.Wording.{unread_of, overlong_of, second_overlong, second_unread}
 
 -- a read that gave no text
 abbrev pub FailsBy : DeskState → DeskState → List ℕ → DeskFail → Type 0
@@ -47,10 +47,68 @@ input_unread command name desk later sink after (desk_fail.TooLong seen) status 
 input_unread command name desk later sink after (desk_fail.Memory e) status names files gives ends =
     wanting (Ok command) desk later sink after status files ends
 
+-- ---- the session that a command reads
+module _ (command : Command) (input session : List ℕ) (is_input : IsInputOf command input)
+    (is_session : IsSessionOf command session) (desk later : DeskState) (sink after : SinkState)
+    (files : later.files ≡ desk.files) (d : Design) (first : IsDesignIn input desk d) where
+  -- it gives no text
+  pub session_unread : (fail : DeskFail) (status : Status) → FailsBy desk later session fail
+      → EndsUnread fail sink after status → Stopped (Ok command) desk later sink after status
+  session_unread desk_fail.Failed status gives ends =
+      ended_by (Ok command) desk later sink after ReadFault read_fault_line status
+      (second_unread command input session desk later d is_input is_session first gives) files ends
+  session_unread (desk_fail.TooLong seen) status gives ends =
+      ended_by (Ok command) desk later sink after Limit limit_line status
+      (inl (second_overlong command input session desk d is_input is_session first gives.0)) files ends
+  session_unread (desk_fail.Memory e) status gives ends =
+      wanting (Ok command) desk later sink after status files ends
+
+  -- its text is none
+  module _ (text : List ℕ) (is_text : IsInput session desk text) (status : Status) where
+    misread : (place : ℕ) → IsNoSession text d place → EndsBy (check_line 1 place) Rejected sink after status
+        → Stopped (Ok command) desk later sink after status
+    misread place none ends =
+        ended_by (Ok command) desk later sink after Rejected (check_line 1 place) status
+        (inl (record {
+          place = place;
+          misread = record {
+            input = input;
+            session = session;
+            is_input = is_input;
+            is_session = is_session;
+            design = d;
+            of_input = first;
+            text = text;
+            is_text = is_text;
+            no_session = none;
+          };
+          line_is = refl;
+        })) files ends
+
+    pub misread_ends : (f : SesFault) → ReadsSession text d (Err f) → EndsMisread (place_of f) sink after status
+        → Stopped (Ok command) desk later sink after status
+    misread_ends (fault.Spelling (tree_fault.Memory e)) reads ends =
+        wanting (Ok command) desk later sink after status files ends
+    misread_ends (fault.Spelling (tree_fault.QuoteOpen at)) reads ends =
+        misread at (inl (tree_fault.QuoteOpen at, reads, refl)) ends
+    misread_ends (fault.Spelling (tree_fault.BadQuoteByte at)) reads ends =
+        misread at (inl (tree_fault.BadQuoteByte at, reads, refl)) ends
+    misread_ends (fault.Spelling (tree_fault.Unclosed at)) reads ends =
+        misread at (inl (tree_fault.Unclosed at, reads, refl)) ends
+    misread_ends (fault.Spelling (tree_fault.Surplus at)) reads ends =
+        misread at (inl (tree_fault.Surplus at, reads, refl)) ends
+    misread_ends (fault.Spelling (tree_fault.TooDeep at)) reads ends =
+        misread at (inl (tree_fault.TooDeep at, reads, refl)) ends
+    misread_ends (fault.Spelling tree_fault.Empty) reads ends =
+        misread 0 (inl (tree_fault.Empty, reads, refl)) ends
+    misread_ends (fault.Refused number at) reads ends = misread at (inr (number, reads)) ends
+    misread_ends (fault.Memory e) reads ends = wanting (Ok command) desk later sink after status files ends
+
+-- ---- check
 module _ (input session report : List ℕ) (desk later : DeskState) (sink after : SinkState)
     (files : later.files ≡ desk.files) where
   -- another file gives no text, and those before it were read
-  pub file_unread : (name : List ℕ) (fail : DeskFail) (status : Status)
+  file_unread : (name : List ℕ) (fail : DeskFail) (status : Status)
       → ((P : List ℕ → Type 0) → P name → OfOneFile P input session report desk) → FailsBy desk later name fail
       → EndsUnread fail sink after status → Stopped (Ok (Check input session report)) desk later sink after status
   file_unread name desk_fail.Failed status one gives ends =
@@ -63,52 +121,6 @@ module _ (input session report : List ℕ) (desk later : DeskState) (sink after 
       wanting (Ok (Check input session report)) desk later sink after status files ends
 
   module _ (d : Design) (first : IsDesignIn input desk d) where
-    pub session_unread : (fail : DeskFail) (status : Status) → FailsBy desk later session fail
-        → EndsUnread fail sink after status → Stopped (Ok (Check input session report)) desk later sink after status
-    session_unread fail status = file_unread session fail status (λ P p. inr (d, first, inl p))
-
-    -- the session's text is none
-    module _ (text : List ℕ) (is_text : IsInput session desk text) (status : Status) where
-      misread : (place : ℕ) → IsNoSession text d place → EndsBy (check_line 1 place) Rejected sink after status
-          → Stopped (Ok (Check input session report)) desk later sink after status
-      misread place none ends =
-          ended_by (Ok (Check input session report)) desk later sink after Rejected (check_line 1 place) status
-          (inl (record {
-            place = place;
-            misread = record {
-              input = input;
-              session = session;
-              report = report;
-              command_is = refl;
-              design = d;
-              of_input = first;
-              text = text;
-              is_text = is_text;
-              no_session = none;
-            };
-            line_is = refl;
-          })) files ends
-
-      pub misread_ends : (f : SesFault) → ReadsSession text d (Err f) → EndsMisread (place_of f) sink after status
-          → Stopped (Ok (Check input session report)) desk later sink after status
-      misread_ends (fault.Spelling (tree_fault.Memory e)) reads ends =
-          wanting (Ok (Check input session report)) desk later sink after status files ends
-      misread_ends (fault.Spelling (tree_fault.QuoteOpen at)) reads ends =
-          misread at (inl (tree_fault.QuoteOpen at, reads, refl)) ends
-      misread_ends (fault.Spelling (tree_fault.BadQuoteByte at)) reads ends =
-          misread at (inl (tree_fault.BadQuoteByte at, reads, refl)) ends
-      misread_ends (fault.Spelling (tree_fault.Unclosed at)) reads ends =
-          misread at (inl (tree_fault.Unclosed at, reads, refl)) ends
-      misread_ends (fault.Spelling (tree_fault.Surplus at)) reads ends =
-          misread at (inl (tree_fault.Surplus at, reads, refl)) ends
-      misread_ends (fault.Spelling (tree_fault.TooDeep at)) reads ends =
-          misread at (inl (tree_fault.TooDeep at, reads, refl)) ends
-      misread_ends (fault.Spelling tree_fault.Empty) reads ends =
-          misread 0 (inl (tree_fault.Empty, reads, refl)) ends
-      misread_ends (fault.Refused number at) reads ends = misread at (inr (number, reads)) ends
-      misread_ends (fault.Memory e) reads ends =
-          wanting (Ok (Check input session report)) desk later sink after status files ends
-
     module _ (items : List SesItem) (second : IsSessionIn session desk d items) where
       pub report_unread : (fail : DeskFail) (status : Status) → FailsBy desk later report fail
           → EndsUnread fail sink after status

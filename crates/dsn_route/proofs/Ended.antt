@@ -5,7 +5,6 @@ use Rattle.desk_io.specs.Answers.{appended, PutGives}
 use Rattle.desk_io.specs.declared.desk.SinkFail.{SinkFail}
 use Rattle.desk_io.specs.declared.desk.SinkFail.TheVariants as sink_fail
 use Rattle.pcb_model.specs.declared.design.Design.{Design}
-use Rattle.dsn_design.specs.Reading.{HasDesign}
 use Rattle.route_words.specs.declared.command.Command.{Command}
 use Rattle.route_words.specs.declared.command.WordFault.{WordFault}
 use Rattle.route_run.specs.declared.run.Routed.{Routed}
@@ -13,7 +12,8 @@ use Rattle.dsn_route.specs.declared.status.Status.{Status}
 use Rattle.dsn_route.specs.declared.status.Status.TheVariants.{Complete, Usage, Refused, ReadFault, Limit}
 use Rattle.dsn_route.specs.declared.status.Status.TheVariants.{Rejected}
 use Rattle.dsn_route.specs.Status.{ended_of}
-use Rattle.dsn_route.specs.Commands.{AsksToRoute, IsText}
+use Rattle.dsn_route.specs.Commands.{AsksToRoute}
+use Rattle.dsn_route.specs.Judging.{IsDesignOf}
 use Rattle.dsn_route.specs.Answers.{Stops, Said, Stopped, Answers}
 use Rattle.dsn_route.specs.inner.Said.{EndsBy, IsWanting, RoutesDesign}
 
@@ -58,22 +58,20 @@ pub wanting : (command : Result Command WordFault) (desk later : DeskState) (sin
 wanting command desk later sink after status files w =
     record { files = files; said = subst (λ s. Said command desk later sink after s) (sym w.memory) w.bytes }
 
--- A text of a design that was routed, or for whose run memory was wanting, has its answer.
-pub routed : (command : Command) (desk later : DeskState) (sink after : SinkState) (text : List ℕ) (d : Design)
-    → IsText command desk text → HasDesign text d → AsksToRoute command
+-- A design that was routed, or for whose run memory was wanting, has its answer.
+pub routed : (command : Command) (desk later : DeskState) (sink after : SinkState) (d : Design)
+    → IsDesignOf command desk d → AsksToRoute command
     → (routed : Option Routed) (status : Status)
     → RoutesDesign command d desk later sink after (record { status = status; routed = routed })
     → Answers (Ok command) desk later sink after (record { status = status; routed = routed })
-routed command desk later sink after text d is_text reads routes None status left = record {
+routed command desk later sink after d is routes None status left = record {
   files = left.files;
   said = subst (λ s. Said (Ok command) desk later sink after s) (sym left.memory) left.bytes;
 }
-routed command desk later sink after text d is_text reads routes (Some made) status out = (
+routed command desk later sink after d is routes (Some made) status out = (
   record {
-    text = text;
     design = d;
-    is_text = is_text;
-    reads = reads;
+    is_design = is;
     routes = routes;
     few = out.few;
     run = out.run;

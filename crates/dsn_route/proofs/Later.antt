@@ -18,9 +18,11 @@ use Rattle.route_check.specs.declared.verdict.Verdict.{Verdict}
 use Rattle.route_check.specs.declared.verdict.Verdict.TheVariants.{Yes, No}
 use Rattle.route_check.specs.declared.verdict.JudgeFault.{JudgeFault}
 use Rattle.route_check.specs.declared.verdict.JudgeFault.TheVariants.{TooManyNodes}
-use Rattle.dsn_route.specs.Commands.{IsInput, IsText}
-use Rattle.dsn_route.specs.Judging.{HasJudged, HasMisread, IsDesignIn, IsSessionIn, OfOneFile}
+use Rattle.dsn_route.specs.Commands.{IsInput, IsText, from_of}
+use Rattle.dsn_route.specs.Judging.{HasJudged, HasMisread, IsDesignIn, IsDesignOf, IsSessionIn, IsStartedBy}
+use Rattle.dsn_route.specs.Judging.{OfOneFile}
 use Rattle.dsn_route.specs.Lines.{max_bytes}
+use Rattle.dsn_route.specs.inner.Said.{IsReadFor}
 use Rattle.dsn_route.specs.Answers.{Stops, LinePut, Said, IsUnread, IsOverlong, HasWritten, SessionFaulted}
 use Rattle.dsn_route.specs.Answers.{Leaves, Stopped, Answers}
 
@@ -76,8 +78,8 @@ module _ (desk later : DeskState) (faults : ℕ) (calm : Bool) (le : desk.faults
   misread command place m = record {
     input = m.input;
     session = m.session;
-    report = m.report;
-    command_is = m.command_is;
+    is_input = m.is_input;
+    is_session = m.is_session;
     design = m.design;
     of_input = design_in m.input m.design m.of_input;
     text = m.text;
@@ -87,13 +89,30 @@ module _ (desk later : DeskState) (faults : ℕ) (calm : Bool) (le : desk.faults
 
   is_text : (command : Command) (text : List ℕ) → IsText command (at desk.files faults calm) text
       → IsText command desk text
-  is_text (Route input output knobs) text is = input_in input text is
+  is_text (Route input output from knobs) text is = input_in input text is
   is_text (Check input session report) text is = input_in input text is
   is_text (Gen n) text is = is
 
+  started_by : (from : Option (List ℕ)) (read d : Design) → IsStartedBy from (at desk.files faults calm) read d
+      → IsStartedBy from desk read d
+  started_by None read d is = is
+  started_by (Some name) read d (items, told, is) = (items, session_in name read items told, is)
+
+  design_of : (command : Command) (d : Design) → IsDesignOf command (at desk.files faults calm) d
+      → IsDesignOf command desk d
+  design_of command d is = record {
+    text = is.text;
+    read = is.read;
+    is_text = is_text command is.text is.is_text;
+    reads = is.reads;
+    starts = started_by (from_of command) is.read d is.starts;
+  }
+
   unread : (command : Command) (line : List ℕ) → IsUnread command (at desk.files faults calm) later line
       → IsUnread command desk later line
-  unread (Route input output knobs) line (fault, is) = (faulted fault, is)
+  unread (Route input output from knobs) line (inl fault, is) = (inl (faulted fault), is)
+  unread (Route input output from knobs) line (inr (old, named, d, first, fault), is) =
+      (inr (old, named, d, design_in input d first, faulted fault), is)
   unread (Check input session report) line (one, is) = (
     one_file (λ name. DeskFaulted (at desk.files faults calm) later (IsAbsent desk.files name))
         (λ name. DeskFaulted desk later (IsAbsent desk.files name)) (λ name f. faulted f) input session report one,
@@ -103,7 +122,9 @@ module _ (desk later : DeskState) (faults : ℕ) (calm : Bool) (le : desk.faults
 
   overlong : (command : Command) (line : List ℕ) → IsOverlong command (at desk.files faults calm) line
       → IsOverlong command desk line
-  overlong (Route input output knobs) line why = why
+  overlong (Route input output from knobs) line (inl long, is) = (inl long, is)
+  overlong (Route input output from knobs) line (inr (old, named, d, first, long), is) =
+      (inr (old, named, d, design_in input d first, long), is)
   overlong (Check input session report) line (one, is) = (
     one_file (λ name. IsTooLong desk.files name max_bytes) (λ name. IsTooLong desk.files name max_bytes)
         (λ name long. long) input session report one,
@@ -113,14 +134,14 @@ module _ (desk later : DeskState) (faults : ℕ) (calm : Bool) (le : desk.faults
 
   written : (command : Command) (b : BoardOf) → HasWritten command b (at desk.files faults calm) later
       → HasWritten command b desk later
-  written (Route input output knobs) b has = has
+  written (Route input output from knobs) b has = has
   written (Check input session report) b has = absurd has
   written (Gen n) b has = has
 
   cut_short : (command : Command) (b : BoardOf) (sink after : SinkState)
       → SessionFaulted command b (at desk.files faults calm) later sink after
       → SessionFaulted command b desk later sink after
-  cut_short (Route input output knobs) b sink after s =
+  cut_short (Route input output from knobs) b sink after s =
       record { fault = faulted s.fault; kept = s.kept; files = s.files; bytes = s.bytes }
   cut_short (Check input session report) b sink after s = absurd s
   cut_short (Gen n) b sink after s = absurd s
@@ -164,10 +185,8 @@ module _ (desk later : DeskState) (faults : ℕ) (calm : Bool) (le : desk.faults
         }))
     stops Limit line (inr (inr (inl crowded))) =
         inr (inr (inl (record {
-          text = crowded.text;
           design = crowded.design;
-          is_text = is_text command crowded.text crowded.is_text;
-          reads = crowded.reads;
+          is_design = design_of command crowded.design crowded.is_design;
           routes = crowded.routes;
           many = crowded.many;
           line_is = crowded.line_is;
@@ -225,10 +244,8 @@ module _ (desk later : DeskState) (faults : ℕ) (calm : Bool) (le : desk.faults
     earlier None status s = record { files = s.files; said = said status s.said }
     earlier (Some made) status (r, l) = (
       record {
-        text = r.text;
         design = r.design;
-        is_text = is_text command r.text r.is_text;
-        reads = r.reads;
+        is_design = design_of command r.design r.is_design;
         routes = r.routes;
         few = r.few;
         run = r.run;
@@ -265,3 +282,14 @@ pub session_stays : (name : List ℕ) (desk middle : DeskState) (d : Design) (it
     → middle.files ≡ desk.files → IsSessionIn name desk d items → IsSessionIn name middle d items
 session_stays name desk middle d items same is =
     record { text = is.text; is_text = input_stays name is.text desk middle same is.is_text; reads = is.reads }
+
+pub text_stays : (command : Command) (text : List ℕ) (desk middle : DeskState) → middle.files ≡ desk.files
+    → IsText command desk text → IsText command middle text
+text_stays (Route input output from knobs) text desk middle same is = input_stays input text desk middle same is
+text_stays (Check input session report) text desk middle same is = input_stays input text desk middle same is
+text_stays (Gen n) text desk middle same is = is
+
+pub read_stays : (command : Command) (desk middle : DeskState) (read : Design) → middle.files ≡ desk.files
+    → IsReadFor command desk read → IsReadFor command middle read
+read_stays command desk middle read same is =
+    record { text = is.text; is_text = text_stays command is.text desk middle same is.is_text; reads = is.reads }

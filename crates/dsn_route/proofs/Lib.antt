@@ -5,6 +5,8 @@ mod Unread
 mod Dues
 mod Checking
 mod Checked
+mod Started
+mod Prior
 mod Knobbed
 mod Vouching
 mod Written

@@ -3,7 +3,6 @@ use Rattle.std.specs.Prelude.{◌≡◌, ◌≢◌, ◌≤◌, ◌<◌, ◌⊎�
 use Rattle.desk_io.specs.States.{DeskState, SinkState}
 use Rattle.desk_io.specs.Answers.{IsAbsent, IsTooLong, written, appended, DeskFaulted, SinkFaulted}
 use Rattle.pcb_model.specs.declared.design.Design.{Design}
-use Rattle.dsn_design.specs.Reading.{HasDesign}
 use Rattle.dsn_shapes.specs.declared.refusal.What.{What}
 use Rattle.dsn_shapes.specs.declared.refusal.What.TheVariants.{Nothing}
 use Rattle.dsn_shapes.specs.Limits.{most_of}
@@ -25,7 +24,7 @@ use Rattle.dsn_route.specs.Lines.{max_bytes, number_of, usage_line, refused_line
 use Rattle.dsn_route.specs.Lines.{over_line, nodes_line, check_line, check_ok_line}
 use Rattle.dsn_route.specs.Texts.{IsRefused, IsOverLimit}
 use Rattle.dsn_route.specs.Commands.{mesh_of, run_of, AsksToRoute, IsText, is_short}
-use Rattle.dsn_route.specs.Judging.{HasJudged, HasMisread, OfOneFile}
+use Rattle.dsn_route.specs.Judging.{HasJudged, HasMisread, IsDesignOf, OfInputs, OfOneFile}
 use Rattle.route_check.specs.declared.verdict.Verdict.TheVariants.{Yes, No}
 use Rattle.route_check.specs.declared.verdict.JudgeFault.TheVariants.{TooManyNodes}
 use Rattle.dsn_shapes.specs.declared.table.TheConstants.{BAD_PAIR}
@@ -62,16 +61,14 @@ pub record IsOverfull (command : Command) (desk : DeskState) (line : List ℕ) :
 
 -- a design whose lattice has more than 2^24 nodes, and the line that says how many
 pub record IsCrowded (command : Command) (desk : DeskState) (line : List ℕ) : Type 0 where
-  pub text : List ℕ
   pub design : Design
-  pub is_text : IsText command desk text
-  pub reads : HasDesign text design
+  pub is_design : IsDesignOf command desk design
   pub routes : AsksToRoute command
   pub many : MOST_NODES < node_count (mesh_of command design)
   pub line_is : line ≡ nodes_line (node_count (mesh_of command design))
 
--- the session or its report isn't as it should be, and the line that says which check fails, and where: the session
--- can't be read, or it was judged so
+-- a session or its report isn't as it should be, and the line that says which check fails, and where: the session, an
+-- earlier one too, can't be read, or it was judged so
 pub record IsUnfitSession (command : Command) (desk : DeskState) (line : List ℕ) : Type 0 where
   pub place : ℕ
   pub misread : HasMisread command desk place
@@ -98,8 +95,8 @@ pub record IsReportTooFine (command : Command) (desk : DeskState) (line : List �
 
 -- a file couldn't be read; a generated board has none
 abbrev pub IsUnread : Command → DeskState → DeskState → List ℕ → Type 0
-IsUnread (Route input output knobs) desk later line = DeskFaulted desk later (IsAbsent desk.files input)
-    × (line ≡ read_fault_line)
+IsUnread (Route input output from knobs) desk later line =
+    OfInputs (λ name. DeskFaulted desk later (IsAbsent desk.files name)) input from desk × (line ≡ read_fault_line)
 IsUnread (Check input session report) desk later line =
     OfOneFile (λ name. DeskFaulted desk later (IsAbsent desk.files name)) input session report desk
     × (line ≡ read_fault_line)
@@ -107,7 +104,8 @@ IsUnread (Gen n) desk later line = ⊥
 
 -- a file is longer than the limit
 abbrev pub IsOverlong : Command → DeskState → List ℕ → Type 0
-IsOverlong (Route input output knobs) desk line = IsTooLong desk.files input max_bytes × (line ≡ limit_line)
+IsOverlong (Route input output from knobs) desk line =
+    OfInputs (λ name. IsTooLong desk.files name max_bytes) input from desk × (line ≡ limit_line)
 IsOverlong (Check input session report) desk line =
     OfOneFile (λ name. IsTooLong desk.files name max_bytes) input session report desk × (line ≡ limit_line)
 IsOverlong (Gen n) desk line = ⊥
@@ -154,19 +152,17 @@ pub record Stopped (command : Result Command WordFault) (desk later : DeskState)
   pub said : Said command desk later sink after status
 
 -- ---- calls that routed
--- what was routed: the design of the text on its lattice, and the board and the facts of a run of it
+-- what was routed: the design that the command asks for on its lattice, and the board and the facts of a run of it
 pub record IsOutcome (command : Command) (desk : DeskState) (routed : Routed) : Type 0 where
-  pub text : List ℕ
   pub design : Design
-  pub is_text : IsText command desk text
-  pub reads : HasDesign text design
+  pub is_design : IsDesignOf command desk design
   pub routes : AsksToRoute command
   pub few : node_count (mesh_of command design) ≤ MOST_NODES
   pub run : IsRun design (mesh_of command design) (run_of command) routed.board routed.facts
 
 -- the files are those where all went well: the output is the session, whole, or nothing is written of a generated board
 abbrev pub HasWritten : Command → BoardOf → DeskState → DeskState → Type 0
-HasWritten (Route input output knobs) b desk later =
+HasWritten (Route input output from knobs) b desk later =
     later.files ≡ written desk.files output (session_of b.design b.items knobs.omit_fixed)
 HasWritten (Check input session report) b desk later = ⊥
 HasWritten (Gen n) b desk later = later.files ≡ desk.files
@@ -188,7 +184,7 @@ pub record IsCutShort (output session : List ℕ) (desk later : DeskState) (sink
   pub bytes : after.bytes ≡ sink.bytes
 
 abbrev pub SessionFaulted : Command → BoardOf → DeskState → DeskState → SinkState → SinkState → Type 0
-SessionFaulted (Route input output knobs) b desk later sink after =
+SessionFaulted (Route input output from knobs) b desk later sink after =
     IsCutShort output (session_of b.design b.items knobs.omit_fixed) desk later sink after
 SessionFaulted (Check input session report) b desk later sink after = ⊥
 SessionFaulted (Gen n) b desk later sink after = ⊥

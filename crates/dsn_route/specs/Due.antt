@@ -1,5 +1,5 @@
 -- Which answer is due: the causes of the answers, from the words, the files at entry and the text.
-use Rattle.std.specs.Prelude.{◌≡◌, ◌≤◌, ◌<◌, ◌⊎◌, ℕ, List, false, length, IsTrue, Result, Ok}
+use Rattle.std.specs.Prelude.{◌≡◌, ◌≤◌, ◌<◌, ◌⊎◌, ℕ, List, [], false, length, IsTrue, Result, Ok, Option, Some, None}
 use Rattle.desk_io.specs.States.{DeskState, SinkState, Rose}
 use Rattle.desk_io.specs.Answers.{IsAbsent, IsHeld}
 use Rattle.pcb_model.specs.declared.design.Design.{Design}
@@ -10,17 +10,20 @@ use Rattle.dsn_route.specs.declared.status.Status.{Status}
 use Rattle.dsn_route.specs.declared.status.Status.TheVariants.{Complete, SomeOpen, ReadFault, WriteFault, Memory}
 use Rattle.dsn_route.specs.declared.status.Status.TheVariants.{Rejected}
 use Rattle.route_words.specs.declared.command.Command.{Command}
-use Rattle.route_words.specs.declared.command.Command.TheVariants.{Check}
+use Rattle.route_words.specs.declared.command.Command.TheVariants.{Route, Check}
 use Rattle.route_words.specs.declared.command.Knobs.{Knobs}
 use Rattle.route_words.specs.declared.command.WordFault.{WordFault}
 use Rattle.dsn_route.specs.Texts.{IsRefused, IsOverLimit}
 use Rattle.dsn_route.specs.Lines.{max_bytes}
-use Rattle.dsn_route.specs.Commands.{mesh_at, mesh_of, run_at, AsksToRoute, IsInputOf, IsToldText}
+use Rattle.dsn_route.specs.Commands.{mesh_at, mesh_of, run_at, from_of, AsksToRoute, IsInputOf, IsSessionOf, IsToldText}
 use Rattle.dsn_route.specs.Judging.{case_of}
 use Rattle.pcb_board.specs.Boards.{BoardOf}
+use Rattle.pcb_board.specs.Keeping.{IsBoard}
+use Rattle.pcb_model.specs.Scale.{scale_of}
 use Rattle.pcb_islands.specs.declared.net.Island.{Island}
 use Rattle.route_run.specs.declared.facts.Facts.{Facts}
 use Rattle.route_run.specs.Runs.{IsRun}
+use Rattle.route_run.specs.declared.run.Routed.{Routed}
 use Rattle.route_report.specs.Report.{report_of}
 use Rattle.route_words.specs.Words.{AreWithin}
 use Rattle.ses_writer.specs.Session.{session_of}
@@ -30,6 +33,8 @@ use Rattle.route_check.specs.Board.{board_of}
 use Rattle.copper_check.specs.Checks.{AreAllIslands}
 use Rattle.route_check.specs.Judged.{IsTooFine as IsCaseTooFine}
 use Rattle.check_law.specs.Written.{AreSmall}
+use Rattle.session_law.specs.Told.{HaveSameCopper, IsOnScale}
+use Rattle.session_start.specs.Starting.{started}
 use Rattle.route_lattice.specs.declared.limits.TheConstants.{MOST_NODES}
 
 -- accepted words name an input, of which P holds
@@ -72,23 +77,41 @@ pub record IsOver (text : List ℕ) : Type 0 where
   pub limit : ℕ
   pub over : IsOverLimit text what limit
 
--- it is to be routed: the text is within the limit, and has a design on whose lattice, at the grid that is asked for,
--- P holds of the number of nodes
-pub record IsFit (P : ℕ → Type 0) (command : Result Command WordFault) (text : List ℕ) : Type 0 where
-  pub asked : Command
-  pub accepted : command ≡ Ok asked
-  pub routes : AsksToRoute asked
-  pub fits : length text ≤ max_bytes
-  pub design : Design
-  pub reads : HasDesign text design
-  pub nodes : P (node_count (mesh_of asked design))
+-- the desk tells the text of the earlier session, which is within the limit and is one of the design that was read;
+-- and d starts from it
+pub record IsOldHeld (name : List ℕ) (desk : DeskState) (read d : Design) : Type 0 where
+  pub told : List ℕ
+  pub held : IsHeld desk.files name told
+  pub fits : length told ≤ max_bytes
+  pub items : List SesItem
+  pub reads : HasSession told read items
+  pub design_is : d ≡ started read items
+
+-- as it is told at entry, the design that is routed, where the text has the design `read`
+abbrev pub IsStartHeld : Option (List ℕ) → DeskState → Design → Design → Type 0
+IsStartHeld None desk read d = d ≡ read
+IsStartHeld (Some name) desk read d = IsOldHeld name desk read d
+
+-- it is to be routed: the text is within the limit, and gives, with the earlier session where one is named, a design on
+-- whose lattice, at the grid that is asked for, P holds of the number of nodes
+pub record IsFit (P : ℕ → Type 0) (command : Result Command WordFault) (desk : DeskState) (text : List ℕ) : Type 0
+  where
+    pub asked : Command
+    pub accepted : command ≡ Ok asked
+    pub routes : AsksToRoute asked
+    pub fits : length text ≤ max_bytes
+    pub read : Design
+    pub reads : HasDesign text read
+    pub design : Design
+    pub starts : IsStartHeld (from_of asked) desk read design
+    pub nodes : P (node_count (mesh_of asked design))
 
 -- the lattice has more than 2^24 nodes
-abbrev pub IsTooFine : Result Command WordFault → List ℕ → Type 0
+abbrev pub IsTooFine : Result Command WordFault → DeskState → List ℕ → Type 0
 IsTooFine = IsFit (λ count. MOST_NODES < count)
 
 -- it has at most as many
-abbrev pub IsRoutable : Result Command WordFault → List ℕ → Type 0
+abbrev pub IsRoutable : Result Command WordFault → DeskState → List ℕ → Type 0
 IsRoutable = IsFit (λ count. count ≤ MOST_NODES)
 
 -- the answer that is due, or the one for a failed write or put, or for want of memory
@@ -114,15 +137,17 @@ IsDone SomeOpen = Unit {0}
 IsDone Memory = Unit {0}
 IsDone status = ⊥
 
--- ---- check
--- accepted words ask to judge; the desk tells the texts of the design and of the session, which are within the limit,
--- and this is the design
+-- ---- sessions that are read
+-- accepted words ask to read a session; the desk tells the texts of the design and of the session, which are within the
+-- limit, and this is the design
 pub record IsSessionHeld (command : Result Command WordFault) (desk : DeskState) (d : Design) (told : List ℕ) : Type
     0 where
+  pub asked : Command
+  pub accepted : command ≡ Ok asked
   pub input : List ℕ
   pub session : List ℕ
-  pub report : List ℕ
-  pub accepted : command ≡ Ok (Check input session report)
+  pub is_input : IsInputOf asked input
+  pub is_session : IsSessionOf asked session
   pub text : List ℕ
   pub held : IsHeld desk.files input text
   pub fits : length text ≤ max_bytes
@@ -130,13 +155,37 @@ pub record IsSessionHeld (command : Result Command WordFault) (desk : DeskState)
   pub told_held : IsHeld desk.files session told
   pub told_fits : length told ≤ max_bytes
 
--- and so it is with the text of the report
+-- they ask to judge it, and so it is with the text of the report
 pub record AreHeld (command : Result Command WordFault) (desk : DeskState) (d : Design) (told page : List ℕ) : Type 0
   where
     pub first : IsSessionHeld command desk d told
-    pub held : IsHeld desk.files first.report page
+    pub report : List ℕ
+    pub judges : first.asked ≡ Check first.input first.session report
+    pub held : IsHeld desk.files report page
     pub fits : length page ≤ max_bytes
 
+-- ---- earlier sessions
+-- Accepted words start from an earlier session, and the desk tells the texts of the design and of that session. It is
+-- the session, with the fixed wiring, of this board of the design, whose routed copper is on scale.
+pub record IsFromBoard (command : Result Command WordFault) (desk : DeskState) (b : BoardOf) : Type 0 where
+  pub input : List ℕ
+  pub output : List ℕ
+  pub from : List ℕ
+  pub knobs : Knobs
+  pub accepted : command ≡ Ok (Route input output (Some from) knobs)
+  pub text : List ℕ
+  pub held : IsHeld desk.files input text
+  pub reads : HasDesign text b.design
+  pub board : IsBoard b
+  pub on_scale : IsOnScale (scale_of b.design).nm b.items
+  pub session : IsHeld desk.files from (session_of b.design b.items false)
+
+-- nothing of it is dropped, and the start board has its routed copper
+pub record ComesBack (b : BoardOf) (routed : Routed) : Type 0 where
+  pub none_dropped : routed.facts.dropped ≡ []
+  pub copper : HaveSameCopper b.design b.items routed.board.start
+
+-- ---- check
 -- the lattice of the report's grid has at most 2^24 nodes
 abbrev pub HasFewNodes : Design → List ℕ → List ℕ → Type 0
 HasFewNodes d told page = (items : List SesItem) (found : List (List Island)) (count : ℕ) → HasSession told d items

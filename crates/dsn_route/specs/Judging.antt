@@ -1,4 +1,4 @@
--- What `check` reads and judges.
+-- What is read beside the design's text, the design that is routed, and what `check` judges.
 use Rattle.std.specs.Prelude.{◌≡◌, ◌⊎◌, ℕ, List, All, Option, None, Some, option_map, Result}
 use Rattle.desk_io.specs.States.{DeskState}
 use Rattle.pcb_model.specs.declared.design.Design.{Design}
@@ -20,7 +20,8 @@ use Rattle.copper_check.specs.Checks.{AreAllIslands}
 use Rattle.route_check.specs.Judged.{Case, IsVouched, Judges}
 use Rattle.route_words.specs.declared.command.Command.{Command}
 use Rattle.route_words.specs.declared.command.Command.TheVariants.{Check}
-use Rattle.dsn_route.specs.Commands.{IsInput}
+use Rattle.session_start.specs.Starting.{started}
+use Rattle.dsn_route.specs.Commands.{IsInput, IsInputOf, IsSessionOf, IsText, from_of}
 use Rattle.dsn_route.specs.Texts.{tree_refusal}
 
 -- ---- what is read
@@ -50,13 +51,45 @@ abbrev pub IsNoSession : List ℕ → Design → ℕ → Type 0
 IsNoSession text d place =
     ((f : TreeFault) × HasFault text f × (tree_place f ≡ Some place)) ⊎ ((number : ℕ) × HasRefusal text d number place)
 
+-- the design was read, and the session that the command reads can't be
+pub record HasMisread (command : Command) (desk : DeskState) (place : ℕ) : Type 0 where
+  pub input : List ℕ
+  pub session : List ℕ
+  pub is_input : IsInputOf command input
+  pub is_session : IsSessionOf command session
+  pub design : Design
+  pub of_input : IsDesignIn input desk design
+  pub text : List ℕ
+  pub is_text : IsInput session desk text
+  pub no_session : IsNoSession text design place
+
+-- ---- the design that is routed
+-- where no earlier session is named it is the one that was read, and else the one that starts from that session
+abbrev pub IsStartedBy : Option (List ℕ) → DeskState → Design → Design → Type 0
+IsStartedBy None desk read d = d ≡ read
+IsStartedBy (Some name) desk read d =
+    (items : List SesItem) × IsSessionIn name desk read items × (d ≡ started read items)
+
+-- the design that the command routes: that of its text, or the one that starts from the earlier session
+pub record IsDesignOf (command : Command) (desk : DeskState) (d : Design) : Type 0 where
+  pub text : List ℕ
+  pub read : Design
+  pub is_text : IsText command desk text
+  pub reads : HasDesign text read
+  pub starts : IsStartedBy (from_of command) desk read d
+
+-- P holds of the design's file, or that was read and P holds of the earlier session's
+abbrev pub OfInputs : (List ℕ → Type 0) → List ℕ → Option (List ℕ) → DeskState → Type 0
+OfInputs P input from desk =
+    P input ⊎ ((old : List ℕ) × (from ≡ Some old) × (d : Design) × IsDesignIn input desk d × P old)
+
+-- ---- what is judged
 -- P holds of one of the three files, and those before it were read
 abbrev pub OfOneFile : (List ℕ → Type 0) → List ℕ → List ℕ → List ℕ → DeskState → Type 0
 OfOneFile P input session report desk =
     P input ⊎ ((d : Design) × IsDesignIn input desk d
     × (P session ⊎ ((items : List SesItem) × IsSessionIn session desk d items × P report)))
 
--- ---- what is judged
 -- the items of a session and a report by the design
 abbrev pub case_of : Design → List SesItem → List ℕ → List (List Island) → Case
 case_of d items report found = record { design = d; items = board_of d items; found = found; report = report }
@@ -76,18 +109,6 @@ pub record HasJudged (command : Command) (desk : DeskState) (answer : Result Ver
   pub sound : IsSound design
   pub sound_items : All (IsItemSound design) items
   pub judges : Judges design items text answer
-
--- the design was read, and the session can't be
-pub record HasMisread (command : Command) (desk : DeskState) (place : ℕ) : Type 0 where
-  pub input : List ℕ
-  pub session : List ℕ
-  pub report : List ℕ
-  pub command_is : command ≡ Check input session report
-  pub design : Design
-  pub of_input : IsDesignIn input desk design
-  pub text : List ℕ
-  pub is_text : IsInput session desk text
-  pub no_session : IsNoSession text design place
 
 -- what it is worth that nothing is wrong: the copper is legal, and each net is as the report tells
 pub record IsVouchedFor (input session report : List ℕ) (desk : DeskState) : Type 0 where

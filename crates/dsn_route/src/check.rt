@@ -40,8 +40,8 @@ fn place_of(fault: &SesFault) -> Option<u64>
     }
 }
 
-// Puts the line of a text that is no session.
-fn end_misread<R: Sink>(alloc: Global, fault: &SesFault, sink: &mut R) -> Status
+/// Puts the line of a text that is no session.
+pub(crate) fn end_misread<R: Sink>(alloc: Global, fault: &SesFault, sink: &mut R) -> Status
     ensures { EndsMisread (place_of fault.now) (R.state sink.old) (R.state sink.new) result }
 {
     match place_of(fault) {

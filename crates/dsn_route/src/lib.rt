@@ -1,9 +1,10 @@
-//! The top call: it reads the design that the words name, routes it, and writes the session and the report; or it
-//! judges a session and its report by the design.
+//! The top call: it reads the design that the words name, routes it, from an earlier session where they name one, and
+//! writes the session and the report; or it judges a session and its report by the design.
 //! Its contract says of every answer why it came and what it left.
 #![tactic(auto)]
 
 mod check;
+mod earlier;
 mod lines;
 mod outcome;
 mod refusals;

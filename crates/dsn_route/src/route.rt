@@ -1,8 +1,8 @@
-//! The order of the top call: words, read of the input, its length, the design, its lattice, routing, write of the
-//! output, report; or words, and what `check` does.
+//! The order of the top call: words, read of the input, its length, the design; the same of the earlier session, where
+//! one is named; the lattice, routing, write of the output, report; or words, and what `check` does.
 //! Each step that fails ends the call with the line of its cause.
 
-ghost use Rattle.std.specs.Prelude.{◌≡◌, ◌≤◌, ◌^◌, ℕ, List as Seq, Ok, IsErr, length};
+ghost use Rattle.std.specs.Prelude.{◌≡◌, ◌≤◌, ◌^◌, ℕ, List as Seq, Ok, IsErr, IfSome, length, option_map};
 ghost use Rattle.pcb_model.specs.declared.design.Design.{Design as TheDesign};
 ghost use Rattle.pcb_model.specs.Sound.{IsSound};
 ghost use Rattle.pcb_model.specs.Plain.{IsPlainCopper};
@@ -10,18 +10,20 @@ ghost use Rattle.route_lattice.specs.Mesh.{node_count};
 ghost use Rattle.route_words.specs.Words.{texts, command_of, IsWithin};
 ghost use Rattle.route_words.specs.declared.command.Command.TheVariants.{Check};
 ghost use Rattle.route_run.specs.Runs.{IsTask};
-ghost use Rattle.dsn_design.specs.Reading.{HasDesign};
+ghost use Rattle.pcb_board.specs.Boards.{BoardOf};
 ghost use Rattle.dsn_route.specs.Lines.{number_of as number_told};
-ghost use Rattle.dsn_route.specs.Commands.{knobs_of as knobs_told, mesh_of, IsText, IsInputOf};
+ghost use Rattle.dsn_route.specs.Commands.{from_of, knobs_of as knobs_told, mesh_of, IsText, IsInputOf};
 ghost use Rattle.dsn_route.specs.Answers.{Answers};
-ghost use Rattle.dsn_route.specs.Judging.{IsNoSession, IsVouchedFor};
-ghost use Rattle.dsn_route.specs.inner.Said.{RoutesDesign, IsOrder};
+ghost use Rattle.dsn_route.specs.Judging.{IsDesignOf, IsNoSession, IsVouchedFor};
+ghost use Rattle.dsn_route.specs.inner.Said.{RoutesDesign, IsOrder, IsReadFor};
 ghost use Rattle.dsn_route.specs.Due.{IsMissing, IsHeldInput, IsRead, IsLong, IsUnfit, IsOver, IsTooFine, IsRoutable};
 ghost use Rattle.dsn_route.specs.Due.{IsDue, IsDueAfterRead, HasNoFault, IsDone};
+ghost use Rattle.dsn_route.specs.Due.{IsFromBoard, ComesBack};
 ghost use Rattle.dsn_route.specs.Due.{IsSessionHeld, AreHeld, HasFewNodes, AreOfRun, IsJudgedDone, IsClean};
 
 use crate::Status;
 use crate::check::check;
+use crate::earlier::route_from;
 use crate::lines::{say_nodes, say_usage};
 use crate::outcome::{Outcome, unrouted};
 use crate::refusals::{end_refused, end_unread, refusal_of};
@@ -40,6 +42,7 @@ use route_run::{RunInput, run_nets};
 use route_words::{Command, Knobs, Text, WordFault, read_words};
 use ses_reader::one_session;
 use session_law::runs_read_back;
+use start_law::sessions_come_back;
 use std::alloc::Global;
 use std::sync::Wait;
 use std::thread::Threads;
@@ -77,6 +80,7 @@ fn knobs_of(command: &Command) -> Knobs
         Command::Route {
             input: _,
             output: _,
+            from: _,
             knobs,
         } => *knobs,
         Command::Check {
@@ -85,6 +89,29 @@ fn knobs_of(command: &Command) -> Knobs
             report: _,
         }
         | Command::Gen { n: _ } => DEFAULT_KNOBS,
+    }
+}
+
+// The file of the earlier session from which a command starts, if it names one.
+fn earlier_of(command: &Command) -> Option<&Text>
+    ensures { option_map (λ name. name.now) result ≡ from_of command.now }
+{
+    match command {
+        Command::Route {
+            input: _,
+            output: _,
+            from,
+            knobs: _,
+        } => match from {
+            Some(name) => Some(name),
+            None => None,
+        },
+        Command::Check {
+            input: _,
+            session: _,
+            report: _,
+        }
+        | Command::Gen { n: _ } => None,
     }
 }
 
@@ -127,11 +154,10 @@ fn route_on<T: Threads + Wait + Sync, D: Desk, R: Sink, G: Gate + Sync>(
     }
 }
 
-// Routes the design of a text.
-fn route_design<T: Threads + Wait + Sync, D: Desk, R: Sink, G: Gate + Sync>(
+/// Routes the design that a command asks for.
+pub(crate) fn route_design<T: Threads + Wait + Sync, D: Desk, R: Sink, G: Gate + Sync>(
     rt: &T,
     alloc: Global,
-    text: &[u8],
     design: Design,
     command: &Command,
     desk: &mut D,
@@ -141,8 +167,7 @@ fn route_design<T: Threads + Wait + Sync, D: Desk, R: Sink, G: Gate + Sync>(
     requires sound { IsSound design }
     requires plain { IsPlainCopper design }
     requires order { IsOrder command.now }
-    requires is_text { IsText command.now (D.state desk.old) text.now }
-    requires reads { HasDesign text.now design }
+    requires asked { IsDesignOf command.now (D.state desk.old) design }
     ensures { Answers (Ok command.now) (D.state desk.old)
         (D.state desk.new) (R.state report.old) (R.state report.new) result }
 {
@@ -163,6 +188,29 @@ fn route_design<T: Threads + Wait + Sync, D: Desk, R: Sink, G: Gate + Sync>(
     }
 }
 
+// Routes a design that was read, from the earlier session that the command names, if it names one.
+fn route_read<T: Threads + Wait + Sync, D: Desk, R: Sink, G: Gate + Sync>(
+    rt: &T,
+    alloc: Global,
+    design: Design,
+    command: &Command,
+    desk: &mut D,
+    report: &mut R,
+    gate: &G,
+) -> Outcome
+    requires sound { IsSound design }
+    requires plain { IsPlainCopper design }
+    requires order { IsOrder command.now }
+    requires read { IsReadFor command.now (D.state desk.old) design }
+    ensures { Answers (Ok command.now) (D.state desk.old)
+        (D.state desk.new) (R.state report.old) (R.state report.new) result }
+{
+    match earlier_of(command) {
+        Some(old) => route_from(rt, alloc, design, old, command, desk, report, gate),
+        None => route_design(rt, alloc, design, command, desk, report, gate),
+    }
+}
+
 // Reads the design of a text, and routes it.
 fn route_text<T: Threads + Wait + Sync, D: Desk, R: Sink, G: Gate + Sync>(
     rt: &T,
@@ -180,7 +228,7 @@ fn route_text<T: Threads + Wait + Sync, D: Desk, R: Sink, G: Gate + Sync>(
         (D.state desk.new) (R.state report.old) (R.state report.new) result }
 {
     match read_design(alloc, text) {
-        Ok(design) => route_design(rt, alloc, text, design, command, desk, report, gate),
+        Ok(design) => route_read(rt, alloc, design, command, desk, report, gate),
         Err(fault) => match refusal_of(&fault) {
             Some(refusal) => unrouted(end_refused(alloc, refusal, report)),
             None => unrouted(Status::Memory),
@@ -226,6 +274,7 @@ fn route<T: Threads + Wait + Sync, D: Desk, R: Sink, G: Gate + Sync>(
         Command::Route {
             input,
             output: _,
+            from: _,
             knobs: _,
         } => route_file(rt, alloc, input, command, desk, report, gate),
         Command::Check {
@@ -242,6 +291,7 @@ fn route<T: Threads + Wait + Sync, D: Desk, R: Sink, G: Gate + Sync>(
 
 /// With `route`, reads the design in the file that the words name first, routes it on the lattice at the grid that they
 /// give (or at the design's default grid), writes its session into the file that they name second, and puts the report;
+/// where they name an earlier session, that is the wiring from which the design starts, in the place of its own;
 /// with `gen` routes the generated board of a number and puts its short report. With `check` it judges the session and
 /// the report in the files that the words name second and third by the design in the first, writes no file, and puts a
 /// line. A call that stops before it routes or judges puts the line of the cause instead. Each worker works in a thread
@@ -268,14 +318,16 @@ pub fn dsn_route<T: Threads + Wait + Sync, D: Desk, R: Sink, G: Gate + Sync>(
     ensures counted { (text : Seq ℕ) → IsRead (command_of (texts words.now)) (D.state desk.old) text → IsOver text
         → IsDueAfterRead Status.Limit result.status }
     ensures nodes { (text : Seq ℕ) → IsRead (command_of (texts words.now)) (D.state desk.old) text
-        → IsTooFine (command_of (texts words.now)) text → IsDueAfterRead Status.Limit result.status }
+        → IsTooFine (command_of (texts words.now)) (D.state desk.old) text → IsDueAfterRead Status.Limit result.status }
     ensures complete { (text : Seq ℕ) → IsRead (command_of (texts words.now)) (D.state desk.old) text
-        → IsRoutable (command_of (texts words.now)) text
+        → IsRoutable (command_of (texts words.now)) (D.state desk.old) text
         → HasNoFault (D.state desk.old) (D.state desk.new) (R.state report.old) (R.state report.new)
         → IsDone result.status }
     ensures rejected { (d : TheDesign) (told : Seq ℕ) (place : ℕ)
         → IsSessionHeld (command_of (texts words.now)) (D.state desk.old) d told → IsNoSession told d place
         → IsDueAfterRead Status.Rejected result.status }
+    ensures comes_back { (b : BoardOf) → IsFromBoard (command_of (texts words.now)) (D.state desk.old) b
+        → IfSome result.routed (ComesBack b) }
     ensures judged { (d : TheDesign) (told page : Seq ℕ)
         → AreHeld (command_of (texts words.now)) (D.state desk.old) d told page → HasFewNodes d told page
         → HasNoFault (D.state desk.old) (D.state desk.new) (R.state report.old) (R.state report.new)
@@ -293,6 +345,7 @@ pub fn dsn_route<T: Threads + Wait + Sync, D: Desk, R: Sink, G: Gate + Sync>(
     right_is_vouched();
     runs_are_right();
     runs_read_back();
+    sessions_come_back();
     match read_words(alloc, words) {
         Ok(command) => route(rt, alloc, &command, desk, report, gate),
         Err(fault) => match number_of(fault) {

@@ -1,7 +1,7 @@
 //! What a call leaves that routed: the session in its file and the report, or the short report alone.
 //! Both texts are made before anything is written.
 
-ghost use Rattle.std.specs.Prelude.{◌≡◌, ℕ, List as Seq};
+ghost use Rattle.std.specs.Prelude.{◌≡◌, ℕ, List as Seq, Option};
 ghost use Rattle.desk_io.specs.States.{DeskState};
 ghost use Rattle.route_words.specs.declared.command.Command.TheVariants.{Route, Gen};
 ghost use Rattle.dsn_route.specs.Commands.{mesh_at, mesh_of, default_knobs, AsksToRoute};
@@ -41,8 +41,8 @@ fn write_both<D: Desk, R: Sink>(
     report: &mut R,
 ) -> Status
     requires lattice { lat.now ≡ mesh_at knobs routed.now.board.design }
-    ensures { (input : Seq ℕ)
-        → Leaves (Route input output.now knobs) routed.now.board routed.now.facts (D.state desk.old)
+    ensures { (input : Seq ℕ) (from : Option (Seq ℕ))
+        → Leaves (Route input output.now from knobs) routed.now.board routed.now.facts (D.state desk.old)
         (D.state desk.new) (R.state report.old) (R.state report.new) result }
 {
     let board = &routed.board;
@@ -91,6 +91,7 @@ pub(crate) fn write_out<D: Desk, R: Sink>(
         Command::Route {
             input: _,
             output,
+            from: _,
             knobs,
         } => write_both(alloc, lat, routed, output, *knobs, desk, report),
         Command::Check {

@@ -15,7 +15,7 @@ use fault_notes::{
     Bar, Counted, Fault, FileNames, KeptLine, Said, find_trouble, note_text, read_line, why_unread,
     why_unwritten, word_note,
 };
-use route_words::{Command, read_words};
+use route_words::{Command, Text, read_words};
 use std::alloc::{AllocError, Global};
 use std::io::IsTerminal;
 use std::process::ExitCode;
@@ -127,6 +127,67 @@ fn check_note<R: Files + AllocGlobal, D: Desk>(
     note_text(rt.alloc(), fault, files, text)
 }
 
+// The files of `route` from an earlier session: that which a fault is of stands in the place of the design's, or of the
+// session's where the earlier one can't be read as a session.
+fn files_from<'a, D: Desk>(
+    desk: &KeptText<D>,
+    fault: Fault,
+    old: &'a str,
+    files: FileNames<'a>,
+) -> FileNames<'a> {
+    let unread = if desk.text_of(files.input).is_some() {
+        old
+    } else {
+        files.input
+    };
+    match fault {
+        Fault::Told(Said::Check { number: _, at: _ }) => named(files.input, old, ""),
+        Fault::Told(Said::ReadFault) => named(unread, files.session, ""),
+        Fault::Told(
+            Said::Limit {
+                counted: Counted::Bytes,
+                number: _,
+            },
+        ) => named(unread, files.session, ""),
+        _ => files,
+    }
+}
+
+// The note of a call of `route` from the earlier session `old`. A place is told by the text that was read last, if it
+// is of that file.
+fn from_note<R: Files + AllocGlobal, D: Desk>(
+    rt: &R,
+    desk: &KeptText<D>,
+    fault: Fault,
+    old: &str,
+    files: FileNames,
+) -> Result<String, AllocError> {
+    let files = files_from(desk, fault, old, files);
+    let fault = fault_with_bar(rt, fault, files);
+    let text = match fault {
+        Fault::Told(Said::Check { number: _, at: _ }) => desk.text_of(files.session),
+        _ => desk.text_of(files.input),
+    };
+    note_text(rt.alloc(), fault, files, text)
+}
+
+// The note of a call of `route`, from an earlier session where one is named.
+fn route_note<R: Files + AllocGlobal, D: Desk>(
+    rt: &R,
+    desk: &KeptText<D>,
+    fault: Fault,
+    from: &Option<Text>,
+    files: FileNames,
+) -> Result<String, AllocError> {
+    match from {
+        Some(old) => from_note(rt, desk, fault, old.as_str(), files),
+        None => {
+            let fault = fault_with_bar(rt, fault, files);
+            note_text(rt.alloc(), fault, files, desk.text_of(files.input))
+        }
+    }
+}
+
 // The note of words that are no call, or of one that names no file.
 fn word_fault_note(alloc: Global, words: &[String], fault: Fault) -> Result<String, AllocError> {
     match (fault, find_trouble(words)) {
@@ -147,13 +208,16 @@ fn note_of<R: Files + AllocGlobal, D: Desk>(
             Command::Route {
                 input,
                 output,
+                from,
                 knobs: _,
             },
-        ) => {
-            let files = named(input.as_str(), output.as_str(), "");
-            let fault = fault_with_bar(rt, fault, files);
-            note_text(rt.alloc(), fault, files, desk.text_of(files.input))
-        }
+        ) => route_note(
+            rt,
+            desk,
+            fault,
+            &from,
+            named(input.as_str(), output.as_str(), ""),
+        ),
         Ok(
             Command::Check {
                 input,

@@ -59,6 +59,7 @@ pub(crate) fn refused<R: Files + Print + Eprint + AllocGlobal>(
             Command::Route {
                 input,
                 output,
+                from: _,
                 knobs: _,
             },
         ) => refused_names(rt, &input, &output),

@@ -10,11 +10,12 @@ use Rattle.route_words.specs.declared.limits.TheConstants.{LAST_BOARD, LONGEST_G
 use Rattle.route_words.specs.declared.limits.TheConstants.{MOST_TRIES, MOST_WORKERS}
 use Rattle.fault_notes.specs.declared.trouble.Choice.{Choice}
 use Rattle.fault_notes.specs.declared.trouble.Choice.TheVariants.{Grid, Workers, Passes, ViaCost, Tries, OmitFixed}
+use Rattle.fault_notes.specs.declared.trouble.Choice.TheVariants.{From}
 use Rattle.fault_notes.specs.declared.trouble.Range.{Range}
 use Rattle.fault_notes.specs.declared.trouble.Trouble.{Trouble}
 use Rattle.fault_notes.specs.declared.trouble.Trouble.TheVariants.{NoCommand, NotACommand, Strange, Again, NoValue}
 use Rattle.fault_notes.specs.declared.trouble.Trouble.TheVariants.{Outside, Valued, NotABoard, NoOptions, Empty}
-use Rattle.fault_notes.specs.declared.trouble.Trouble.TheVariants.{Surplus, Missing}
+use Rattle.fault_notes.specs.declared.trouble.Trouble.TheVariants.{NoName, Surplus, Missing}
 use Rattle.fault_notes.specs.Notes.{IsFramed}
 
 -- ---- options
@@ -26,6 +27,7 @@ name_of Passes = codes "--passes"
 name_of ViaCost = codes "--via-cost"
 name_of Tries = codes "--tries"
 name_of OmitFixed = codes "--omit-fixed"
+name_of From = codes "--from"
 
 -- the numbers that an option takes, if it takes one
 abbrev pub range_of : Choice → Option Range
@@ -35,6 +37,7 @@ range_of Passes = Some (record { least = 1; most = MOST_PASSES })
 range_of ViaCost = Some (record { least = 0; most = MOST_VIA_COST })
 range_of Tries = Some (record { least = 0; most = MOST_TRIES })
 range_of OmitFixed = None
+range_of From = None
 
 abbrev pub board_range : Range
 board_range = record { least = 1; most = LAST_BOARD }
@@ -76,6 +79,7 @@ IsTrouble words (Again word) = IsAmong words word.now
 IsTrouble words (NoValue choice range) = IsAmong words (name_of choice) × (range_of choice ≡ Some range)
 IsTrouble words (Outside choice range word) =
     IsAmong words word.now × (range_of choice ≡ Some range) × IsBadValue choice range words word.now
+IsTrouble words (NoName word) = IsAmong words word.now
 IsTrouble words (Valued word) = IsAmong words word.now
 IsTrouble words (NotABoard word) = IsAmong words word.now × IsOutside board_range word.now
 IsTrouble words (NoOptions word) = IsAmong words word.now
@@ -98,6 +102,7 @@ trouble_front (NoValue choice range) =
     codes "dsnroute: " ++ (name_of choice ++ (codes ": a whole number is wanted behind it, from " ++ range_words range))
 trouble_front (Outside choice range word) = codes "dsnroute: " ++ (word.now
     ++ (codes ": " ++ (name_of choice ++ (codes " wants a whole number from " ++ range_words range))))
+trouble_front (NoName word) = codes "dsnroute: " ++ (word.now ++ codes ": ")
 trouble_front (Valued word) = codes "dsnroute: " ++ (word.now ++ codes ": ")
 trouble_front (NotABoard word) =
     codes "dsnroute: " ++ (word.now ++ (codes ": gen wants a whole number from " ++ range_words board_range))

@@ -8,13 +8,14 @@ ghost use Rattle.fault_notes.specs.inner.Looks.{IsLook, IsSpelled};
 use crate::trouble::{Choice, name};
 
 /// All options.
-const ALL_CHOICES: [Choice; 6] = [
+const ALL_CHOICES: [Choice; 7] = [
     Choice::Grid,
     Choice::Workers,
     Choice::Passes,
     Choice::ViaCost,
     Choice::Tries,
     Choice::OmitFixed,
+    Choice::From,
 ];
 
 /// What a word looks like.

@@ -21,6 +21,7 @@ fn trouble_words(trouble: Trouble) -> &'static str
         Trouble::Strange(_) => "there is no such option; behind -- it would be a name",
         Trouble::Again(_) => "the option is given a second time",
         Trouble::NoValue(choice, _) | Trouble::Outside(choice, _, _) => unit_words(choice),
+        Trouble::NoName(_) => "the name of a file is wanted behind it",
         Trouble::Valued(_) => "the option takes no value",
         Trouble::NotABoard(_) => ", in one to seven digits",
         Trouble::NoOptions(_) => "this command takes no options",
@@ -113,6 +114,7 @@ fn trouble_front(alloc: Global, trouble: Trouble) -> Result<String, AllocError>
         Trouble::NotACommand(word)
         | Trouble::Strange(word)
         | Trouble::Again(word)
+        | Trouble::NoName(word)
         | Trouble::Valued(word)
         | Trouble::NoOptions(word)
         | Trouble::Surplus(word) => word_front(alloc, word),

@@ -17,6 +17,7 @@ pub enum Choice {
     ViaCost,
     Tries,
     OmitFixed,
+    From,
 }
 
 /// The numbers from `least` to `most`.
@@ -41,6 +42,8 @@ pub enum Trouble<'a> {
     NoValue(Choice, Range),
     /// The option takes a number of this range, and this value is none.
     Outside(Choice, Range, &'a str),
+    /// The option takes the name of a file, and has none.
+    NoName(&'a str),
     /// The option takes no value, and has one.
     Valued(&'a str),
     /// The word is no number of a generated board.
@@ -66,6 +69,7 @@ pub(crate) fn name(choice: Choice) -> &'static str
         Choice::ViaCost => "--via-cost",
         Choice::Tries => "--tries",
         Choice::OmitFixed => "--omit-fixed",
+        Choice::From => "--from",
     }
 }
 
@@ -94,8 +98,18 @@ pub(crate) fn range_for(choice: Choice) -> Option<Range>
             least: 0,
             most: MOST_TRIES,
         }),
-        Choice::OmitFixed => None,
+        Choice::OmitFixed | Choice::From => None,
     }
+}
+
+/// Whether an option takes the name of a file.
+pub(crate) fn takes_name(choice: Choice) -> bool {
+    matches!(choice, Choice::From)
+}
+
+/// Whether an option takes a value.
+pub(crate) fn takes_value(choice: Choice) -> bool {
+    takes_name(choice) || range_for(choice).is_some()
 }
 
 /// The numbers of generated boards.

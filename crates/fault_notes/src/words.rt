@@ -6,7 +6,7 @@ ghost use Rattle.std.specs.declared.alloc.Global.{Global as GlobalOf};
 ghost use Rattle.fault_notes.specs.Words.{IsAmong, IsTrouble, name_of, with_value, range_of, IsOutside};
 
 use crate::look::{Look, read_look};
-use crate::trouble::{Choice, Range, Trouble, boards, range_for};
+use crate::trouble::{Choice, Range, Trouble, boards, range_for, takes_name, takes_value};
 use route_words::number_between;
 
 // ---- words
@@ -45,8 +45,25 @@ fn is_given(words: &[String], at: usize, choice: Choice) -> bool {
 
 // ---- options of `route`
 
-// An option alone: what follows it is its value, if it takes one.
-fn bare_trouble<'a>(words: &'a [String], at: usize, choice: Choice) -> Option<Trouble<'a>>
+// Whether the word can be the name of a file behind an option.
+fn is_file_name(word: &[u8]) -> bool {
+    !word.is_empty() && matches!(read_look(word), Look::Plain)
+}
+
+// An option alone that takes the name of a file, which follows it.
+fn bare_name_trouble<'a>(words: &'a [String], at: usize, word: &'a str) -> Option<Trouble<'a>>
+    requires at { at < length words.now }
+    requires among { IsAmong words.now word.now }
+    ensures { IfSome result (IsTrouble words.entry.now) }
+{
+    match words.get(at + 1) {
+        Some(next) if is_file_name(next.as_str().as_bytes()) => None,
+        _ => Some(Trouble::NoName(word)),
+    }
+}
+
+// An option alone that takes a number, which follows it, or no value.
+fn bare_number_trouble<'a>(words: &'a [String], at: usize, choice: Choice) -> Option<Trouble<'a>>
     requires at { at < length words.now }
     requires among { IsAmong words.now (name_of choice) }
     ensures { IfSome result (IsTrouble words.entry.now) }
@@ -58,6 +75,45 @@ fn bare_trouble<'a>(words: &'a [String], at: usize, choice: Choice) -> Option<Tr
         Some(next) if matches!(read_look(next.as_str().as_bytes()), Look::Plain) => None,
         _ => Some(Trouble::NoValue(choice, range)),
     }
+}
+
+// An option alone: what follows it is its value, if it takes one.
+fn bare_trouble<'a>(
+    words: &'a [String],
+    at: usize,
+    word: &'a str,
+    choice: Choice,
+) -> Option<Trouble<'a>>
+    requires at { at < length words.now }
+    requires among { IsAmong words.now word.now }
+    requires option { IsAmong words.now (name_of choice) }
+    ensures { IfSome result (IsTrouble words.entry.now) }
+{
+    if takes_name(choice) {
+        bare_name_trouble(words, at, word)
+    } else {
+        bare_number_trouble(words, at, choice)
+    }
+}
+
+// An option that takes no number, with a value in the same word.
+fn valued_name_trouble<'a>(
+    words: &'a [String],
+    word: &'a str,
+    choice: Choice,
+    value: &[u8],
+) -> Option<Trouble<'a>>
+    requires among { IsAmong words.now word.now }
+    ensures { IfSome result (IsTrouble words.entry.now) }
+{
+    let _words = words;
+    if !takes_name(choice) {
+        return Some(Trouble::Valued(word));
+    }
+    if value.is_empty() {
+        return Some(Trouble::NoName(word));
+    }
+    None
 }
 
 // An option with a value in the same word.
@@ -72,7 +128,7 @@ fn valued_trouble<'a>(
     ensures { IfSome result (IsTrouble words.entry.now) }
 {
     match range_for(choice) {
-        None => Some(Trouble::Valued(word)),
+        None => valued_name_trouble(words, word, choice, value),
         Some(range) => {
             if is_outside(range, value) {
                 Some(Trouble::Outside(choice, range, word))
@@ -107,7 +163,7 @@ fn waiting(words: &[String], at: usize) -> Option<Choice>
         return None;
     }
     match read_look(word_at(words, at - 1).as_bytes()) {
-        Look::Bare(choice) if range_for(choice).is_some() => Some(choice),
+        Look::Bare(choice) if takes_value(choice) => Some(choice),
         _ => None,
     }
 }
@@ -128,7 +184,7 @@ fn trouble_at<'a>(words: &'a [String], at: usize) -> Option<Trouble<'a>>
             if is_given(words, at, choice) {
                 return Some(Trouble::Again(word));
             }
-            bare_trouble(words, at, choice)
+            bare_trouble(words, at, word, choice)
         }
         Look::Valued(choice, value) => {
             if is_given(words, at, choice) {

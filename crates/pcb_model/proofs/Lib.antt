@@ -16,3 +16,4 @@ pub mod Laying
 pub mod Lookups
 pub mod Turned
 pub mod Boxed
+pub mod Widths

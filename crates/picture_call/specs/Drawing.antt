@@ -9,6 +9,7 @@ use Rattle.pcb_board.specs.Boards.{free_item}
 use Rattle.dsn_design.specs.Reading.{HasDesign}
 use Rattle.ses_reader.specs.declared.item.SesItem.{SesItem}
 use Rattle.ses_reader.specs.Reading.{HasSession}
+use Rattle.ses_reader.specs.Wiring.{wire_of}
 use Rattle.board_picture.specs.declared.open.OpenLine.{OpenLine}
 use Rattle.board_picture.specs.Open.{AreOpenLines}
 use Rattle.board_picture.specs.Picture.{picture_of}
@@ -31,10 +32,6 @@ pub record IsDesignIn (name : List ℕ) (files : Option Files) (d : Design) : Ty
   pub reads : HasDesign text d
 
 -- ---- wiring
--- an item of a session as a wire or via of the design
-abbrev pub wire_of : SesItem → FreeWire
-wire_of x = record { at = x.at; net = x.net; metal = x.metal }
-
 -- the file of this name has a session of the design, and these are its wires and vias
 pub record IsSessionWiring (name : List ℕ) (files : Option Files) (d : Design) (wires : List FreeWire) : Type 0 where
   pub text : List ℕ

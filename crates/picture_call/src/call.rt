@@ -6,7 +6,7 @@ ghost use Rattle.pcb_model.specs.Sound.{IsSound, IsFreeSound};
 ghost use Rattle.picture_call.specs.Drawing.{IsInput, IsDesignIn, IsWiring, IsPicture};
 ghost use Rattle.picture_call.specs.Answers.{IsSessionIn, Leaves};
 
-use crate::copper::{picture_with, wires_of};
+use crate::copper::picture_with;
 use crate::{Outcome, PictureCall};
 use desk_io::{Desk, DeskFail};
 use dsn_design::read_design;
@@ -14,7 +14,7 @@ use dsn_shapes::DesignFault;
 use pcb_model::limits::MOST_BYTES;
 use pcb_model::{Design, FreeWire};
 use route_words::Text;
-use ses_reader::{SesFault, read_session};
+use ses_reader::{SesFault, read_session, wires_of};
 use std::alloc::Global;
 
 /// The most bytes of a design's file and of a session's.

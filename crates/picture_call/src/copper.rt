@@ -1,18 +1,17 @@
 //! The copper that is drawn: a design's fixed items, and wires and vias behind them, legal or not.
 //! Each item has its place as id.
 
-ghost use Rattle.std.specs.Prelude.{◌≡◌, ◌<◌, ◌∷◌, [], ◌++◌, All, IfOk, OnOk, map};
+ghost use Rattle.std.specs.Prelude.{◌≡◌, ◌<◌, ◌∷◌, [], ◌++◌, All, IfOk, OnOk};
 ghost use Rattle.pcb_model.specs.declared.item.Item.{Item as OneItem};
 ghost use Rattle.pcb_model.specs.Bounds.{IsItemFit};
 ghost use Rattle.pcb_model.specs.Sound.{IsSound, IsFreeSound, Serves};
 ghost use Rattle.pcb_board.specs.Boards.{free_item};
-ghost use Rattle.picture_call.specs.Drawing.{wire_of, laid_on, IsPictureOf};
+ghost use Rattle.picture_call.specs.Drawing.{laid_on, IsPictureOf};
 ghost use Rattle.picture_call.specs.inner.Growing.{IsGrown};
 
 use board_picture::{open_lines, picture_text};
 use geo_kernel::List;
 use pcb_model::{Design, FreeWire, Item, PlainCopper, copy_item, copy_metal, make_item};
-use ses_reader::SesItem;
 use std::alloc::{AllocError, Global};
 
 fn add_item(copper: &mut PlainCopper, item: Item) -> Result<(), AllocError>
@@ -70,22 +69,6 @@ fn lay_wires(alloc: Global, d: &Design, wires: &[FreeWire]) -> Result<PlainCoppe
         lay_wire(alloc, d, &mut copper, w)?;
     }
     Ok(copper)
-}
-
-/// A session's items as wiring of the design.
-pub(crate) fn wires_of(alloc: Global, items: &[SesItem]) -> Result<List<FreeWire>, AllocError>
-    ensures { IfOk result (λ wires. wires ≡ map wire_of items.now) }
-{
-    let mut wires = List::new(alloc);
-    for item in items {
-        let metal = copy_metal(alloc, &item.metal)?;
-        wires.push(FreeWire {
-            at: item.at,
-            net: item.net,
-            metal,
-        })?;
-    }
-    Ok(wires)
 }
 
 /// The picture of a design with its fixed items and these wires and vias.

@@ -6,7 +6,7 @@ use Rattle.std.specs.Prelude.{Contains, if◌then◌else◌, slice_get}
 use Rattle.std.specs.Option.{IsSomeAnd}
 use Rattle.std.proofs.lemmas.List.{length-map}
 use Rattle.std.proofs.lemmas.List.Elements.{All-append, All-cons, All-contains, All-head, All-map, All-nil}
-use Rattle.std.proofs.lemmas.List.Elements.{All-tail, All-weaker}
+use Rattle.std.proofs.lemmas.List.Elements.{All-tail, All-weaker, Contains-get_or}
 use Rattle.std.proofs.lemmas.Option.{same_Some, slice_get-get_or, slice_get_within}
 use Rattle.geo_kernel.specs.declared.point.Point.{Point}
 use Rattle.geo_kernel.specs.declared.spine.Spine.{Spine}
@@ -48,6 +48,13 @@ pub in_left : (fixed : List Item) (xs : List SesItem) (x : SesItem) → Contains
 in_left [] xs x h = h
 in_left (a ∷ fixed) xs x h = in_without a xs x (in_left fixed (without a xs) x h)
 
+-- so they are sound as all are
+pub left_sound : (d : Design) (xs : List SesItem) → All (IsItemSound d) xs → All (IsItemSound d) (left_of d.fixed xs)
+left_sound d xs h = λ i x within.
+    let left = left_of d.fixed xs in
+    All-contains (IsItemSound d) xs (get_or left i x) h
+    (in_left d.fixed xs (get_or left i x) (Contains-get_or left i x within))
+
 -- ---- the session's items on the board
 pub record IsNumbered (d : Design) (xs : List SesItem) (a : Item) : Type 0 where
   pub x : SesItem
@@ -67,7 +74,7 @@ is_numbered d id (x ∷ xs) a h =
     ]
 
 -- none is fixed
-none_fixed : (d : Design) (id : ℕ) (xs : List SesItem) → filter is_fixed (numbered d id xs) ≡ []
+pub none_fixed : (d : Design) (id : ℕ) (xs : List SesItem) → filter is_fixed (numbered d id xs) ≡ []
 none_fixed d id [] = refl
 none_fixed d id (x ∷ xs) = none_fixed d (id + 1) xs
 

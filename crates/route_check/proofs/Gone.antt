@@ -219,39 +219,53 @@ kept_more : (gone : List Bool) (xs : List SesItem) (i : ℕ) (g : Bool) (x : Ses
 kept_more gone xs i g x in_gone in_xs = rw (drop_more gone i g in_gone, drop_more xs i x in_xs) refl
 
 -- where it is gone, nothing changes
-pub left_gone : (d : Design) (items : List Item) (gone : List Bool) (xs : List SesItem) (i : ℕ) (g : Bool)
-    → i < length gone → i < length xs → get_or gone i g ≡ true
-    → items ++ numbered d (length items) (kept (drop (i + 1) gone) (drop (i + 1) xs))
-    ≡ items ++ numbered d (length items) (kept (drop i gone) (drop i xs))
-left_gone d items gone xs i g in_gone in_xs e =
+pub left_gone : (left : List SesItem) (gone : List Bool) (xs : List SesItem) (i : ℕ) (g : Bool) → i < length gone
+    → i < length xs → get_or gone i g ≡ true
+    → left ++ kept (drop (i + 1) gone) (drop (i + 1) xs) ≡ left ++ kept (drop i gone) (drop i xs)
+left_gone left gone xs i g in_gone in_xs e =
     let x = element xs i in_xs in
-    ap (λ (ys : List SesItem). items ++ numbered d (length items) ys)
+    ap (λ (ys : List SesItem). left ++ ys)
     (sym (kept_more gone xs i g x.0 in_gone in_xs ∙ ap (λ (b : Bool).
     if b then kept (drop (i + 1) gone) (drop (i + 1) xs)
     else get_or xs i x.0 ∷ kept (drop (i + 1) gone) (drop (i + 1) xs)) e))
 
--- where it isn't, it becomes the next item
-pub left_there : (d : Design) (items more : List Item) (gone : List Bool) (xs : List SesItem) (i : ℕ) (g : Bool)
-    (x : SesItem) → i < length gone → i < length xs → get_or gone i g ≡ false
-    → more ≡ items ++ numbered d (length items) (get_or xs i x ∷ [])
-    → more ++ numbered d (length more) (kept (drop (i + 1) gone) (drop (i + 1) xs))
-    ≡ items ++ numbered d (length items) (kept (drop i gone) (drop i xs))
-left_there d items more gone xs i g x in_gone in_xs e is =
+-- where it isn't, it is the next one that is left
+pub left_there : (left more : List SesItem) (gone : List Bool) (xs : List SesItem) (i : ℕ) (g : Bool) (x : SesItem)
+    → i < length gone → i < length xs → get_or gone i g ≡ false → more ≡ left ++ get_or xs i x ∷ []
+    → more ++ kept (drop (i + 1) gone) (drop (i + 1) xs) ≡ left ++ kept (drop i gone) (drop i xs)
+left_there left more gone xs i g x in_gone in_xs e is =
     let rest = kept (drop (i + 1) gone) (drop (i + 1) xs) in
+    ap (λ (ys : List SesItem). ys ++ rest) is
+    ∙ append_assoc left (get_or xs i x ∷ []) rest
+    ∙ ap (λ (ys : List SesItem). left ++ ys)
+    (sym (kept_more gone xs i g x in_gone in_xs
+    ∙ ap (λ (b : Bool). if b then rest else get_or xs i x ∷ rest) e))
+
+-- behind the last one
+pub left_end : (left : List SesItem) (gone : List Bool) (xs : List SesItem) (i : ℕ) → length xs ≤ i
+    → left ++ kept (drop i gone) (drop i xs) ≡ left
+left_end left gone xs i past =
+    ap (λ (ys : List SesItem). left ++ ys)
+    (at_drop_all (λ (ys : List SesItem). kept (drop i gone) ys) xs i past ∙ kept_none (drop i gone))
+    ∙ append-nil left
+
+-- ---- items with ids that count up
+-- the next one of the session has the next id
+pub numbered_more : (d : Design) (items more : List Item) (xs : List SesItem) (i : ℕ) (x : SesItem) → i < length xs
+    → more ≡ items ++ numbered d (length items) (get_or xs i x ∷ [])
+    → more ++ numbered d (length more) (drop (i + 1) xs) ≡ items ++ numbered d (length items) (drop i xs)
+numbered_more d items more xs i x within is =
+    let rest = drop (i + 1) xs in
     let one = item_of d (length items) (Some (get_or xs i x).net) false (get_or xs i x).metal in
     ap (λ (as_ : List Item). as_ ++ numbered d (length as_) rest) is
     ∙ append_assoc items (one ∷ []) (numbered d (length (items ++ one ∷ [])) rest)
     ∙ ap (λ (n : ℕ). items ++ one ∷ numbered d n rest)
     (let count = length_push items one in
     let same : length (items ++ one ∷ []) ≡ length items + 1 = omega (arith, count) in same)
-    ∙ ap (λ (ys : List SesItem). items ++ numbered d (length items) ys)
-    (sym (kept_more gone xs i g x in_gone in_xs
-    ∙ ap (λ (b : Bool). if b then rest else get_or xs i x ∷ rest) e))
+    ∙ ap (λ (ys : List SesItem). items ++ numbered d (length items) ys) (sym (drop_more xs i x within))
 
 -- behind the last one
-pub left_end : (d : Design) (items : List Item) (gone : List Bool) (xs : List SesItem) (i : ℕ) → length xs ≤ i
-    → items ++ numbered d (length items) (kept (drop i gone) (drop i xs)) ≡ items
-left_end d items gone xs i past =
-    ap (λ (ys : List SesItem). items ++ numbered d (length items) ys)
-    (at_drop_all (λ (ys : List SesItem). kept (drop i gone) ys) xs i past ∙ kept_none (drop i gone))
-    ∙ append-nil items
+pub numbered_end : (d : Design) (items : List Item) (xs : List SesItem) (i : ℕ) → length xs ≤ i
+    → items ++ numbered d (length items) (drop i xs) ≡ items
+numbered_end d items xs i past =
+    ap (λ (ys : List Item). items ++ ys) (at_drop_all (numbered d (length items)) xs i past) ∙ append-nil items

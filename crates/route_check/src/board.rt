@@ -4,9 +4,8 @@ ghost use Rattle.std.specs.Prelude.{◌≡◌, ◌++◌, ◌∷◌, [], length, 
 ghost use Rattle.pcb_model.specs.Sound.{IsSound};
 ghost use Rattle.ses_reader.specs.Sound.{IsItemSound};
 ghost use Rattle.route_check.specs.Board.{board_of, numbered};
-ghost use Rattle.route_check.specs.inner.Left.{kept};
 
-use crate::left::gone_items;
+use crate::left::items_left;
 use geo_kernel::List;
 use pcb_model::{Design, Item, copy_item, copy_metal, make_item};
 use ses_reader::SesItem;
@@ -39,22 +38,19 @@ fn push_item(
     Ok(())
 }
 
-fn push_left(
+// The items of the session become the last ones.
+fn push_items(
     alloc: Global,
     d: &Design,
     xs: &[SesItem],
-    gone: &[bool],
     items: &mut List<Item>,
 ) -> Result<(), AllocError>
     requires sound { IsSound d.now }
     requires items { All (IsItemSound d.now) xs.now }
-    requires count { length gone.now ≡ length xs.now }
-    ensures { OnOk result (items.new ≡ items.old ++ numbered d.now (length items.old) (kept gone.now xs.now)) }
+    ensures { OnOk result (items.new ≡ items.old ++ numbered d.now (length items.old) xs.now) }
 {
-    for (i, x) in xs.iter().enumerate() {
-        if !gone[i] {
-            push_item(alloc, d, x, items)?;
-        }
+    for x in xs {
+        push_item(alloc, d, x, items)?;
     }
     Ok(())
 }
@@ -65,8 +61,8 @@ pub fn board_items(alloc: Global, d: &Design, xs: &List<SesItem>) -> Result<List
     requires items { All (IsItemSound d.now) xs.now }
     ensures { IfOk result (λ items. items ≡ board_of d.now xs.now) }
 {
-    let gone = gone_items(alloc, d, xs.as_slice())?;
+    let left = items_left(alloc, d, xs)?;
     let mut items = copy_items(alloc, d.fixed.as_slice())?;
-    push_left(alloc, d, xs.as_slice(), &gone, &mut items)?;
+    push_items(alloc, d, left.as_slice(), &mut items)?;
     Ok(items)
 }

@@ -9,7 +9,8 @@ ghost use Rattle.route_check.specs.Board.{left_of, without};
 ghost use Rattle.route_check.specs.inner.Left.{AreLinked, kept};
 
 use crate::equal::is_same;
-use pcb_model::{Design, Item};
+use geo_kernel::List;
+use pcb_model::{Design, Item, copy_metal};
 use ses_reader::SesItem;
 use std::alloc::{AllocError, Global};
 
@@ -92,8 +93,8 @@ impl Linked<'_> {
     }
 }
 
-/// Which items of a session are gone when each fixed wire and via has taken away the first one that is the same.
-pub(crate) fn gone_items(alloc: Global, d: &Design, xs: &[SesItem]) -> Result<Vec<bool>, AllocError>
+// Which items of a session are gone when each fixed wire and via has taken away the first one that is the same.
+fn gone_items(alloc: Global, d: &Design, xs: &[SesItem]) -> Result<Vec<bool>, AllocError>
     requires sound { IsSound d.now }
     requires items { All (IsItemSound d.now) xs.now }
     ensures count { IfOk result (λ gone. length gone.items ≡ length xs.now) }
@@ -103,4 +104,44 @@ pub(crate) fn gone_items(alloc: Global, d: &Design, xs: &[SesItem]) -> Result<Ve
     let mut gone = vec![in alloc; false; xs.len()]?;
     linked.take_each(&mut gone, d.fixed.as_slice());
     Ok(gone)
+}
+
+fn copy_of(alloc: Global, x: &SesItem) -> Result<SesItem, AllocError>
+    ensures { IfOk result (λ copy. copy ≡ x.now) }
+{
+    let metal = copy_metal(alloc, &x.metal)?;
+    Ok(SesItem {
+        at: x.at,
+        net: x.net,
+        metal,
+    })
+}
+
+// The items that aren't gone.
+fn kept_items(alloc: Global, xs: &[SesItem], gone: &[bool]) -> Result<List<SesItem>, AllocError>
+    requires { length gone.now ≡ length xs.now }
+    ensures { IfOk result (λ left. left ≡ kept gone.now xs.now) }
+{
+    let mut left = List::new(alloc);
+    for (i, x) in xs.iter().enumerate() {
+        if !gone[i] {
+            left.push(copy_of(alloc, x)?)?;
+        }
+    }
+    Ok(left)
+}
+
+/// What is left of a session, in order: each fixed wire and via of the design takes away the first item that is the
+/// same. `AllocError` comes only for want of memory.
+pub fn items_left(
+    alloc: Global,
+    d: &Design,
+    xs: &List<SesItem>,
+) -> Result<List<SesItem>, AllocError>
+    requires sound { IsSound d.now }
+    requires items { All (IsItemSound d.now) xs.now }
+    ensures { IfOk result (λ left. left ≡ left_of d.now.fixed xs.now) }
+{
+    let gone = gone_items(alloc, d, xs.as_slice())?;
+    kept_items(alloc, xs.as_slice(), &gone)
 }

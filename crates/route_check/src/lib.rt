@@ -15,4 +15,5 @@ mod verdict;
 pub use board::board_items;
 pub use judging::judge;
 pub use laws::{right_is_vouched, right_is_yes, session_boards_serve};
+pub use left::items_left;
 pub use verdict::{JudgeFault, Verdict};

@@ -24,3 +24,4 @@ pub mod Gathers
 pub mod Grids
 pub mod Units
 pub mod Within
+pub mod WholeLines

@@ -6,7 +6,7 @@ use Rattle.clap.specs.Matches.{first_value}
 use Rattle.clap.specs.declared.parser.matches.Found.{Found}
 use Rattle.route_words.specs.inner.Forms.{FindsCheck, FindsGen, FindsRoute, Holds, HoldsCheck, HoldsRoute}
 use Rattle.route_words.specs.inner.Forms.{knobs_found}
-use Rattle.route_words.specs.Parts.{Form, Part, Word, fit_from, name, names_in, option, parts_of, stray}
+use Rattle.route_words.specs.Parts.{Form, Part, Word, fit_from, name, names_in, option, parts_of, stray, value_in}
 use Rattle.route_words.specs.Words.{Says, check_form, check_of, check_with, gen_form, gen_of, gen_with, knobs_of}
 use Rattle.route_words.specs.Words.{route_form, route_of, route_with}
 use Rattle.route_words.specs.declared.command.WordFault.{WordFault}
@@ -36,20 +36,22 @@ two_names (x ∷ []) a b few first second = cc
 two_names (x ∷ y ∷ []) a b few first second = cc
 two_names (x ∷ y ∷ z ∷ names) a b few first second = absurd (omega arith)
 
-no_first : (names : List Word) (knobs : Option Knobs) → slice_get names 0 ≡ None → route_with names knobs ≡ Err Usage
-no_first [] knobs none = refl
-no_first (x ∷ names) knobs none = cc
+no_first : (names : List Word) (from : Option Word) (knobs : Option Knobs) → slice_get names 0 ≡ None
+    → route_with names from knobs ≡ Err Usage
+no_first [] from knobs none = refl
+no_first (x ∷ names) from knobs none = cc
 
-no_second : (names : List Word) (knobs : Option Knobs) → slice_get names 1 ≡ None → route_with names knobs ≡ Err Usage
-no_second [] knobs none = refl
-no_second (x ∷ []) knobs none = refl
-no_second (x ∷ y ∷ names) knobs none = cc
+no_second : (names : List Word) (from : Option Word) (knobs : Option Knobs) → slice_get names 1 ≡ None
+    → route_with names from knobs ≡ Err Usage
+no_second [] from knobs none = refl
+no_second (x ∷ []) from knobs none = refl
+no_second (x ∷ y ∷ names) from knobs none = cc
 
-without_knobs : (names : List Word) → route_with names None ≡ Err Usage
-without_knobs [] = refl
-without_knobs (x ∷ []) = refl
-without_knobs (x ∷ y ∷ []) = refl
-without_knobs (x ∷ y ∷ z ∷ names) = refl
+without_knobs : (names : List Word) (from : Option Word) → route_with names from None ≡ Err Usage
+without_knobs [] from = refl
+without_knobs (x ∷ []) from = refl
+without_knobs (x ∷ y ∷ []) from = refl
+without_knobs (x ∷ y ∷ z ∷ names) from = refl
 
 module _ (words : List Word) (f : Found) (holds : HoldsRoute (parts_of route_form words) f) where
   knobs_are : knobs_found f ≡ knobs_of (parts_of route_form words)
@@ -62,21 +64,30 @@ module _ (words : List Word) (f : Found) (holds : HoldsRoute (parts_of route_for
     holds.omits,
   ) refl
 
-  route_is : route_of words ≡ route_with (names_in (parts_of route_form words)) (knobs_found f)
-  route_is = rw holds.held.fits (ap (route_with (names_in (parts_of route_form words))) (sym knobs_are))
+  -- the file of the earlier session, if one is named
+  abbrev from_found : Option Word
+  from_found = first_value f (codes "from")
+
+  route_is : route_of words ≡ route_with (names_in (parts_of route_form words)) from_found (knobs_found f)
+  route_is =
+      rw holds.held.fits
+      (ap (route_with (names_in (parts_of route_form words)) (value_in (codes "from") (parts_of route_form words)))
+      (sym knobs_are)
+      ∙ ap (λ (from : Option Word). route_with (names_in (parts_of route_form words)) from (knobs_found f))
+      (sym (holds.held.values (codes "from") refl)))
 
   pub no_input : first_value f (codes "input") ≡ None → route_of words ≡ Err Usage
-  no_input none = route_is ∙ no_first _ _ (sym (holds.held.names 0 (codes "input") refl) ∙ none)
+  no_input none = route_is ∙ no_first _ _ _ (sym (holds.held.names 0 (codes "input") refl) ∙ none)
 
   pub no_output : first_value f (codes "output") ≡ None → route_of words ≡ Err Usage
-  no_output none = route_is ∙ no_second _ _ (sym (holds.held.names 1 (codes "output") refl) ∙ none)
+  no_output none = route_is ∙ no_second _ _ _ (sym (holds.held.names 1 (codes "output") refl) ∙ none)
 
   pub no_knobs : knobs_found f ≡ None → route_of words ≡ Err Usage
-  no_knobs none = route_is ∙ rw none (without_knobs (names_in (parts_of route_form words)))
+  no_knobs none = route_is ∙ rw none (without_knobs (names_in (parts_of route_form words)) from_found)
 
   pub route_named : (a b : Word) (knobs : Knobs) → first_value f (codes "input") ≡ Some a
       → first_value f (codes "output") ≡ Some b
-      → knobs_found f ≡ Some knobs → route_of words ≡ route_with (a ∷ b ∷ []) (Some knobs)
+      → knobs_found f ≡ Some knobs → route_of words ≡ route_with (a ∷ b ∷ []) from_found (Some knobs)
   route_named a b knobs first second given =
       let few = few_names route_form (parts_of route_form words) [] 0 (omega arith) holds.held.fits in
       let names = two_names (names_in (parts_of route_form words)) a b (omega arith)

@@ -9,7 +9,8 @@ use Rattle.std.proofs.lemmas.Bool.{leb-true}
 use Rattle.route_words.specs.Parts.{Part, Word, fit, names_in, parts_of, value_in}
 use Rattle.route_words.specs.Words.{AreWithin, IsWithin, Says, check_form, check_of, check_with, command_of, gen_form}
 use Rattle.route_words.specs.Words.{gen_of, gen_with, grid_in, is_between}
-use Rattle.route_words.specs.Words.{is_empty, is_short_number, knobs_in, knobs_of, number_between, number_in, number_or}
+use Rattle.route_words.specs.Words.{is_empty, is_given_empty}
+use Rattle.route_words.specs.Words.{is_short_number, knobs_in, knobs_of, number_between, number_in, number_or}
 use Rattle.route_words.specs.Words.{route_form, route_of, route_with}
 use Rattle.route_words.specs.declared.command.Command.{Command}
 use Rattle.route_words.specs.declared.command.Command.TheVariants.{Gen}
@@ -99,23 +100,33 @@ or_right : (a b : Bool) → (a || b) ≡ false → b ≡ false
 or_right true b e = absurd (true≢false e)
 or_right false b e = e
 
-named_within : (input output : Word) (knobs : Knobs) → AreWithin knobs
-    → IfOk (route_with (input ∷ output ∷ []) (Some knobs)) IsWithin
-named_within input output knobs within = by (is_empty input || is_empty output) refl
+filled_given : (from : Option Word) → is_given_empty from ≡ false → IfSome from (λ name. 0 < length name)
+filled_given None e = tt
+filled_given (Some name) e = filled_name name e
+
+named_within : (input output : Word) (from : Option Word) (knobs : Knobs) → AreWithin knobs
+    → IfOk (route_with (input ∷ output ∷ []) from (Some knobs)) IsWithin
+named_within input output from knobs within = by (is_empty input || is_empty output || is_given_empty from) refl
   where
-    by : (b : Bool) → (is_empty input || is_empty output) ≡ b → IfOk (route_with (input ∷ output ∷ []) (Some knobs))
-        IsWithin
+    by : (b : Bool) → (is_empty input || is_empty output || is_given_empty from) ≡ b
+        → IfOk (route_with (input ∷ output ∷ []) from (Some knobs)) IsWithin
     by true e = rw e tt
     by false e =
-        rw e (filled_name input (or_left _ _ e), filled_name output (or_right (is_empty input) _ e), within)
+        let two = or_left (is_empty input || is_empty output) (is_given_empty from) e in
+        rw e (
+          filled_name input (or_left (is_empty input) (is_empty output) two),
+          filled_name output (or_right (is_empty input) (is_empty output) two),
+          filled_given from (or_right (is_empty input || is_empty output) (is_given_empty from) e),
+          within,
+        )
 
-route_with_within : (names : List Word) (knobs : Option Knobs) → IfSome knobs AreWithin
-    → IfOk (route_with names knobs) IsWithin
-route_with_within [] knobs within = tt
-route_with_within (a ∷ []) knobs within = tt
-route_with_within (a ∷ b ∷ []) None within = tt
-route_with_within (a ∷ b ∷ []) (Some knobs) within = named_within a b knobs within
-route_with_within (a ∷ b ∷ d ∷ names) knobs within = tt
+route_with_within : (names : List Word) (from : Option Word) (knobs : Option Knobs) → IfSome knobs AreWithin
+    → IfOk (route_with names from knobs) IsWithin
+route_with_within [] from knobs within = tt
+route_with_within (a ∷ []) from knobs within = tt
+route_with_within (a ∷ b ∷ []) from None within = tt
+route_with_within (a ∷ b ∷ []) from (Some knobs) within = named_within a b from knobs within
+route_with_within (a ∷ b ∷ d ∷ names) from knobs within = tt
 
 if_fits : (b : Bool) (r : Result Command WordFault) → IfOk r IsWithin → IfOk (if b then r else Err Usage) IsWithin
 if_fits true r within = within
@@ -124,7 +135,8 @@ if_fits false r within = tt
 route_within : (words : List Word) → IfOk (route_of words) IsWithin
 route_within words =
     if_fits (fit route_form (parts_of route_form words)) _
-    (route_with_within (names_in (parts_of route_form words)) (knobs_of (parts_of route_form words))
+    (route_with_within (names_in (parts_of route_form words)) (value_in (codes "from") (parts_of route_form words))
+    (knobs_of (parts_of route_form words))
     (knobs_of_within (parts_of route_form words)))
 
 files_within : (input session report : Word) → IfOk (check_with (input ∷ session ∷ report ∷ [])) IsWithin

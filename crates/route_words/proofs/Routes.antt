@@ -31,34 +31,39 @@ ByLong x = arg_by_long route_rules x
 by_long : (x : Word) → ByLong x
 by_long x = by (bytes_eq (codes "grid") x) refl (bytes_eq (codes "workers") x) refl (bytes_eq (codes "passes") x) refl
     (bytes_eq (codes "via-cost") x) refl (bytes_eq (codes "tries") x) refl (bytes_eq (codes "omit-fixed") x) refl
+    (bytes_eq (codes "from") x) refl
   where
     by : (a : Bool) → bytes_eq (codes "grid") x ≡ a → (b : Bool) → bytes_eq (codes "workers") x ≡ b → (d : Bool)
         → bytes_eq (codes "passes") x ≡ d → (e : Bool) → bytes_eq (codes "via-cost") x ≡ e
-        → (h : Bool) → bytes_eq (codes "tries") x ≡ h → (g : Bool) → bytes_eq (codes "omit-fixed") x ≡ g → ByLong x
-    by true p b q d r e s h u g t = subst ByLong (same (codes "grid") x p) refl
-    by false p true q d r e s h u g t = subst ByLong (same (codes "workers") x q) refl
-    by false p false q true r e s h u g t = subst ByLong (same (codes "passes") x r) refl
-    by false p false q false r true s h u g t = subst ByLong (same (codes "via-cost") x s) refl
-    by false p false q false r false s true u g t = subst ByLong (same (codes "tries") x u) refl
-    by false p false q false r false s false u true t = subst ByLong (same (codes "omit-fixed") x t) refl
-    by false p false q false r false s false u false t = rw (p, q, r, s, u, t) refl
+        → (h : Bool) → bytes_eq (codes "tries") x ≡ h → (g : Bool) → bytes_eq (codes "omit-fixed") x ≡ g
+        → (k : Bool) → bytes_eq (codes "from") x ≡ k → ByLong x
+    by true p b q d r e s h u g t k v = subst ByLong (same (codes "grid") x p) refl
+    by false p true q d r e s h u g t k v = subst ByLong (same (codes "workers") x q) refl
+    by false p false q true r e s h u g t k v = subst ByLong (same (codes "passes") x r) refl
+    by false p false q false r true s h u g t k v = subst ByLong (same (codes "via-cost") x s) refl
+    by false p false q false r false s true u g t k v = subst ByLong (same (codes "tries") x u) refl
+    by false p false q false r false s false u true t k v = subst ByLong (same (codes "omit-fixed") x t) refl
+    by false p false q false r false s false u false t true v = subst ByLong (same (codes "from") x v) refl
+    by false p false q false r false s false u false t false v = rw (p, q, r, s, u, t, v) refl
 
 abbrev ById : Word → Type 0
 ById x = has route_form.valued x ≡ true → arg_by_id route_rules x ≡ Some (V x)
 
 by_id : (x : Word) → ById x
 by_id x = by (bytes_eq (codes "grid") x) refl (bytes_eq (codes "workers") x) refl (bytes_eq (codes "passes") x) refl
-    (bytes_eq (codes "via-cost") x) refl (bytes_eq (codes "tries") x) refl
+    (bytes_eq (codes "via-cost") x) refl (bytes_eq (codes "tries") x) refl (bytes_eq (codes "from") x) refl
   where
     by : (a : Bool) → bytes_eq (codes "grid") x ≡ a → (b : Bool) → bytes_eq (codes "workers") x ≡ b → (d : Bool)
         → bytes_eq (codes "passes") x ≡ d → (e : Bool) → bytes_eq (codes "via-cost") x ≡ e
-        → (h : Bool) → bytes_eq (codes "tries") x ≡ h → ById x
-    by true p b q d r e s h u = subst ById (same (codes "grid") x p) (λ known. refl)
-    by false p true q d r e s h u = subst ById (same (codes "workers") x q) (λ known. refl)
-    by false p false q true r e s h u = subst ById (same (codes "passes") x r) (λ known. refl)
-    by false p false q false r true s h u = subst ById (same (codes "via-cost") x s) (λ known. refl)
-    by false p false q false r false s true u = subst ById (same (codes "tries") x u) (λ known. refl)
-    by false p false q false r false s false u = λ known. absurd (true≢false (sym known ∙ rw (p, q, r, s, u) refl))
+        → (h : Bool) → bytes_eq (codes "tries") x ≡ h → (k : Bool) → bytes_eq (codes "from") x ≡ k → ById x
+    by true p b q d r e s h u k v = subst ById (same (codes "grid") x p) (λ known. refl)
+    by false p true q d r e s h u k v = subst ById (same (codes "workers") x q) (λ known. refl)
+    by false p false q true r e s h u k v = subst ById (same (codes "passes") x r) (λ known. refl)
+    by false p false q false r true s h u k v = subst ById (same (codes "via-cost") x s) (λ known. refl)
+    by false p false q false r false s true u k v = subst ById (same (codes "tries") x u) (λ known. refl)
+    by false p false q false r false s false u true v = subst ById (same (codes "from") x v) (λ known. refl)
+    by false p false q false r false s false u false v =
+        λ known. absurd (true≢false (sym known ∙ rw (p, q, r, s, u, v) refl))
 
 abbrev pub name_id : ℕ → Word
 name_id zero = codes "input"
@@ -89,29 +94,32 @@ by_name (suc (suc n)) lt = absurd (omega (arith, ltb-true (suc (suc n)) 2 lt))
 abbrev Apart : Word → Word → Type 0
 Apart name x = (bytes_eq x name ≡ false) × (bytes_eq name x ≡ false)
 
-apart_from : (x : Word) → ours route_form x ≡ true → Apart (codes "input") x × Apart (codes "output") x
+abbrev Both : Word → Type 0
+Both t = Apart (codes "input") t × Apart (codes "output") t
+
+apart_from : (x : Word) → ours route_form x ≡ true → Both x
 apart_from x mine = by (bytes_eq (codes "grid") x) refl (bytes_eq (codes "workers") x) refl
     (bytes_eq (codes "passes") x) refl (bytes_eq (codes "via-cost") x) refl (bytes_eq (codes "tries") x) refl
-    (bytes_eq (codes "omit-fixed") x) refl
+    (bytes_eq (codes "omit-fixed") x) refl (bytes_eq (codes "from") x) refl
   where
     by : (a : Bool) → bytes_eq (codes "grid") x ≡ a → (b : Bool) → bytes_eq (codes "workers") x ≡ b → (d : Bool)
         → bytes_eq (codes "passes") x ≡ d → (e : Bool) → bytes_eq (codes "via-cost") x ≡ e
         → (h : Bool) → bytes_eq (codes "tries") x ≡ h
-        → (g : Bool) → bytes_eq (codes "omit-fixed") x ≡ g → Apart (codes "input") x × Apart (codes "output") x
-    by true p b q d r e s h u g t = subst (λ t. Apart (codes "input") t × Apart (codes "output") t)
-        (same (codes "grid") x p) ((refl, refl), (refl, refl))
-    by false p true q d r e s h u g t = subst (λ t. Apart (codes "input") t × Apart (codes "output") t)
-        (same (codes "workers") x q) ((refl, refl), (refl, refl))
-    by false p false q true r e s h u g t = subst (λ t. Apart (codes "input") t × Apart (codes "output") t)
-        (same (codes "passes") x r) ((refl, refl), (refl, refl))
-    by false p false q false r true s h u g t = subst (λ t. Apart (codes "input") t × Apart (codes "output") t)
-        (same (codes "via-cost") x s) ((refl, refl), (refl, refl))
-    by false p false q false r false s true u g t = subst (λ t. Apart (codes "input") t × Apart (codes "output") t)
-        (same (codes "tries") x u) ((refl, refl), (refl, refl))
-    by false p false q false r false s false u true t = subst (λ t. Apart (codes "input") t × Apart (codes "output") t)
-        (same (codes "omit-fixed") x t) ((refl, refl), (refl, refl))
-    by false p false q false r false s false u false t =
-        absurd (true≢false (sym mine ∙ rw (p, q, r, s, u, t) refl))
+        → (g : Bool) → bytes_eq (codes "omit-fixed") x ≡ g
+        → (k : Bool) → bytes_eq (codes "from") x ≡ k → Both x
+    by true p b q d r e s h u g t k v = subst Both (same (codes "grid") x p) ((refl, refl), (refl, refl))
+    by false p true q d r e s h u g t k v = subst Both (same (codes "workers") x q) ((refl, refl), (refl, refl))
+    by false p false q true r e s h u g t k v = subst Both (same (codes "passes") x r) ((refl, refl), (refl, refl))
+    by false p false q false r true s h u g t k v =
+        subst Both (same (codes "via-cost") x s) ((refl, refl), (refl, refl))
+    by false p false q false r false s true u g t k v =
+        subst Both (same (codes "tries") x u) ((refl, refl), (refl, refl))
+    by false p false q false r false s false u true t k v =
+        subst Both (same (codes "omit-fixed") x t) ((refl, refl), (refl, refl))
+    by false p false q false r false s false u false t true v =
+        subst Both (same (codes "from") x v) ((refl, refl), (refl, refl))
+    by false p false q false r false s false u false t false v =
+        absurd (true≢false (sym mine ∙ rw (p, q, r, s, u, t, v) refl))
 
 apart : (m : ℕ) → nat_lt m 2 ≡ true → (x : Word) → ours route_form x ≡ true → (bytes_eq x (name_id m) ≡ false)
     × (bytes_eq (name_id m) x ≡ false)
@@ -167,6 +175,7 @@ defaults_pass rows =
       default_passes _ (rule_at 5) refl,
       default_passes _ (rule_at 6) refl,
       flag_passes _,
+      default_passes _ (rule_at 8) refl,
     ) refl
 
 pub route_passes : PassesAfter route_rules
@@ -187,27 +196,29 @@ route_defaults rows =
       no_default rows (rule_at 4) refl,
       no_default rows (rule_at 5) refl,
       no_default rows (rule_at 6) refl,
+      no_default (with_default rows (rule_at 7)) (rule_at 8) refl,
     ) refl
 
+abbrev IsOther : Word → Type 0
+IsOther t = bytes_eq (codes "omit-fixed") t ≡ false
+
 -- the flag is no option with a value
-pub flag_apart : (x : Word) → has route_form.valued x ≡ true → bytes_eq (codes "omit-fixed") x ≡ false
+pub flag_apart : (x : Word) → has route_form.valued x ≡ true → IsOther x
 flag_apart x known = by (bytes_eq (codes "grid") x) refl (bytes_eq (codes "workers") x) refl
     (bytes_eq (codes "passes") x) refl
-    (bytes_eq (codes "via-cost") x) refl (bytes_eq (codes "tries") x) refl
+    (bytes_eq (codes "via-cost") x) refl (bytes_eq (codes "tries") x) refl (bytes_eq (codes "from") x) refl
   where
     by : (a : Bool) → bytes_eq (codes "grid") x ≡ a → (b : Bool) → bytes_eq (codes "workers") x ≡ b
         → (d : Bool) → bytes_eq (codes "passes") x ≡ d → (e : Bool) → bytes_eq (codes "via-cost") x ≡ e
-        → (h : Bool) → bytes_eq (codes "tries") x ≡ h → bytes_eq (codes "omit-fixed") x ≡ false
-    by true p b q d r e s h u = subst (λ t. bytes_eq (codes "omit-fixed") t ≡ false) (same (codes "grid") x p) refl
-    by false p true q d r e s h u = subst (λ t. bytes_eq (codes "omit-fixed") t ≡ false) (same (codes "workers") x q)
-        refl
-    by false p false q true r e s h u = subst (λ t. bytes_eq (codes "omit-fixed") t ≡ false) (same (codes "passes") x r)
-        refl
-    by false p false q false r true s h u = subst (λ t. bytes_eq (codes "omit-fixed") t ≡ false)
-        (same (codes "via-cost") x s) refl
-    by false p false q false r false s true u = subst (λ t. bytes_eq (codes "omit-fixed") t ≡ false)
-        (same (codes "tries") x u) refl
-    by false p false q false r false s false u = absurd (true≢false (sym known ∙ rw (p, q, r, s, u) refl))
+        → (h : Bool) → bytes_eq (codes "tries") x ≡ h → (k : Bool) → bytes_eq (codes "from") x ≡ k → IsOther x
+    by true p b q d r e s h u k v = subst IsOther (same (codes "grid") x p) refl
+    by false p true q d r e s h u k v = subst IsOther (same (codes "workers") x q) refl
+    by false p false q true r e s h u k v = subst IsOther (same (codes "passes") x r) refl
+    by false p false q false r true s h u k v = subst IsOther (same (codes "via-cost") x s) refl
+    by false p false q false r false s true u k v = subst IsOther (same (codes "tries") x u) refl
+    by false p false q false r false s false u true v = subst IsOther (same (codes "from") x v) refl
+    by false p false q false r false s false u false v =
+        absurd (true≢false (sym known ∙ rw (p, q, r, s, u, v) refl))
 
 pub route_id : (m : ℕ) → route_serves.id m ≡ name_id m
 unfolding route_serves

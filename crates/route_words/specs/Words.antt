@@ -1,7 +1,7 @@
 -- What the words of the command line mean: a command with its knobs, or why they are refused.
 use Rattle.std.specs.Prelude.{◌≡◌, ◌≤◌, ◌<◌, ⊤, IfSome, String, string_bytes, map}
-use Rattle.std.specs.Prelude.{ℕ, ◌*◌, ◌+◌, ◌-◌, ◌==◌, nat_le, Bool, ◌&&◌, ◌||◌, unwrap_or, if◌then◌else◌, codes, length}
-use Rattle.std.specs.Prelude.{fold}
+use Rattle.std.specs.Prelude.{ℕ, ◌*◌, ◌+◌, ◌-◌, ◌==◌, nat_le, Bool, false, ◌&&◌, ◌||◌, unwrap_or, if◌then◌else◌}
+use Rattle.std.specs.Prelude.{codes, fold, length}
 use Rattle.std.specs.Prelude.{List, [], ◌∷◌, Option, Some, None, is_some, option_map, option_and_then, Result, Ok, Err}
 use Rattle.std.specs.declared.alloc.Global.{Global}
 use Rattle.std.specs.List.{list_all}
@@ -72,16 +72,21 @@ knobs_of parts = knobs_in (value_in (codes "grid") parts) (value_in (codes "work
 abbrev pub is_empty : Word → Bool
 is_empty word = length word == 0
 
--- exactly two names, none of them empty, and knobs
-abbrev pub route_with : List Word → Option Knobs → Result Command WordFault
-route_with (input ∷ output ∷ []) (Some knobs) =
-    if is_empty input || is_empty output then Err Usage else Ok (Route input output knobs)
-route_with names knobs = Err Usage
+abbrev pub is_given_empty : Option Word → Bool
+is_given_empty None = false
+is_given_empty (Some word) = is_empty word
+
+-- exactly two names and, where one is given, that of an earlier session, none of them empty; and knobs
+abbrev pub route_with : List Word → Option Word → Option Knobs → Result Command WordFault
+route_with (input ∷ output ∷ []) from (Some knobs) =
+    if is_empty input || is_empty output || is_given_empty from then Err Usage
+    else Ok (Route input output from knobs)
+route_with names from knobs = Err Usage
 
 abbrev pub route_form : Form
 route_form = record {
   names = 2;
-  valued = codes "grid" ∷ codes "workers" ∷ codes "passes" ∷ codes "via-cost" ∷ codes "tries" ∷ [];
+  valued = codes "grid" ∷ codes "workers" ∷ codes "passes" ∷ codes "via-cost" ∷ codes "tries" ∷ codes "from" ∷ [];
   flags = codes "omit-fixed" ∷ [];
 }
 
@@ -89,7 +94,8 @@ route_form = record {
 abbrev pub route_of : List Word → Result Command WordFault
 route_of words =
     let parts = parts_of route_form words in
-    if fit route_form parts then route_with (names_in parts) (knobs_of parts) else Err Usage
+    if fit route_form parts then route_with (names_in parts) (value_in (codes "from") parts) (knobs_of parts)
+    else Err Usage
 
 -- ---- check
 
@@ -159,6 +165,7 @@ pub record AreWithin (knobs : Knobs) : Type 0 where
 
 -- names that aren't empty, and numbers in their ranges
 abbrev pub IsWithin : Command → Type 0
-IsWithin (Route input output knobs) = (0 < length input) × (0 < length output) × AreWithin knobs
+IsWithin (Route input output from knobs) =
+    (0 < length input) × (0 < length output) × IfSome from (λ name. 0 < length name) × AreWithin knobs
 IsWithin (Check input session report) = (0 < length input) × (0 < length session) × (0 < length report)
 IsWithin (Gen n) = (1 ≤ n) × (n ≤ LAST_BOARD)

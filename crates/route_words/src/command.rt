@@ -25,10 +25,12 @@ pub struct Knobs {
 /// What the words ask for.
 #[derive(Drop)]
 pub enum Command {
-    /// Route the design in the file `input`, and write the session into the file `output`. No name is empty.
+    /// Route the design in the file `input`, and write the session into the file `output`. Where the file `from` is
+    /// named, the design's wiring is that of the earlier session in it. No name is empty.
     Route {
         input: Text,
         output: Text,
+        from: Option<Text>,
         knobs: Knobs,
     },
     /// Judge the session in the file `session` and the report in the file `report` by the design in the file `input`.

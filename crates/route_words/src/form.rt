@@ -6,7 +6,7 @@ ghost use Rattle.clap.specs.Simple.{App, app_of};
 ghost use Rattle.clap.specs.Walk.{rule_of};
 ghost use Rattle.clap.specs.Values.{kind_of};
 ghost use Rattle.route_words.specs.Words.{texts};
-ghost use Rattle.route_words.specs.inner.Forms.{bare_app, named, valued, fault_by, Reads};
+ghost use Rattle.route_words.specs.inner.Forms.{bare_app, named, valued, flag, fault_by, Reads};
 ghost use Rattle.route_words.specs.inner.Forms.{route_args, check_args, Adds, Makes, IsPlainForm};
 ghost use Rattle.route_words.specs.inner.Forms.{FindsRoute, FindsCheck, FindsGen};
 
@@ -53,6 +53,15 @@ fn push_valued<'a>(alloc: Global, args: &mut Vec<Arg<'a>>, name: &'a str) -> Res
     push(args, valued_arg(alloc, name))
 }
 
+fn push_flag<'a>(alloc: Global, args: &mut Vec<Arg<'a>>, name: &'a str) -> Result<(), AllocError>
+    ensures { IfOk result (λ _. Adds (flag name.entry.now ∷ []) args.old.items args.new.items) }
+{
+    push(
+        args,
+        Arg::new(alloc, name).long(name).action(ArgAction::SetTrue),
+    )
+}
+
 // The arguments of the words after `route`.
 fn push_route<'a>(alloc: Global, args: &mut Vec<Arg<'a>>) -> Result<(), AllocError>
     ensures { IfOk result (λ _. Adds route_args args.old.items args.new.items) }
@@ -60,16 +69,12 @@ fn push_route<'a>(alloc: Global, args: &mut Vec<Arg<'a>>) -> Result<(), AllocErr
     push_name(alloc, args, "input")?;
     push_name(alloc, args, "output")?;
     push_valued(alloc, args, "grid")?;
-    push(args, valued_arg(alloc, "workers"))?;
+    push_valued(alloc, args, "workers")?;
     push_valued(alloc, args, "passes")?;
     push_valued(alloc, args, "via-cost")?;
     push_valued(alloc, args, "tries")?;
-    push(
-        args,
-        Arg::new(alloc, "omit-fixed")
-            .long("omit-fixed")
-            .action(ArgAction::SetTrue),
-    )
+    push_flag(alloc, args, "omit-fixed")?;
+    push_valued(alloc, args, "from")
 }
 
 // The arguments of the words after `check`.

@@ -4,7 +4,8 @@
 ghost use Rattle.std.specs.Prelude.{◌≡◌, ◌∷◌, [], List as Seq, Some, IfOk};
 ghost use Rattle.std.specs.Option.{option_map};
 ghost use Rattle.clap.specs.Matches.{found_of};
-ghost use Rattle.route_words.specs.Words.{texts, route_with, route_of, check_with, check_of, gen_with, gen_of};
+ghost use Rattle.route_words.specs.Words.{texts, is_given_empty, route_with, route_of, check_with, check_of};
+ghost use Rattle.route_words.specs.Words.{gen_with, gen_of};
 ghost use Rattle.route_words.specs.Words.{command_of, Says, IsWithin, gen_form, check_form, route_form};
 ghost use Rattle.route_words.specs.Parts.{Word, parts_of};
 ghost use Rattle.route_words.specs.inner.Forms.{is_on, knobs_found, HoldsGen, HoldsCheck, HoldsRoute};
@@ -14,11 +15,12 @@ use crate::knobs::{read_knobs, read_number};
 use crate::limits::LAST_BOARD;
 use crate::{Command, Knobs, Text, WordFault};
 use clap::ArgMatches;
-use std::alloc::Global;
+use std::alloc::{AllocError, Global};
 
 /// How the program is called: its words, with the ranges and defaults of the options.
 pub const USAGE: &str = "\
 dsnroute route IN OUT [--grid UM] [--workers N] [--passes N] [--via-cost UM] [--tries T] [--omit-fixed]
+               [--from OLD]
 dsnroute check IN SES REPORT
 dsnroute gen N
   --grid UM      1 to 100000 um; without it, the grid that the design asks for
@@ -27,6 +29,7 @@ dsnroute gen N
   --via-cost UM  0 to 1000000 um; 2000 without it
   --tries T      0 to 1000; 16 without it
   --omit-fixed   leave the fixed wiring out of the session
+  --from OLD     start from the wiring of the earlier session OLD in the place of the design's
   check          judge a session and its report by the design
   gen N          the generated board number N, 1 to 400
   --             each word after it is a name
@@ -54,17 +57,45 @@ fn knobs_found(found: &ArgMatches) -> Option<Knobs>
     )
 }
 
-fn route_with(alloc: Global, input: &str, output: &str, knobs: Knobs) -> Result<Command, WordFault>
-    ensures { Says (route_with (input.now ∷ output.now ∷ []) (Some knobs)) result }
+fn is_given_empty(name: Option<&str>) -> bool
+    ensures { result ≡ is_given_empty (option_map (λ w. w.now) name.entry) }
 {
-    if input.is_empty() || output.is_empty() {
+    match name {
+        Some(name) => name.is_empty(),
+        None => false,
+    }
+}
+
+// The text of a name that may be missing.
+fn text_given(alloc: Global, name: Option<&str>) -> Result<Option<Text>, AllocError>
+    ensures { IfOk result (λ text. text ≡ option_map (λ w. w.now) name.entry) }
+{
+    match name {
+        Some(name) => Ok(Some(Text::from_str(alloc, name)?)),
+        None => Ok(None),
+    }
+}
+
+fn route_with(
+    alloc: Global,
+    input: &str,
+    output: &str,
+    from: Option<&str>,
+    knobs: Knobs,
+) -> Result<Command, WordFault>
+    ensures { Says (route_with (input.now ∷ output.now ∷ []) (option_map (λ w. w.now) from.entry) (Some knobs))
+        result }
+{
+    if input.is_empty() || output.is_empty() || is_given_empty(from) {
         return Err(WordFault::Usage);
     }
     let input = Text::from_str(alloc, input)?;
     let output = Text::from_str(alloc, output)?;
+    let from = text_given(alloc, from)?;
     Ok(Command::Route {
         input,
         output,
+        from,
         knobs,
     })
 }
@@ -83,7 +114,7 @@ fn route_found(alloc: Global, found: &ArgMatches) -> Result<Command, WordFault>
     let Some(knobs) = knobs_found(found) else {
         return Err(WordFault::Usage);
     };
-    route_with(alloc, input, output, knobs)
+    route_with(alloc, input, output, found.get_str("from"), knobs)
 }
 
 fn read_route(alloc: Global, words: &[String]) -> Result<Command, WordFault>

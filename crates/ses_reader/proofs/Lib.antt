@@ -2,3 +2,4 @@ pub mod Fractions
 pub mod Naming
 pub mod OneSession
 pub mod Sound
+pub mod FreeWires

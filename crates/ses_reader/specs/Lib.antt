@@ -4,3 +4,4 @@ pub mod Copper
 pub mod Session
 pub mod Reading
 pub mod Sound
+pub mod Wiring

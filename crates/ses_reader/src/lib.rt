@@ -14,7 +14,9 @@ pub mod table;
 mod vertices;
 mod via;
 mod wire;
+mod wiring;
 
 pub use item::{SesFault, SesItem};
 pub use laws::one_session;
 pub use session::read_session;
+pub use wiring::wires_of;

@@ -22,7 +22,8 @@ use Rattle.shove.specs.Shoves.{IsShovedChain, chain_of}
 use Rattle.board_offers.specs.Items.{with_chain}
 use Rattle.board_offers.proofs.Lists.{got}
 use Rattle.session_law.proofs.ToldDesigns.{IsWholeMetal}
-use Rattle.session_law.proofs.ScaleLines.{IsWhole, HasWholeLines, node_whole}
+use Rattle.route_lattice.proofs.WholeLines.{IsWhole}
+use Rattle.session_law.proofs.ScaleLines.{HasWholeLines, node_whole}
 
 -- the points of a chain are whole in units of so many nm
 abbrev pub IsWholeChain : ℕ → List Point → Type 0

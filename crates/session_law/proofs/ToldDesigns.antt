@@ -1,9 +1,7 @@
 -- The wiring of a design and the widths of its nets are whole in the unit of its session.
-use Rattle.std.proofs.Common.{◌≡◌, inl, inr, ℕ, ◌/◌, ◌==◌, Bool, true, false, List, [], ◌∷◌, ◌++◌, map, Option, Some}
-use Rattle.std.proofs.Common.{ap, ◌∙◌, refl, get_or, subst}
-use Rattle.std.specs.Prelude.{◌&&◌, All, Contains, IfSome, filter, slice_get, unsigned_abs}
+use Rattle.std.proofs.Common.{◌≡◌, inl, inr, ℕ, ◌/◌, Bool, true, false, List, Some, refl, get_or, subst}
+use Rattle.std.specs.Prelude.{◌&&◌, All, Contains, filter, slice_get, unsigned_abs}
 use Rattle.std.specs.List.{list_all}
-use Rattle.std.proofs.Math.Nat.{mod-one}
 use Rattle.std.proofs.lemmas.Bool.{and_parts, and_from, cases_Bool}
 use Rattle.std.proofs.lemmas.List.Sums.{AllPass-from_list_all, list_all-from_AllPass}
 use Rattle.std.proofs.lemmas.List.Elements.{All-contains, All-weaker}
@@ -15,14 +13,14 @@ use Rattle.pcb_model.specs.declared.item.Metal.TheVariants.{Wire, Via, Pad, Ban}
 use Rattle.pcb_model.specs.declared.design.Component.{Component}
 use Rattle.pcb_model.specs.declared.design.FreeWire.{FreeWire}
 use Rattle.pcb_model.specs.declared.design.Net.{Net}
-use Rattle.pcb_model.specs.declared.design.RuleSet.{RuleSet}
 use Rattle.pcb_model.specs.declared.design.SesScale.{SesScale}
 use Rattle.pcb_model.specs.declared.design.Design.{Design}
 use Rattle.pcb_model.specs.Board.{IsRouted, is_fixed}
-use Rattle.pcb_model.specs.Rules.{first_present, width_for, with_class}
-use Rattle.pcb_model.specs.Scale.{is_whole, is_whole_point, is_whole_padstack, is_whole_metal, is_whole_net, net_width}
+use Rattle.pcb_model.specs.Rules.{width_for}
+use Rattle.pcb_model.specs.Scale.{is_whole, is_whole_point, is_whole_padstack, is_whole_metal, is_whole_net}
 use Rattle.pcb_model.specs.Scale.{is_on_scale, keeps_resolution, scale_of}
-use Rattle.board_offers.proofs.Lists.{all_from, at_place}
+use Rattle.pcb_model.proofs.Widths.{one_whole, width_whole}
+use Rattle.board_offers.proofs.Lists.{all_from}
 use Rattle.pcb_board.proofs.Order.{kept_there}
 use Rattle.session_law.specs.Told.{IsOnScale, is_whole_copper}
 use Rattle.session_law.proofs.ToldScales.{is_kept, of_scale, scale_if}
@@ -38,10 +36,6 @@ pub record IsWholeDesign (d : Design) (nm : ℕ) : Type 0 where
   pub free_whole : All (λ (w : FreeWire). IsWholeMetal nm w.metal) d.free
 
 -- ---- in units of 1 nm all is whole
--- each number
-one_whole : (n : ℕ) → is_whole 1 n ≡ true
-one_whole n = ap (λ (r : ℕ). r == 0) (mod-one n)
-
 -- each point
 point_in_one : (p : Point) → is_whole_point 1 p ≡ true
 point_in_one p = and_from (is_whole 1 (unsigned_abs p.x)) (is_whole 1 (unsigned_abs p.y)) (one_whole (unsigned_abs p.x))
@@ -71,17 +65,6 @@ metal_whole d nm (Wire layer width chain) h = h
 metal_whole d nm (Via padstack at) h = (and_parts (is_whole_point nm at) (is_whole_padstack d nm padstack) h).0
 metal_whole d nm (Pad pin) h = refl
 metal_whole d nm (Ban wires vias) h = refl
-
--- the width of the net at a number
-width_whole : (d : Design) (nm net : ℕ) (n : Net) → list_all (is_whole_net d nm) d.nets ≡ true
-    → slice_get d.nets net ≡ Some n → is_whole nm (width_for d net) ≡ true
-width_whole d nm net n h e =
-    let whole = subst (λ (o : Option Net). IfSome o (λ (x : Net). is_whole_net d nm x ≡ true)) e
-    (at_place (λ (x : Net). is_whole_net d nm x ≡ true) d.nets net
-    (AllPass-from_list_all (is_whole_net d nm) d.nets h)) in
-    ap (λ (o : Option Net). is_whole nm (first_present 250000
-    (map (λ (rs : RuleSet). rs.width) (with_class d o ++ d.rules ∷ [])))) e
-    ∙ (and_parts (is_whole nm (net_width d n)) (list_all (is_whole_padstack d nm) n.vias) whole).0
 
 -- the whole design
 design_whole : (d : Design) (nm : ℕ) → is_on_scale d nm ≡ true → IsWholeDesign d nm

@@ -224,7 +224,7 @@ fn tells_checks_by_number(rt: HostRuntime) {
 // ---- wrong words
 
 /// Words with a bar between each two, and the first line that is said of them.
-static WRONG_WORDS: [(&str, &str); 23] = [
+static WRONG_WORDS: [(&str, &str); 27] = [
     ("draw", "draw: there is no such command"),
     ("route|t.dsn", "a name is missing"),
     ("route|a|", "a name is empty"),
@@ -273,6 +273,19 @@ static WRONG_WORDS: [(&str, &str); 23] = [
         "route|a|b|--omit-fixed=yes",
         "--omit-fixed=yes: the option takes no value",
     ),
+    (
+        "route|a|b|--from",
+        "--from: the name of a file is wanted behind it",
+    ),
+    (
+        "route|a|--from=|b",
+        "--from=: the name of a file is wanted behind it",
+    ),
+    (
+        "route|a|b|--from|-x",
+        "--from: the name of a file is wanted behind it",
+    ),
+    ("route|a|--from|c", "a name is missing"),
     ("check|a|b", "a name is missing"),
     ("check|a||c", "a name is empty"),
     ("check|a|b|--|c|-d", "-d: a name too many"),

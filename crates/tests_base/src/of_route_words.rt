@@ -1,7 +1,7 @@
 //! Lists of words: what they ask for, and why they are refused.
 //! Each option is given before, between and behind the names, and left out.
 
-use route_words::{Command, Knobs, WordFault, read_words};
+use route_words::{Command, Knobs, Text, WordFault, read_words};
 use std::alloc::{AllocError, Global};
 
 /// The knobs where no option is given.
@@ -29,16 +29,40 @@ fn read(alloc: Global, line: &str) -> Result<Command, WordFault> {
     read_words(alloc, words.as_slice())
 }
 
-/// Whether the words of a line ask to route these files with these knobs.
+/// Whether the words of a line ask to route these files with these knobs, and from no earlier session.
 fn routes(alloc: Global, line: &str, input: &str, output: &str, knobs: Knobs) -> bool {
     match read(alloc, line) {
         Ok(
             Command::Route {
-                input: from,
-                output: to,
+                input: design,
+                output: session,
+                from: None,
                 knobs: given,
             },
-        ) => from.as_str() == input && to.as_str() == output && given == knobs,
+        ) => design.as_str() == input && session.as_str() == output && given == knobs,
+        _ => false,
+    }
+}
+
+/// Whether this is the name of a file.
+fn is_name(name: &Option<Text>, wanted: &str) -> bool {
+    match name {
+        Some(name) => name.as_str() == wanted,
+        None => false,
+    }
+}
+
+/// Whether the words of a line ask to route the file a into the file b from this earlier session.
+fn starts(alloc: Global, line: &str, old: &str) -> bool {
+    match read(alloc, line) {
+        Ok(
+            Command::Route {
+                input,
+                output,
+                from,
+                knobs: _,
+            },
+        ) => input.as_str() == "a" && output.as_str() == "b" && is_name(&from, old),
         _ => false,
     }
 }
@@ -127,6 +151,14 @@ fn reads_what_to_route(rt: HostRuntime) {
 }
 
 #[test]
+fn reads_earlier_sessions(rt: HostRuntime) {
+    assert!(rt; starts(rt.alloc(), "route|a|b|--from|c.ses", "c.ses"));
+    assert!(rt; starts(rt.alloc(), "route|--from=c=d|a|b", "c=d"));
+    assert!(rt; starts(rt.alloc(), "route|a|--from=-x|--|b", "-x"));
+    assert!(rt; starts(rt.alloc(), "route|a|--from|-|b|--tries=1", "-"));
+}
+
+#[test]
 fn reads_what_to_judge(rt: HostRuntime) {
     assert!(rt;
         judges(
@@ -180,6 +212,12 @@ route|a|b|--tries=1001
 route|a|b|--tries
 route|a|b|--omit-fixed=yes
 route|a|b|--omit-fixed=
+route|a|b|--from
+route|a|b|--from=
+route|a|b|--from|
+route|a|b|--from|-x
+route|a|b|--from|--|c
+route|a|b|--from=c|--from=c
 route|a|b|--grids=5
 route|a|b|--gri=5
 route|a|b|--help

@@ -38,6 +38,8 @@ mod of_checks;
 #[cfg(test)]
 mod of_dsn_design;
 #[cfg(test)]
+mod of_earlier;
+#[cfg(test)]
 mod of_lattices;
 #[cfg(test)]
 mod of_maps;

@@ -405,7 +405,7 @@ pub(crate) const FIXED: [(&str, &str); 3] = [
     ),
 ];
 
-const FIXED_NETS: &str = "      (net B
+pub(crate) const FIXED_NETS: &str = "      (net B
         (wire (path F.Cu 2000 20000 80000 40000 80000))
       )
       (net C

@@ -1,5 +1,8 @@
 //! What the reader of designs answers, in words.
 
+ghost use Rattle.std.specs.Prelude.{IfOk};
+ghost use Rattle.pcb_model.specs.Sound.{IsSound};
+
 use crate::table::Answers;
 use crate::words::{Piece, put, put_two};
 use dsn_design::read_design;
@@ -39,7 +42,7 @@ fn word_of(what: What) -> &'static str {
 }
 
 /// Puts `refused NUMBER at PLACE`, or `limit WHAT NUMBER at PLACE` where a limit is passed.
-fn put_refusal(words: &mut String, refusal: Refusal) -> Result<(), AllocError> {
+pub(crate) fn put_refusal(words: &mut String, refusal: Refusal) -> Result<(), AllocError> {
     let Refusal {
         number,
         at,
@@ -79,7 +82,9 @@ fn put_fault(words: &mut String, fault: &DesignFault) -> Result<(), AllocError> 
 }
 
 /// The design of a text, or why it has none.
-pub(crate) fn design_of(alloc: Global, text: &[u8]) -> Result<Design, DesignFault> {
+pub(crate) fn design_of(alloc: Global, text: &[u8]) -> Result<Design, DesignFault>
+    ensures { IfOk result IsSound }
+{
     if text.len() > MAX_BYTES {
         return Err(DesignFault::Spelling(TreeFault::Empty));
     }

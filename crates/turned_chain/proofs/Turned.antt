@@ -15,13 +15,13 @@ use Rattle.geo_kernel.specs.Spine.{Segment, links, last_of, chain_segments, loop
 use Rattle.geo_kernel.specs.Spine.{spine_segments}
 use Rattle.geo_kernel.specs.Spine.{is_right, IsInside, BeginInside, BeginsInside, Keeps, Touches, KeepsAll}
 use Rattle.geo_kernel.specs.Spine.{TouchesSome}
-use Rattle.geo_kernel.specs.Spine.{SpinesKeep, SpinesTouch}
+use Rattle.geo_kernel.specs.Spine.{SpinesKeep, SpinesTouch, closed}
 use Rattle.geo_kernel.proofs.Parity.{xor, odd, NoneCross, same_parity}
 use Rattle.geo_kernel.proofs.Paths.{bit, Any-here, Any-there, Any-cases, Any-nil, All-append_first, All-append_second}
 use Rattle.geo_kernel.proofs.Segments.{less, cross_touches, nothing_kept}
 use Rattle.geo_kernel.proofs.Solid.{odd-append, count_odd}
 use Rattle.spine_cover.proofs.Deciding.{touch_stands}
-use Rattle.turned_chain.specs.Turned.{closed, KeepsFromEdges}
+use Rattle.turned_chain.specs.Turned.{KeepsFromEdges}
 
 -- ---- a list the other way round, before another one
 abbrev pub onto : List Point → List Point → List Point

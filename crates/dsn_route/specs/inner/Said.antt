@@ -26,7 +26,10 @@ use Rattle.dsn_route.specs.Lines.{refused_line, over_line, read_fault_line, limi
 use Rattle.dsn_route.specs.Lines.{check_ok_line}
 use Rattle.dsn_route.specs.Status.{ended_of}
 use Rattle.dsn_route.specs.Texts.{limit_number}
-use Rattle.dsn_route.specs.Commands.{mesh_of, run_of, AsksToRoute}
+use Rattle.dsn_route.specs.Commands.{mesh_of, run_of, from_of, AsksToRoute, IsText}
+use Rattle.dsn_route.specs.Judging.{IsSessionIn}
+use Rattle.dsn_design.specs.Reading.{HasDesign}
+use Rattle.ses_reader.specs.declared.item.SesItem.{SesItem}
 use Rattle.dsn_route.specs.Answers.{Leaves}
 use Rattle.route_lattice.specs.declared.limits.TheConstants.{MOST_NODES}
 
@@ -34,6 +37,18 @@ use Rattle.route_lattice.specs.declared.limits.TheConstants.{MOST_NODES}
 pub record IsOrder (command : Command) : Type 0 where
   pub within : IsWithin command
   pub routes : AsksToRoute command
+
+-- this design was read for the command
+pub record IsReadFor (command : Command) (desk : DeskState) (read : Design) : Type 0 where
+  pub text : List ℕ
+  pub is_text : IsText command desk text
+  pub reads : HasDesign text read
+
+-- the earlier session that the command names was read, and has these items
+pub record IsEarlier (command : Command) (desk : DeskState) (read : Design) (items : List SesItem) : Type 0 where
+  pub name : List ℕ
+  pub name_is : from_of command ≡ Some name
+  pub session : IsSessionIn name desk read items
 
 -- there is no cut, or there is one
 abbrev pub IsVerdict : List Cut → Status → Type 0

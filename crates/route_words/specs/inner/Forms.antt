@@ -46,7 +46,8 @@ with_rules app (rule ∷ rules) = with_rules (with_rule app rule) rules
 
 abbrev pub route_args : List Rule
 route_args = named (codes "input") ∷ named (codes "output") ∷ valued (codes "grid") ∷ valued (codes "workers")
-    ∷ valued (codes "passes") ∷ valued (codes "via-cost") ∷ valued (codes "tries") ∷ flag (codes "omit-fixed") ∷ []
+    ∷ valued (codes "passes") ∷ valued (codes "via-cost") ∷ valued (codes "tries") ∷ flag (codes "omit-fixed")
+    ∷ valued (codes "from") ∷ []
 
 abbrev pub route_app : App
 route_app = with_rules bare_app route_args

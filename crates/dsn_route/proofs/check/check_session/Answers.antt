@@ -1,4 +1,4 @@
-use Rattle.std.proofs.Common.{rules, arith, ◌≡◌, length, vec_len, Err, ℕ, List, subst}
+use Rattle.std.proofs.Common.{rules, arith, ◌≡◌, length, vec_len, Err, ℕ, List, refl, subst}
 use Rattle.route_words.specs.declared.command.Command.TheVariants.{Check}
 use Rattle.ses_reader.specs.Reading.{ReadsSession}
 use Rattle.dsn_route.specs.Commands.{IsInput}
@@ -31,13 +31,15 @@ returns-in-Err-read g c = λ input first.
       fits = let long : length c.in-Ok.text.items ≡ vec_len c.in-Ok.text = search rules in
           let fits = c.in-Ok.ensures.gives.1 in omega (arith, long, fits);
     } in
-    misread_ends input c.args.session.now c.args.report.now _ _ _ _ c.read.ensures.files c.args.d.now first
+    misread_ends (Check input c.args.session.now c.args.report.now) input c.args.session.now refl refl _ _ _ _
+    c.read.ensures.files c.args.d.now first
     c.in-Ok.text.items text c.end_misread.result c.in-Err-read.fault
     (subst (λ (t : List ℕ). ReadsSession t c.args.d.now (Err c.in-Err-read.fault)) c.deref.ensures.value
     c.in-Err-read.ensures.reads) c.end_misread.ensures
 
 pub returns-in-Err : goal.returns-in-Err
 returns-in-Err g c = λ input first.
-    session_unread input c.args.session.now c.args.report.now _ _ _ _ c.read.ensures.files c.args.d.now first
+    session_unread (Check input c.args.session.now c.args.report.now) input c.args.session.now refl refl _ _ _ _
+    c.read.ensures.files c.args.d.now first
     c.in-Err.fail c.end_unread.result (subst (λ (n : List ℕ). FailsBy (g.D.Desk.state c.args.desk.now)
     (g.D.Desk.state c.read.new.self) n c.in-Err.fail) c.as_str.ensures c.in-Err.ensures.gives) c.end_unread.ensures

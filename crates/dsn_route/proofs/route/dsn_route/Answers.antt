@@ -4,6 +4,7 @@ use Rattle.dsn_route.specs.Lines.{usage_line}
 use Rattle.dsn_route.proofs.Ended.{stopped}
 use Rattle.dsn_route.proofs.Dues.{absent_due, long_due, refused_due, over_due, nodes_due, complete_due}
 use Rattle.dsn_route.proofs.Checked.{clean_due, judged_due, rejected_due}
+use Rattle.dsn_route.proofs.Started.{back_due}
 use Rattle.dsn_route.proofs.Knobbed.{is_readable, is_yes}
 use Rattle.dsn_route.proofs.Vouching.{vouched_for}
 use Rattle.dsn_route.proofs.Wording.{misworded}
@@ -27,19 +28,23 @@ returns-in-Ok-clause-limit g c = λ text held long.
 
 pub returns-in-Ok-clause-refused : goal.returns-in-Ok-clause-refused
 returns-in-Ok-clause-refused g c = λ text read unfit.
-    refused_due c.one_outcome.ensures _ _ _ _ _ text c.in-Ok.command c.in-Ok.ensures.says read _ c.route.ensures unfit
+    refused_due c.one_outcome.ensures c.one_session.ensures _ _ _ _ _ text c.in-Ok.command c.in-Ok.ensures.says read
+    _ c.route.ensures unfit
 
 pub returns-in-Ok-clause-counted : goal.returns-in-Ok-clause-counted
 returns-in-Ok-clause-counted g c = λ text read over.
-    over_due c.one_outcome.ensures _ _ _ _ _ text c.in-Ok.command c.in-Ok.ensures.says read _ c.route.ensures over
+    over_due c.one_outcome.ensures c.one_session.ensures _ _ _ _ _ text c.in-Ok.command c.in-Ok.ensures.says read
+    _ c.route.ensures over
 
 pub returns-in-Ok-clause-nodes : goal.returns-in-Ok-clause-nodes
 returns-in-Ok-clause-nodes g c = λ text read fine.
-    nodes_due c.one_outcome.ensures _ _ _ _ _ text c.in-Ok.command c.in-Ok.ensures.says read _ c.route.ensures fine
+    nodes_due c.one_outcome.ensures c.one_session.ensures _ _ _ _ _ text c.in-Ok.command c.in-Ok.ensures.says read
+    _ c.route.ensures fine
 
 pub returns-in-Ok-clause-complete : goal.returns-in-Ok-clause-complete
 returns-in-Ok-clause-complete g c = λ text read routable calm.
-    complete_due c.one_outcome.ensures _ _ _ _ _ text c.in-Ok.command c.in-Ok.ensures.says read _ c.route.ensures
+    complete_due c.one_outcome.ensures c.one_session.ensures _ _ _ _ _ text c.in-Ok.command c.in-Ok.ensures.says read
+    _ c.route.ensures
     routable calm
 
 pub returns-in-Ok-clause-rejected : goal.returns-in-Ok-clause-rejected
@@ -62,3 +67,8 @@ pub returns-in-Ok-clause-vouched : goal.returns-in-Ok-clause-vouched
 returns-in-Ok-clause-vouched g c = λ input session page is status.
     vouched_for c.right_is_vouched.ensures input session page _ _ _ _ c.in-Ok.command _
     (sym c.in-Ok.ensures.says ∙ is) status c.route.ensures
+
+pub returns-in-Ok-clause-comes_back : goal.returns-in-Ok-clause-comes_back
+returns-in-Ok-clause-comes_back g c = λ b given.
+    back_due c.sessions_come_back.ensures c.one_outcome.ensures _ _ b given c.in-Ok.command c.in-Ok.ensures.says _ _ _
+    c.route.result.routed c.route.result.status c.route.ensures

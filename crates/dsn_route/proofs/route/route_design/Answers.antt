@@ -6,8 +6,7 @@ use Rattle.dsn_route.proofs.route.route_design.Goals as goal
 
 pub returns-in-Ok : goal.returns-in-Ok
 returns-in-Ok g c =
-    routed c.args.command.now _ _ _ _ c.args.text.now c.args.design c.requires.is_text c.requires.reads
-    c.requires.order.routes
+    routed c.args.command.now _ _ _ _ c.args.design c.requires.asked c.requires.order.routes
     c.route_on-outcome.result.routed c.route_on-outcome.result.status c.route_on-outcome.ensures
 
 pub returns-in-Err-TooManyNodes : goal.returns-in-Err-TooManyNodes
@@ -16,10 +15,8 @@ returns-in-Err-TooManyNodes g c =
     rw (c.unrouted.ensures, c.ended.ensures)
     (stopped (Ok c.args.command.now) _ _ _ _ _ Limit (nodes_line c.in-Err-TooManyNodes.count)
     (inr (inr (inl (record {
-      text = c.args.text.now;
       design = c.args.design;
-      is_text = c.requires.is_text;
-      reads = c.requires.reads;
+      is_design = c.requires.asked;
       routes = c.requires.order.routes;
       many = gives.1;
       line_is = ap nodes_line gives.0;

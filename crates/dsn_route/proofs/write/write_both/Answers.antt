@@ -7,8 +7,8 @@ use Rattle.dsn_route.proofs.Written.{put_out}
 use Rattle.dsn_route.proofs.write.write_both.Goals as goal
 
 pub returns-in-Ok-write : goal.returns-in-Ok-write
-returns-in-Ok-write g c = λ input.
-    let command : Command = Route input c.args.output.now c.args.knobs in
+returns-in-Ok-write g c = λ input from.
+    let command : Command = Route input c.args.output.now from c.args.knobs in
     let board = c.args.routed.now.board in
     let facts = c.args.routed.now.facts in
     let has : HasWritten command board (g.D.Desk.state c.args.desk.now) (g.D.Desk.state c.write.new.self) =

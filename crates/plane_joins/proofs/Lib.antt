@@ -1,0 +1,16 @@
+pub mod Places
+pub mod Along
+pub mod Few
+pub mod Owning
+pub mod Crossings
+pub mod Fitting
+pub mod Routed
+pub mod Ribbing
+pub mod Growing
+pub mod Changing
+pub mod Whole
+pub mod Building
+pub mod Areas
+pub mod Stubbing
+pub mod Landing
+pub mod Shut

@@ -1,0 +1,5 @@
+-- What private functions give: a reader of the public contracts needs none of it.
+pub mod Laying
+pub mod Graph
+pub mod Serving
+pub mod Wanting

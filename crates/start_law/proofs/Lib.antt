@@ -1,0 +1,2 @@
+mod Copper
+mod Back

@@ -10,10 +10,11 @@ use Rattle.pcb_islands.specs.declared.net.Island.{Island}
 use Rattle.pcb_islands.specs.Islands.{AreIslands}
 use Rattle.route_lattice.specs.declared.moves.Walk.{Walk}
 use Rattle.route_lattice.specs.Mesh.{Mesh, node_count}
-use Rattle.route_lattice.specs.Walks.{MoveGraph, IsLeastWalk}
+use Rattle.route_lattice.specs.Walks.{MoveGraph, IsLeastWalk, NoneLeads}
 use Rattle.route_lattice.specs.Anchors.{Anchors, AnchorsAmong}
 use Rattle.route_lattice.specs.Legal.{IsLegalNode, legal_graph}
 use Rattle.path_wire.specs.Wires.{copper_of}
+use Rattle.path_wire.specs.Diagonals.{wide_graph}
 use Rattle.path_wire.specs.Joins.{last_node}
 use Rattle.ripup.specs.Rips.{AreIdsInWay, rip_graph}
 use Rattle.shove.specs.Shoves.{IsShove, IsWire, reshaped}
@@ -65,16 +66,16 @@ pub record IsAnchoredAt (b : BoardOf) (m : Mesh) (island : Island) (node id : �
   pub asked : Contains island.items id
   pub anchors : Anchors b.design m node item
 
--- the offer adds the copper of a least walk from the island to one of the others, and joins items that are anchored
--- at its ends
-pub record JoinsLeast (m : Mesh) (via_cost : ℕ) (b : BoardOf) (o : Offer) (island : Island)
+-- the offer adds the copper of a least walk of the graph from the island to one of the others, and joins items that
+-- are anchored at its ends
+pub record JoinsOver (graph : MoveGraph) (m : Mesh) (b : BoardOf) (o : Offer) (island : Island)
     (others : List Island) : Type 0 where
   pub starts : List ℕ
   pub starts_are : (node : ℕ) → Contains starts node ↔ IsStartOf b m o island node
   pub goals : List ℕ
   pub goals_are : (node : ℕ) → Contains goals node ↔ IsGoalOf b m others node
   pub walk : Walk
-  pub least : IsLeastWalk (walks_of m via_cost b o o.penalty) starts goals walk
+  pub least : IsLeastWalk graph starts goals walk
   pub add_is : o.add ≡ copper_of b.design m o.net walk.nodes walk.moves
   pub start : ℕ
   pub rest : List ℕ
@@ -83,6 +84,10 @@ pub record JoinsLeast (m : Mesh) (via_cost : ℕ) (b : BoardOf) (o : Offer) (isl
   pub other : Island
   pub other_there : Contains others other
   pub to_anchored : IsAnchoredAt b m other (last_node start rest) o.to
+
+-- of a least walk over the moves that the offer's penalty, or none, lets be
+abbrev pub JoinsLeast : Mesh → ℕ → BoardOf → Offer → Island → List Island → Type 0
+JoinsLeast m via_cost b o = JoinsOver (walks_of m via_cost b o o.penalty) m b o
 
 -- ---- what is in the way
 -- run r of the item, moved up or down, gives the chain; the item with it fits among the others, and beside the new
@@ -150,14 +155,17 @@ Chooses m b o (Some penalty) = MakesWay m b o
 Chooses m b o None = o.worker < CLOSER → TakesNothing o
 
 -- ---- least offers
--- a least walk for the offer, whatever it takes out
-pub record IsLaidLeast (m : Mesh) (via_cost : ℕ) (b : BoardOf) (o : Offer) : Type 0 where
+-- a least walk of the graph for the offer, whatever it takes out
+pub record IsLaidOver (graph : MoveGraph) (m : Mesh) (b : BoardOf) (o : Offer) : Type 0 where
   pub found : List Island
   pub islands : AreIslands b.design b.items o.net found
   pub place : ℕ
   pub island : Island
   pub island_is : slice_get found place ≡ Some island
-  pub joins : JoinsLeast m via_cost b o island (remove found place)
+  pub joins : JoinsOver graph m b o island (remove found place)
+
+abbrev pub IsLaidLeast : Mesh → ℕ → BoardOf → Offer → Type 0
+IsLaidLeast m via_cost b o = IsLaidOver (walks_of m via_cost b o o.penalty) m b o
 
 -- a worker's offer begins at the first island of the net
 pub record IsLeastOffer (m : Mesh) (via_cost : ℕ) (b : BoardOf) (o : Offer) : Type 0 where
@@ -169,3 +177,13 @@ pub record IsLeastOffer (m : Mesh) (via_cost : ℕ) (b : BoardOf) (o : Offer) : 
   pub first : o.worker < CLOSER → place ≡ 0
   pub joins : JoinsLeast m via_cost b o island (remove found place)
   pub chooses : Chooses m b o o.penalty
+
+-- ---- offers with moves at 45 degrees
+-- a join of the closing pass by a walk with such moves: none costs less, it takes nothing out, and no legal walk leads
+-- from that island to another
+pub record IsWideOffer (m : Mesh) (via_cost : ℕ) (b : BoardOf) (o : Offer) : Type 0 where
+  pub closer : o.worker ≡ CLOSER
+  pub no_penalty : o.penalty ≡ None
+  pub takes : TakesNothing o
+  pub laid : IsLaidOver (wide_graph b.design m b.items o.net via_cost) m b o
+  pub shut : NoneLeads (legal_graph b.design m b.items o.net via_cost) laid.joins.starts laid.joins.goals

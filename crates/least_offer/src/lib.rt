@@ -20,7 +20,8 @@ ghost use Rattle.board_offers.specs.Items.{added, added_from};
 ghost use Rattle.pcb_board.specs.Boards.{given};
 ghost use Rattle.least_offer.specs.Late.{IsFair};
 ghost use Rattle.least_offer.specs.Together.{StandTogether};
-ghost use Rattle.least_offer.specs.Least.{IsLaidLeast, IsLeastOffer, TakesNothing, MayBeMade, AreShovesOf};
+ghost use Rattle.least_offer.specs.Least.{IsLaidLeast, IsLeastOffer, IsWideOffer, TakesNothing, MayBeMade};
+ghost use Rattle.least_offer.specs.Least.{AreShovesOf};
 ghost use Rattle.pcb_model.specs.declared.item.Item.{Item as OneItem};
 ghost use Rattle.pcb_model.specs.declared.item.Metal.{Metal as OneMetal};
 ghost use Rattle.pcb_model.specs.declared.design.Design.{Design as TheDesign};
@@ -77,6 +78,16 @@ pub fn shoves_may_be_made()
         → AreIdsInWay b.design b.items (added b.design (given b) o) ids
         → AreShovesOf b.design m b.items (added b.design (given b) o) ids o.shoves → o.rip ≡ []
         → StandTogether b.design b.items o.shoves → MayBeMade b o }
+{
+    own_copper_agrees();
+    joining_falls();
+}
+
+/// A join of the closing pass by a walk with moves at 45 degrees is well formed and meets no trouble.
+pub fn wide_offers_may_be_made()
+    ensures { (m : Mesh) (via_cost : ℕ) (b : BoardOf) (o : OneOffer) → IsBoard b → Ascends b.items
+        → IsPlainCopper b.design → FitsDesign b.design m → o.base ≤ length b.history
+        → o.net < length b.design.nets → IsWideOffer m via_cost b o → MayBeMade b o }
 {
     own_copper_agrees();
     joining_falls();

@@ -1,4 +1,4 @@
-use Rattle.least_offer.proofs.Standing.{may_be_made}
+use Rattle.least_offer.proofs.Yielding.{may_be_made}
 use Rattle.least_offer.proofs.least_offers_may_be_made.Goals as goal
 
 pub returns : goal.returns

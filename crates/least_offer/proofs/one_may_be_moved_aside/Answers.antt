@@ -1,4 +1,4 @@
-use Rattle.least_offer.proofs.Standing.{may_move_one}
+use Rattle.least_offer.proofs.Yielding.{may_move_one}
 use Rattle.least_offer.proofs.one_may_be_moved_aside.Goals as goal
 
 pub returns : goal.returns

@@ -1,4 +1,4 @@
-use Rattle.least_offer.proofs.Standing.{may_take_one}
+use Rattle.least_offer.proofs.Yielding.{may_take_one}
 use Rattle.least_offer.proofs.one_may_be_taken_out.Goals as goal
 
 pub returns : goal.returns

@@ -1,4 +1,4 @@
-use Rattle.least_offer.proofs.Standing.{may_shove}
+use Rattle.least_offer.proofs.Yielding.{may_shove}
 use Rattle.least_offer.proofs.shoves_may_be_made.Goals as goal
 
 pub returns : goal.returns

@@ -1,10 +1,11 @@
 //! The legal moves of a net, by the map of its group.
 //! A move that is counted is there, so it is followed without a look at the lattice's borders or the padstack.
 
-ghost use Rattle.std.specs.Prelude.{◌≡◌, ◌<◌, ◌≤◌, ◌*◌, ◌+◌, length, slice_index};
+ghost use Rattle.std.specs.Prelude.{◌≡◌, ℕ, ◌<◌, ◌≤◌, ◌*◌, ◌+◌, length, slice_index, None};
 ghost use Rattle.std.specs.Bool.{OnTrue};
+ghost use Rattle.pcb_model.specs.declared.design.Design.{Design as TheDesign};
 ghost use Rattle.route_lattice.specs.Mesh.{node_count};
-ghost use Rattle.route_lattice.specs.Ways.{way_count};
+ghost use Rattle.route_lattice.specs.Ways.{way, way_count};
 ghost use Rattle.route_lattice.specs.Legal.{CanMove, legal_graph};
 ghost use Rattle.move_maps.specs.Groups.{AreAlike};
 ghost use Rattle.move_maps.specs.Maps.{IsMapOf, place_at};
@@ -14,7 +15,23 @@ use crate::map::GroupMap;
 use crate::step::{step_price, step_to};
 use crate::via::via_to;
 use pcb_model::Copper;
-use route_lattice::{LegalMoves, Move, Moves};
+use route_lattice::{Lattice, LegalMoves, Move, Moves};
+
+/// Whether the index is that of a via to the layer of the node itself, to which none leads.
+fn leads_nowhere(lat: &Lattice, node: u32, i: u32) -> bool
+    ensures { OnTrue result ((d : TheDesign) (net : ℕ) → way d lat.now net node i ≡ None) }
+{
+    let width = lat.xs().len();
+    let height = lat.ys().len();
+    let layers = lat.layers().len();
+    if i < 4 || width == 0 || height == 0 || layers == 0 {
+        return false;
+    }
+    if node as usize / width / height == (i - 4) as usize % layers {
+        return true;
+    }
+    false
+}
 
 /// The legal moves of a net, and the map of its group.
 #[derive(Drop)]
@@ -84,6 +101,9 @@ impl<C: Copper> Moves for MapMoves<'_, C> {
         if self.is_via(node, i) {
             let legal = &self.legal;
             return Some(via_to(legal.lat, legal.d, legal.net, node, i));
+        }
+        if leads_nowhere(self.legal.lat, node, i) {
+            return None;
         }
         self.legal.at(node, i)
     }

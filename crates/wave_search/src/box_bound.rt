@@ -1,7 +1,8 @@
 //! A bound by the boxes of the goals: a walk costs at least the way along the axes to the nearest of them.
 //! It holds on a lattice whose steps cost the gaps that they cross.
 
-ghost use Rattle.std.specs.Prelude.{◌≡◌, ◌≤◌, ◌<◌, ◌^◌, ℕ, List as Seq, All, IfOk, IfSome, OnOk, length, unsigned_abs};
+ghost use Rattle.std.specs.Prelude.{◌≡◌, ◌≤◌, ◌<◌, ◌^◌, ℕ, List as Seq, All, IfOk, IfSome, OnOk, length, min};
+ghost use Rattle.std.specs.Prelude.{unsigned_abs};
 ghost use Rattle.std.specs.Int.{int_min, int_max};
 ghost use Rattle.std.proofs.Props.{props};
 ghost use Rattle.geo_kernel.specs.declared.point.Point.{Point as OnePoint};
@@ -84,6 +85,19 @@ fn way_to(r: Rect4, p: Point) -> u64
     outside(r.x0, r.x1, p.x) + outside(r.y0, r.y1, p.y)
 }
 
+/// The lesser of a way and the one along the axes from a point to a box, in nm.
+fn lesser_way(least: u64, r: Rect4, p: Point) -> u64
+    requires r { IsBoxWithin r }
+    requires p { IsWithin (2 ^ 29) p }
+    ensures { result ≡ min least (way_to_box r p) }
+{
+    let across = outside(r.x0, r.x1, p.x);
+    if least <= across {
+        return least;
+    }
+    least.min(across + outside(r.y0, r.y1, p.y))
+}
+
 /// The way along the axes from a point to the nearest of the boxes, in nm, at most 2^31.
 fn nearest_way(boxes: &[Rect4], p: Point) -> u64
     requires boxes { All IsBoxWithin boxes.now }
@@ -92,7 +106,7 @@ fn nearest_way(boxes: &[Rect4], p: Point) -> u64
 {
     let mut least: u64 = 1 << 31;
     for r in boxes {
-        least = least.min(way_to(*r, p));
+        least = lesser_way(least, *r, p);
     }
     least
 }

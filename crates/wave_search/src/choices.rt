@@ -11,7 +11,7 @@ const NO_SLOT: u32 = u32::MAX;
 pub(crate) const NO_NODE: u32 = u32::MAX;
 
 /// The cost of no way.
-const NO_WAY: u32 = u32::MAX;
+pub(crate) const NO_WAY: u32 = u32::MAX;
 
 /// The greatest cost that is kept.
 pub(crate) const MOST: u32 = u32::MAX - 1;
@@ -22,6 +22,14 @@ pub(crate) struct Way {
     pub to: u32,
     pub then: Heading,
     pub cost: u32,
+}
+
+/// The best ways on from a node, one of each heading.
+#[derive(Clone, Copy)]
+pub(crate) struct Ways {
+    pub across: Way,
+    pub up: Way,
+    pub elsewhere: Way,
 }
 
 /// A start and the heading of its best way.
@@ -36,18 +44,32 @@ pub(crate) struct Start {
 #[derive(Drop)]
 pub(crate) struct Choices {
     slots: Vec<u32>,
-    ways: Vec<Way>,
+    ways: Vec<Ways>,
     /// Where a walk begins, if any way on leads from a start.
     pub start: Option<Start>,
     start_cost: u32,
 }
 
-fn place_of(slot: u32, heading: Heading) -> usize {
-    let first = slot as usize;
-    match heading {
-        Heading::Across => first,
-        Heading::Up => first + 1,
-        Heading::Elsewhere => first + 2,
+/// No ways.
+fn no_ways() -> Ways {
+    let none = Way {
+        to: NO_NODE,
+        then: Heading::Elsewhere,
+        cost: NO_WAY,
+    };
+    Ways {
+        across: none,
+        up: none,
+        elsewhere: none,
+    }
+}
+
+/// The way that costs less, of equal ones the first.
+fn better_of(first: Way, second: Way) -> Way {
+    if second.cost < first.cost {
+        second
+    } else {
+        first
     }
 }
 
@@ -71,12 +93,19 @@ impl Choices {
         self.slot(rank) != NO_SLOT
     }
 
+    /// The best ways on from the node of that rank.
+    pub(crate) fn ways(&self, rank: u32) -> Option<Ways> {
+        self.ways.get(self.slot(rank as usize) as usize).copied()
+    }
+
     /// The best way on of a heading from the node of that rank.
     pub(crate) fn way(&self, rank: u32, heading: Heading) -> Option<Way> {
-        let way = self
-            .ways
-            .get(place_of(self.slot(rank as usize), heading))
-            .copied()?;
+        let ways = self.ways(rank)?;
+        let way = match heading {
+            Heading::Across => ways.across,
+            Heading::Up => ways.up,
+            Heading::Elsewhere => ways.elsewhere,
+        };
         if way.cost == NO_WAY {
             return None;
         }
@@ -102,20 +131,17 @@ impl Choices {
         let mut slot = self.slot(rank as usize);
         if slot == NO_SLOT {
             slot = u32::try_from(self.ways.len()).unwrap_or(NO_SLOT);
-            let none = Way {
-                to: NO_NODE,
-                then: Heading::Elsewhere,
-                cost: NO_WAY,
-            };
-            self.ways.extend_from_slice(&[none, none, none])?;
+            self.ways.push(no_ways())?;
             if let Some(place) = self.slots.get_mut(rank as usize) {
                 *place = slot;
             }
         }
-        if let Some(kept) = self.ways.get_mut(place_of(slot, heading))
-            && way.cost < kept.cost
-        {
-            *kept = way;
+        if let Some(kept) = self.ways.get_mut(slot as usize) {
+            match heading {
+                Heading::Across => kept.across = better_of(kept.across, way),
+                Heading::Up => kept.up = better_of(kept.up, way),
+                Heading::Elsewhere => kept.elsewhere = better_of(kept.elsewhere, way),
+            }
         }
         Ok(())
     }

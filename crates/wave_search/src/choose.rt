@@ -7,7 +7,7 @@ ghost use Rattle.wave_search.specs.declared.rows.Label.{Label as TheLabel};
 ghost use Rattle.wave_search.specs.inner.State.{label_at};
 
 use crate::bound::Bound;
-use crate::choices::{Choices, MOST, NO_NODE, Way};
+use crate::choices::{Choices, MOST, NO_NODE, NO_WAY, Way, Ways};
 use crate::labels::Labels;
 use crate::query::{Done, Query};
 use crate::rows::Label;
@@ -20,15 +20,6 @@ fn is_before(first: Label, second: Label) -> bool {
     0 < first.rank && first.rank < second.rank
 }
 
-/// The way that costs less by the rule, of equal ones the first.
-fn better_of(first: Option<Way>, second: Option<Way>) -> Option<Way> {
-    match (first, second) {
-        (Some(a), Some(b)) => { if b.cost < a.cost { Some(b) } else { Some(a) } }
-        (Some(a), None) => Some(a),
-        (None, b) => b,
-    }
-}
-
 /// Whether a pass asks of each move if it is open, or takes it to be: a walk that it leads to is asked of in any case.
 #[derive(Clone, Copy)]
 pub(crate) enum Openness {
@@ -37,24 +28,40 @@ pub(crate) enum Openness {
 }
 
 impl<'a, M: Moves, B: Bound, T: Ties> Query<'a, M, B, T> {
-    /// The way on over a tight move, and then on by the way of that heading.
-    fn way_over(
-        &self,
-        choices: &Choices,
-        from: Done,
-        m: Move,
-        to: Done,
-        heading: Heading,
-    ) -> Option<Way> {
-        let way = choices.way(to.label.rank, heading)?;
+    /// What a move and the way of a heading behind it cost by the rule; no way costs as much as none.
+    fn cost_over(&self, node: u32, m: Move, price: u64, heading: Heading, way: Way) -> u32 {
+        if way.cost == NO_WAY {
+            return NO_WAY;
+        }
+        let sum = self
+            .ties
+            .cost(node, m, price, heading)
+            .saturating_add(way.cost as u64);
+        if sum < MOST as u64 { sum as u32 } else { MOST }
+    }
+
+    /// The way on over a tight move, and then on by the way of a heading that makes it the best, of equal ones the
+    /// first.
+    fn way_over(&self, ways: Ways, from: Done, m: Move, to: Done) -> Way {
         let price = to.label.price.saturating_sub(from.label.price);
-        let cost = self.ties.cost(from.node, m, price, heading);
-        let sum = cost.saturating_add(way.cost as u64);
-        Some(Way {
+        let across = self.cost_over(from.node, m, price, Heading::Across, ways.across);
+        let up = self.cost_over(from.node, m, price, Heading::Up, ways.up);
+        let elsewhere = self.cost_over(from.node, m, price, Heading::Elsewhere, ways.elsewhere);
+        let mut then = Heading::Across;
+        let mut cost = across;
+        if up < cost {
+            then = Heading::Up;
+            cost = up;
+        }
+        if elsewhere < cost {
+            then = Heading::Elsewhere;
+            cost = elsewhere;
+        }
+        Way {
             to: to.node,
-            then: heading,
-            cost: if sum < MOST as u64 { sum as u32 } else { MOST },
-        })
+            then,
+            cost,
+        }
     }
 
     /// The first move from one node to another; move `guess` is tried before all.
@@ -96,17 +103,16 @@ impl<'a, M: Moves, B: Bound, T: Ties> Query<'a, M, B, T> {
         let Some(m) = found else {
             return Ok(());
         };
-        let across = self.way_over(choices, from, m, to, Heading::Across);
-        let up = self.way_over(choices, from, m, to, Heading::Up);
-        let elsewhere = self.way_over(choices, from, m, to, Heading::Elsewhere);
-        let Some(way) = better_of(better_of(across, up), elsewhere) else {
+        let Some(ways) = choices.ways(to.label.rank) else {
             return Ok(());
         };
+        let way = self.way_over(ways, from, m, to);
         choices.offer(from.label.rank, heading_of(m), way)
     }
 
     /// The ways on from the node to which move `i` leads back. On a lattice moves lead both ways at one price;
-    /// where they don't, ways are missed, and the walk is one that costs more by the rule of ties.
+    /// where they don't, ways are missed, and the walk is one that costs more by the rule of ties. The node that the
+    /// label came from is known to lead on.
     fn choose_over(
         &self,
         table: &Labels,
@@ -126,13 +132,17 @@ impl<'a, M: Moves, B: Bound, T: Ties> Query<'a, M, B, T> {
         let Some(label) = table.get(node) else {
             return Ok(());
         };
-        if !is_before(label, to.label)
-            || to.label.origin == Some(node)
-            || label.price.saturating_add(self.m.price(to.node, i)) != to.label.price
-        {
+        if !is_before(label, to.label) {
             return Ok(());
         }
-        self.choose_from(choices, Done { node, label }, to, i ^ 1, openness)
+        let from = Done { node, label };
+        if to.label.origin == Some(node) {
+            return self.choose_from(choices, from, to, i ^ 1, Openness::Taken);
+        }
+        if label.price.saturating_add(self.m.price(to.node, i)) != to.label.price {
+            return Ok(());
+        }
+        self.choose_from(choices, from, to, i ^ 1, openness)
     }
 
     /// The goals that are done at the price: walks end there.
@@ -159,8 +169,7 @@ impl<'a, M: Moves, B: Bound, T: Ties> Query<'a, M, B, T> {
         Ok(())
     }
 
-    /// The ways on from the nodes before a node that has ways on itself. The node that its label came from is known to
-    /// lead to it.
+    /// The ways on from the nodes before a node that has ways on itself.
     fn choose_at(
         &self,
         table: &Labels,
@@ -174,22 +183,13 @@ impl<'a, M: Moves, B: Bound, T: Ties> Query<'a, M, B, T> {
         let Some(label) = self.label_after(table, 0, node) else {
             return Ok(());
         };
-        let Some(before) = label.origin else {
+        if label.origin.is_none() {
             choices.start_by(node, label.rank, Heading::Across);
             choices.start_by(node, label.rank, Heading::Up);
             choices.start_by(node, label.rank, Heading::Elsewhere);
             return Ok(());
-        };
-        let to = Done { node, label };
-        if let Some(label) = self.label_after(table, 0, before)
-            && is_before(label, to.label)
-        {
-            let from = Done {
-                node: before,
-                label,
-            };
-            self.choose_from(choices, from, to, 0, Openness::Taken)?;
         }
+        let to = Done { node, label };
         for i in 0..self.m.arity() {
             self.choose_over(table, choices, to, i, openness)?;
         }

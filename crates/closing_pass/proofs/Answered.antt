@@ -2,9 +2,8 @@
 use Rattle.std.proofs.Common.{◌≡◌, ◌⊎◌, ℕ, ◌+◌, ◌-◌, ◌<◌, ◌≤◌, List, [], ◌∷◌, length, Bool}
 use Rattle.std.proofs.Common.{true, false, Option, Some, None}
 use Rattle.std.proofs.Common.{refl, sym, ap, ◌∙◌, subst, inl, inr, arith}
-use Rattle.std.specs.Prelude.{Contains, IfSome, IsTrue, ◌↔◌}
+use Rattle.std.specs.Prelude.{Contains, IfSome}
 use Rattle.std.specs.Bool.{OnFalse}
-use Rattle.std.proofs.lemmas.Bool.{false≢true}
 use Rattle.std.proofs.lemmas.Option.{slice_get_within}
 use Rattle.geo_kernel.specs.declared.point.Point.{Point}
 use Rattle.pcb_model.specs.declared.item.Item.{Item}
@@ -14,8 +13,9 @@ use Rattle.pcb_islands.proofs.Joined.{one_item}
 use Rattle.pcb_islands.proofs.Others.{item_net}
 use Rattle.pcb_islands.proofs.Touches.{below_or_same}
 use Rattle.route_lattice.specs.Mesh.{Mesh}
-use Rattle.route_lattice.specs.declared.moves.Reach.{Reach}
-use Rattle.cut_certificate.specs.Cuts.{LeadsOn}
+use Rattle.cut_certificate.specs.declared.cut.Cut.{Cut}
+use Rattle.cut_certificate.specs.Cuts.{IsCut, LeadsOn}
+use Rattle.cut_certificate.specs.Past.{IsCutPast}
 use Rattle.move_maps.specs.Maps.{AreMapsOf}
 use Rattle.shove.specs.Shoves.{IsShove, Shoves, chain_of}
 use Rattle.shove.proofs.Shoving.{one_chain}
@@ -29,14 +29,12 @@ use Rattle.pcb_board.proofs.Taking.{removed_is}
 use Rattle.least_offer.specs.Least.{cleared}
 use Rattle.route_plan.specs.declared.mapped.MappedSnap.{MappedSnap}
 use Rattle.route_plan.specs.declared.route.Route.{Route}
-use Rattle.route_plan.specs.declared.route.Routed.{Routed}
-use Rattle.route_plan.specs.declared.route.Routed.TheVariants as routed
 use Rattle.route_plan.specs.Mapped.{IsMapped}
-use Rattle.route_plan.specs.Routes.{FindsStated, IsLed, IsStatedRoute}
+use Rattle.route_plan.specs.Routes.{FindsPast, IsLed, IsStatedRoute, walks_of}
 use Rattle.route_plan.specs.Searches.{NetSearchOf}
 use Rattle.closing_pass.specs.Settled.{IsCloserOffer, IsSettled, LaysStated, MovesAside, TakesOut}
 use Rattle.closing_pass.specs.inner.Rooms.{IsHome, IsPast, IsRoomFor, RoomOf, search_in}
-use Rattle.closing_pass.specs.inner.Tries.{AnswersBy, AnswersItem, AnswersTrial, FindsPast, HasRouted, IsOfOther}
+use Rattle.closing_pass.specs.inner.Tries.{AnswersBy, AnswersItem, AnswersTrial, FindsRoute, HasRouted, IsOfOther}
 use Rattle.closing_pass.specs.inner.Tries.{IsPastOffer, IsPastTrial}
 use Rattle.closing_pass.specs.inner.Tries.{IsShoveTo, IsShutIsland, IsTriedItem, MovesRunTo, MovesTo, NoneHelps}
 use Rattle.closing_pass.specs.inner.Tries.{ShutIslandOf, search_on}
@@ -45,7 +43,8 @@ use Rattle.closing_pass.proofs.Aside.{one_way_aside, one_way_out}
 use Rattle.closing_pass.proofs.Attempts.{gone_it, in_the_way}
 use Rattle.closing_pass.proofs.Laying.{IsLike, like_aside, like_out}
 use Rattle.closing_pass.proofs.Lays.{lays, lays_none}
-use Rattle.closing_pass.proofs.Opens.{leads_found, leads_past, search_of}
+use Rattle.closing_pass.proofs.Gate.{cut_past}
+use Rattle.closing_pass.proofs.Opens.{leads_found, leads_past, none_between, search_of, sure_goals, sure_starts}
 use Rattle.closing_pass.proofs.Past.{out_there}
 use Rattle.closing_pass.proofs.Places.{other_place}
 
@@ -66,22 +65,31 @@ items_out items past id up is = is.put ∙ is.removed.rest_is
 -- where no walk is found there, none leads on
 pub shut_out : (m : Mesh) (via_cost : ℕ) (b : BoardOf) (id : ℕ) (room : RoomOf) (island : Island)
     (others : List Island) → IsBoard b → IsRoomFor m via_cost b id None room → (led : Bool)
-    → (IsTrue led ↔ IsLed (search_in room island others))
+    → OnFalse led (¬ (IsLed (search_in room island others)))
     → OnFalse led (¬ (LeadsOn b.design m (without (id ∷ []) b.items) via_cost island others))
 shut_out m via_cost b id room island others kept is true says = tt
 shut_out m via_cost b id room island others kept is false says =
-    leads_found b.design m via_cost (without (id ∷ []) b.items) island others (λ led. false≢true (says.1
+    leads_found b.design m via_cost (without (id ∷ []) b.items) island others (λ led. says
     (subst (λ (q : NetSearchOf). IsLed q) (sym (room_search m via_cost b id None room island others is))
     (subst (λ (xs : List Item). IsLed (search_of b.design m via_cost xs island others))
-    (sym (items_out b.items room.items id (ascends_now b kept) is.past)) led))))
+    (sym (items_out b.items room.items id (ascends_now b kept) is.past)) led)))
+
+-- a cut of the island on the board, past the item
+pub room_cut : (m : Mesh) (via_cost : ℕ) (b : BoardOf) (id : ℕ) (moved : Option Item) (room : RoomOf)
+    (island : Island) (others : List Island) (cut : Cut) → IsRoomFor m via_cost b id moved room
+    → IsCut b.design m b.items island others cut → IsCutPast (walks_of (search_in room island others)) cut id
+room_cut m via_cost b id moved room island others cut is is_cut =
+    subst (λ (q : NetSearchOf). IsCutPast (walks_of q) cut id)
+    (sym (room_search m via_cost b id moved room island others is))
+    (cut_past b.design m b.items room.items via_cost id moved island others cut is_cut is.past)
 
 pub finds_past : (s : ShutIslandOf) (id : ℕ) (moved : Option Item) (room : RoomOf)
-    → IsRoomFor s.lat s.via_cost s.board id moved room → (found : Routed)
-    → FindsStated (search_in room s.island s.others) found → FindsPast s id moved found
+    → IsRoomFor s.lat s.via_cost s.board id moved room → (found : Option Route)
+    → FindsPast (search_in room s.island s.others) found → FindsRoute s id moved found
 finds_past s id moved room is found finds = record {
   items = room.items;
   past = is.past;
-  finds = subst (λ (q : NetSearchOf). FindsStated q found)
+  finds = subst (λ (q : NetSearchOf). FindsPast q found)
       (room_search s.lat s.via_cost s.board id moved room s.island s.others is) finds;
 }
 
@@ -106,7 +114,7 @@ pub record NoneTo (s : ShutIslandOf) (x : Item) (k : ℕ) : Type 0 where
   pub each : (r : ℕ) (up : Bool) → r < k → NoneHelps s x.id (MovesRunTo s x r up)
 
 -- ---- an island that is shut in
-module _ (s : ShutIslandOf) (inv : IsShutIsland s.lat s.via_cost s.board s.island s.others) (kept : IsBoard s.board)
+module _ (s : ShutIslandOf) (inv : IsShutIsland s.lat s.via_cost s.board s.island s.others s.cut) (kept : IsBoard s.board)
   where
     abbrev b : BoardOf
     b = s.board
@@ -178,19 +186,21 @@ module _ (s : ShutIslandOf) (inv : IsShutIsland s.lat s.via_cost s.board s.islan
         lays_it = lays s o x n moved past is.rest is same_item tried.there tried.other.own_is tried.other.apart
             moved_id closer.net_is closer.penalty_is own others_own like
 
-        lays_no_way : (reach : Reach) → FindsStated (search_on s past) (routed.Shut reach)
-            → ¬ (LaysStated s.lat s.via_cost b o s.island s.others)
-        lays_no_way reach shut = lays_none s o x n moved past is.rest is same_item tried.there tried.other.own_is
-            tried.other.apart moved_id closer.net_is closer.penalty_is own others_own like shut.starts shut.goals
-            shut.starts_are shut.goals_are shut.none
+        lays_no_way : ¬ (IsLed (search_on s past)) → ¬ (LaysStated s.lat s.via_cost b o s.island s.others)
+        lays_no_way shut l =
+            let none = leads_found b.design s.lat s.via_cost past s.island s.others shut in
+            sure_starts b.design s.lat past s.island (λ starts starts_are.
+            sure_goals b.design s.lat past s.others (λ goals goals_are.
+            lays_none s o x n moved past is.rest is same_item tried.there tried.other.own_is tried.other.apart moved_id
+            closer.net_is closer.penalty_is own others_own like starts goals starts_are goals_are
+            (none_between b.design s.lat past s.via_cost s.island s.others starts goals starts_are goals_are none) l))
 
       -- ---- taken out
-      pub out_shut : (reach : Reach) → FindsPast s x.id None (routed.Shut reach)
-          → NoneHelps s x.id (λ o. TakesOut o x.id)
-      out_shut reach f o walks takes help = lays_no_way None f.items f.past tt o help.closer
-          (like_out s.lat s.via_cost b o x.id kept up f.items f.past takes) reach f.finds help.lays
+      pub out_shut : FindsRoute s x.id None None → NoneHelps s x.id (λ o. TakesOut o x.id)
+      out_shut f o walks takes help = lays_no_way None f.items f.past tt o help.closer
+          (like_out s.lat s.via_cost b o x.id kept up f.items f.past takes) f.finds help.lays
 
-      pub out_trial : (route : Route) (o : Offer) → FindsPast s x.id None (routed.Route route)
+      pub out_trial : (route : Route) (o : Offer) → FindsRoute s x.id None (Some route)
           → IsPastOffer s route (x.id ∷ []) [] o → IsPastTrial s x o
       out_trial route o f p =
           let takes : TakesOut o x.id = record { rip_is = p.rip_is; no_shove = p.shoves_are } in
@@ -215,14 +225,14 @@ module _ (s : ShutIslandOf) (inv : IsShutIsland s.lat s.via_cost s.board s.islan
       abbrev it : List Point → Item
       it chain = reshaped b.design x.id chain x
 
-      pub aside_shut : (chain : List Point) (reach : Reach) → FindsPast s x.id (Some (it chain)) (routed.Shut reach)
+      pub aside_shut : (chain : List Point) → FindsRoute s x.id (Some (it chain)) None
           → NoneHelps s x.id (MovesTo x.id chain)
-      aside_shut chain reach f o walks moves help = lays_no_way (Some (it chain)) f.items f.past refl o help.closer
-          (like_aside s.lat s.via_cost b o x.id kept up x chain f.items tried.there refl f.past moves) reach f.finds
+      aside_shut chain f o walks moves help = lays_no_way (Some (it chain)) f.items f.past refl o help.closer
+          (like_aside s.lat s.via_cost b o x.id kept up x chain f.items tried.there refl f.past moves) f.finds
           help.lays
 
       pub aside_trial : (chain : List Point) (route : Route) (o : Offer) → IsShoveTo s x chain
-          → FindsPast s x.id (Some (it chain)) (routed.Route route)
+          → FindsRoute s x.id (Some (it chain)) (Some route)
           → IsPastOffer s route [] ((record { id = x.id; chain = chain }) ∷ []) o → IsPastTrial s x o
       aside_trial chain route o to f p =
           let moves : MovesTo x.id chain o = record { shoves_are = p.shoves_are; no_rip = p.rip_is } in

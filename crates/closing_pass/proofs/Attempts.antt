@@ -165,7 +165,7 @@ module _ (b : BoardOf) (p o : Offer) (net_is : p.net ≡ o.net) (add_is : p.add 
 
 -- ---- a trial
 module _ (s : ShutIslandOf) (x : Item) (o : Offer) (n : ℕ)
-    (inv : IsShutIsland s.lat s.via_cost s.board s.island s.others) (kept : IsBoard s.board)
+    (inv : IsShutIsland s.lat s.via_cost s.board s.island s.others s.cut) (kept : IsBoard s.board)
     (tried : IsTriedItem s x) (net_is : x.net ≡ Some n) (trial : IsPastTrial s x o) where
   abbrev b : BoardOf
   b = s.board

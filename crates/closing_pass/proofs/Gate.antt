@@ -1,25 +1,29 @@
--- A set of nodes that legal moves don't leave with an item, nor without it.
+-- Moves that lead out of a cut past an item: those alone that the item shut.
 use Rattle.std.proofs.Common.{◌≡◌, ℕ, zero, suc, ◌<◌, List, [], ◌∷◌, ◌==◌, Bool, true, false, not, cond, Option, Some}
 use Rattle.std.proofs.Common.{None}
 use Rattle.std.proofs.Common.{refl, sym, ap, ◌∙◌, subst, inl, inr, ◌⊎◌, arith, true≢false}
 use Rattle.std.proofs.lemmas.Bool.{eqb-true}
 use Rattle.std.specs.Prelude.{Contains, Any, ◌||◌}
 use Rattle.std.specs.Option.{IsSomeAnd}
-use Rattle.std.proofs.lemmas.List.Elements.{All-contains}
+use Rattle.std.proofs.lemmas.List.Elements.{All-contains, All-weaker}
 use Rattle.pcb_model.specs.declared.item.Item.{Item}
 use Rattle.pcb_model.specs.declared.item.Probe.{Probe}
 use Rattle.pcb_model.specs.declared.design.Design.{Design}
 use Rattle.board_offers.specs.Items.{names, without}
-use Rattle.route_lattice.specs.Mesh.{Mesh}
+use Rattle.pcb_islands.specs.declared.net.Island.{Island}
+use Rattle.pcb_islands.proofs.Gathering.{in_or_not}
+use Rattle.route_lattice.specs.Mesh.{Mesh, node_count}
 use Rattle.route_lattice.specs.Ways.{way, way_count}
-use Rattle.route_lattice.specs.Legal.{IsOpen, probe_at}
-use Rattle.route_lattice.specs.Walks.{Hop}
-use Rattle.cut_certificate.specs.declared.cut.Block.{Block}
+use Rattle.route_lattice.specs.Legal.{IsOpen, legal_graph, probe_at}
+use Rattle.route_lattice.specs.Walks.{Hop, Opens}
+use Rattle.cut_certificate.specs.declared.cut.Cut.{Cut}
 use Rattle.cut_certificate.specs.declared.cut.Blocker.{Blocker}
 use Rattle.cut_certificate.specs.declared.cut.Blocker.TheVariants as blocker
 use Rattle.cut_certificate.specs.Border.{IsBlock, IsOf}
-use Rattle.cut_certificate.specs.Cuts.{ShutsProbe, IsShutBy}
-use Rattle.closing_pass.specs.Gate.{IsPassedOver, StaysWithin}
+use Rattle.cut_certificate.specs.Cuts.{IsCut, ShutsProbe, IsShutBy}
+use Rattle.cut_certificate.specs.Past.{IsBlockBy, IsCutPast, IsMoveIn}
+use Rattle.closing_pass.specs.inner.Rooms.{IfPut, IsPast}
+use Rattle.closing_pass.proofs.Past.{out_cases, out_in}
 
 -- ---- numbers and lists
 pub same_or_not : (a b : ℕ) → (a ≡ b) ⊎ (a ≡ b → ⊥)
@@ -27,20 +31,6 @@ same_or_not zero zero = inl refl
 same_or_not zero (suc b) = inr (λ e. omega arith)
 same_or_not (suc a) zero = inr (λ e. omega arith)
 same_or_not (suc a) (suc b) = elim (same_or_not a b) [ inl p ↦ inl (ap suc p) | inr q ↦ inr (λ e. q (omega arith)) ]
-
-in_or_not : (xs : List ℕ) (v : ℕ) → Contains xs v ⊎ (Contains xs v → ⊥)
-in_or_not [] v = inr (λ c. omega (arith, c.1))
-in_or_not (x ∷ xs) v = elim (same_or_not x v) [
-  | inl e ↦ inl (0, omega arith, e)
-  | inr n ↦ elim (in_or_not xs v) [
-    | inl c ↦ inl (suc c.0, omega (arith, c.1), c.2)
-    | inr f ↦ inr (λ c. nowhere c n f)
-  ]
-]
-  where
-    nowhere : Contains (x ∷ xs) v → (x ≡ v → ⊥) → (Contains xs v → ⊥) → ⊥
-    nowhere (zero, within, is) n f = n is
-    nowhere (suc k, within, is) n f = f (k, omega (arith, within), is)
 
 -- an item with another id stays
 pub stays : (id : ℕ) (items : List Item) (a : Item) → Contains items a → (a.id ≡ id → ⊥)
@@ -67,46 +57,68 @@ stays id (x ∷ items) a (suc k, within, is) n =
     later x a rest true h = h
     later x a rest false (k, within, is) = (suc k, omega (arith, within), is)
 
-module _ (d : Design) (m : Mesh) (items : List Item) (net via_cost id : ℕ) (nodes : List ℕ) (blocked : List Block)
-    (over : IsPassedOver d m items net id nodes blocked) where
-  -- what shuts a move shuts it without the item, unless it is the item
-  still_shut : (o : Option Probe) (by : Blocker) → IsSomeAnd o (λ p. ShutsProbe d items net p by)
-      → IsOpen d (without (id ∷ []) items) net o → by ≡ blocker.Item id
-  still_shut None by shut is_open = absurd shut
-  still_shut (Some p) (blocker.Item y) shut is_open = elim (same_or_not y id) [
-    | inl e ↦ ap (λ (x : ℕ). blocker.Item x) e
-    | inr n ↦ absurd (shut.holds (is_open.agrees shut.item
-        (stays id items shut.item shut.there (λ e. n (sym shut.id_is ∙ e)))))
-  ]
-  still_shut (Some p) blocker.Outside shut is_open = absurd (shut.1 is_open.inside)
+-- the same where another item is in its place
+pub past_stays : (items past : List Item) (id : ℕ) (moved : Option Item) → IsPast items id moved past → (a : Item)
+    → Contains items a → (a.id ≡ id → ⊥) → Contains past a
+past_stays items past id moved is a c n = elim (out_cases items is.rest is.item is.removed a c) [
+  | inl same ↦ absurd (n (sym (ap (λ (y : Item). y.id) same) ∙ is.id_is))
+  | inr left ↦ put_in moved is.put left
+]
+  where
+    put_in : (o : Option Item) → IfPut is.rest o past → Contains is.rest a → Contains past a
+    put_in None put left = subst (λ (xs : List Item). Contains xs a) (sym put) left
+    put_in (Some x) put left = out_in past is.rest x put a left
 
-  within : (node : ℕ) (hop : Hop) → Contains nodes node → hop.index < way_count d m net
-      → way d m net node hop.index ≡ Some (hop.move, hop.to)
-      → IsOpen d (without (id ∷ []) items) net (probe_at d m net node hop.index) → Contains nodes hop.to
-  within node hop there listed leads is_open = elim (in_or_not nodes hop.to) [
-    | inl c ↦ c
-    | inr out ↦
-        let found = over.blocks.complete node hop.index there listed
-        (record { move = hop.move; to = hop.to; leads = leads; outside = out }) in
-        absurd (by_block found is_open)
-  ]
-    where
-      by_block : Any (IsOf node hop.index) blocked
-          → IsOpen d (without (id ∷ []) items) net (probe_at d m net node hop.index)
-          → ⊥
-      by_block (k, b, inside, is, of) is_open2 =
-          let b_in : Contains blocked b = (k, inside, is) in
-          let block = All-contains (IsBlock (way d m net) (way_count d m net) (IsShutBy d m items net) nodes) blocked b
-          over.blocks.only b_in in
-          let open_there : IsOpen d (without (id ∷ []) items) net (probe_at d m net b.node b.index) =
-          subst (λ (y : ℕ × ℕ). IsOpen d (without (id ∷ []) items) net (probe_at d m net y.0 y.1))
-          (λ i. (sym (of_is.0) i, sym (of_is.1) i)) is_open2 in
-          over.shut b b_in (still_shut (probe_at d m net b.node b.index) b.by block.shut open_there) open_there
-        where
-          of_is : IsOf node hop.index b
-          of_is = of
+-- what shuts a move shuts it past the item, unless it is the item
+still_shut : (d : Design) (items past : List Item) (net id : ℕ)
+    → ((a : Item) → Contains items a → (a.id ≡ id → ⊥) → Contains past a) → (o : Option Probe) (by : Blocker)
+    → IsSomeAnd o (λ p. ShutsProbe d items net p by) → IsOpen d past net o → by ≡ blocker.Item id
+still_shut d items past net id stay None by shut is_open = absurd shut
+still_shut d items past net id stay (Some p) (blocker.Item y) shut is_open = elim (same_or_not y id) [
+  | inl e ↦ ap (λ (x : ℕ). blocker.Item x) e
+  | inr n ↦ absurd (shut.holds (is_open.agrees shut.item
+      (stay shut.item shut.there (λ e. n (sym shut.id_is ∙ e)))))
+]
+still_shut d items past net id stay (Some p) blocker.Outside shut is_open = absurd (shut.1 is_open.inside)
 
-  pub stays_within : StaysWithin d m items net via_cost id nodes
-  stays_within a [] c there leads = subst (Contains nodes) leads there
-  stays_within a (h ∷ hs) c there leads =
-      stays_within h.to hs c (within a h there leads.0.listed leads.0.leads leads.0.is_open) leads.1
+-- a cut of an island, past an item
+pub cut_past : (d : Design) (m : Mesh) (items past : List Item) (via_cost id : ℕ) (moved : Option Item) (island : Island)
+    (others : List Island) (cut : Cut) → IsCut d m items island others cut → IsPast items id moved past
+    → IsCutPast (legal_graph d m past island.net via_cost) cut id
+cut_past d m items past via_cost id moved island others cut is way_past = record {
+  ascends = is.ascends;
+  there = All-weaker (IsBlock (way d m net) (way_count d m net) (IsShutBy d m items net) cut.reach.nodes)
+      (IsMoveIn (legal_graph d m past net via_cost)) (λ b block. record {
+        node_there = All-contains (λ v. v < node_count m) cut.reach.nodes b.node is.there block.node_in;
+        index_there = block.in_range;
+      }) cut.blocked is.blocks.only;
+  leads = λ node hop c o. elim (in_or_not cut.reach.nodes hop.to) [
+    | inl k ↦ inl k
+    | inr out ↦ inr (by_item node hop o (is.blocks.complete node hop.index c o.listed
+        (record { move = hop.move; to = hop.to; leads = o.leads; outside = out })))
+  ];
+}
+  where
+    net : ℕ
+    net = island.net
+
+    by_item : (node : ℕ) (hop : Hop) → Opens (legal_graph d m past island.net via_cost) node hop
+        → Any (IsOf node hop.index) cut.blocked → Any (IsBlockBy id node hop.index) cut.blocked
+    by_item node hop o (k, b, inside, b_is, of) =
+        let block = All-contains
+        (IsBlock (way d m island.net) (way_count d m island.net) (IsShutBy d m items island.net) cut.reach.nodes)
+        cut.blocked b is.blocks.only (k, inside, b_is) in
+        let here : IsOf node hop.index b = of in
+        let open_there : IsOpen d past island.net (probe_at d m island.net b.node b.index) =
+        subst (λ (y : ℕ × ℕ). IsOpen d past island.net (probe_at d m island.net y.0 y.1))
+        (λ i. (sym (here.0) i, sym (here.1) i)) o.is_open in (
+          k,
+          b,
+          inside,
+          b_is,
+          record {
+            of = of;
+            by_is = still_shut d items past island.net id (past_stays items past id moved way_past)
+                (probe_at d m island.net b.node b.index) b.by block.shut open_there;
+          },
+        )

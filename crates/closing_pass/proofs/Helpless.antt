@@ -11,11 +11,11 @@ use Rattle.pcb_islands.proofs.Elements.{in_none}
 use Rattle.pcb_islands.proofs.Touches.{below_or_same}
 use Rattle.route_lattice.specs.Mesh.{Mesh}
 use Rattle.cut_certificate.specs.declared.cut.Cut.{Cut}
-use Rattle.cut_certificate.specs.Cuts.{LeadsOn}
+use Rattle.cut_certificate.specs.Cuts.{IsCut, LeadsOn}
 use Rattle.pcb_board.specs.Boards.{BoardOf}
 use Rattle.closing_pass.specs.Settled.{AreNamed, IsCutSettled, IsSettled}
 use Rattle.closing_pass.specs.inner.Tries.{AnswersAt, AnswersIsland, AreCutsSettled, AreShutOn, HasRouted, IsShutIsland}
-use Rattle.closing_pass.specs.inner.Tries.{ShutIslandOf}
+use Rattle.closing_pass.specs.inner.Tries.{HasCutAt, ShutIslandOf}
 use Rattle.closing_pass.proofs.Joining.{net_at}
 
 -- none of the first n islands is helped
@@ -92,7 +92,8 @@ pub answers_at : (m : Mesh) (via_cost tries : ℕ) (b : BoardOf) (found others :
       board = b;
       island = island;
       others = others;
-    }) cut r → AnswersAt m via_cost tries b found place cut r
+      cut = cut;
+    }) r → AnswersAt m via_cost tries b found place cut r
 answers_at m via_cost tries b found others place island cut at rest (Some c) h = h
 answers_at m via_cost tries b found others place island cut at rest None h = λ other other_at.
     subst (λ (y : Island × List Island). IsCutSettled m via_cost tries b y.0 y.1 cut)
@@ -100,9 +101,9 @@ answers_at m via_cost tries b found others place island cut at rest None h = λ 
 
 -- the island at a place, and the others
 pub shut_island : (m : Mesh) (via_cost : ℕ) (b : BoardOf) (found others : List Island) (place : ℕ) (island : Island)
-    → AreShutOn m via_cost b found → slice_get found place ≡ Some island → others ≡ remove found place
-    → IsShutIsland m via_cost b island others
-shut_island m via_cost b found others place island shut at rest =
+    (cut : Cut) → AreShutOn m via_cost b found → slice_get found place ≡ Some island → others ≡ remove found place
+    → HasCutAt m via_cost b found place cut → IsShutIsland m via_cost b island others cut
+shut_island m via_cost b found others place island cut shut at rest has =
     let of_net : island.net ≡ shut.net = net_at b.design b.items shut.net found place island shut.islands at in
     record {
       can = shut.can;
@@ -116,6 +117,7 @@ shut_island m via_cost b found others place island shut at rest =
       };
       shut = subst (λ (os : List Island). ¬ (LeadsOn b.design m b.items via_cost island os)) (sym rest)
           (shut.shut place island at);
+      is_cut = subst (λ (os : List Island). IsCut b.design m b.items island os cut) (sym rest) (has island at).0;
     }
 
 -- an item that the cut names is a routed one of the board

@@ -10,9 +10,9 @@ use Rattle.pcb_islands.proofs.Joined.{one_item}
 use Rattle.route_lattice.specs.Mesh.{Mesh, node_count}
 use Rattle.route_lattice.specs.Anchors.{AnchorsAmong}
 use Rattle.route_lattice.specs.Legal.{IsLegalNode, disc_at, legal_graph, probe_at}
-use Rattle.route_lattice.specs.Walks.{Hop, IsLeastWalk, Leads, cost, move_of, to_of}
+use Rattle.route_lattice.specs.Walks.{Hop, IsLeastWalk, Leads, NoneLeads, cost, move_of, to_of}
 use Rattle.route_lattice.specs.declared.moves.Walk.{Walk}
-use Rattle.cut_certificate.specs.Cuts.{IsGoal, IsStart, LeadsOn}
+use Rattle.cut_certificate.specs.Cuts.{AreGoals, AreStarts, IsGoal, IsStart, LeadsOn}
 use Rattle.board_offers.specs.declared.offer.Offer.{Offer}
 use Rattle.board_offers.specs.Items.{gone, replaced, without}
 use Rattle.pcb_board.specs.Boards.{BoardOf, given}
@@ -51,27 +51,51 @@ search_of d m via_cost items island others = record {
   penalty = None;
 }
 
+-- that the starts and the goals have lists isn't denied
+pub sure_starts : (d : Design) (m : Mesh) (items : List Item) (island : Island)
+    → ((starts : List ℕ) → AreStarts d m items island starts → ⊥) → ⊥
+sure_starts d m items island none = sure_list (IsStart d m items island) (node_count m) (λ starts are.
+    none starts (record { exact = λ k. (λ h. ((are.exact k).0 h).1, λ s. (are.exact k).1 (s.there, s)) }))
+
+pub sure_goals : (d : Design) (m : Mesh) (items : List Item) (others : List Island)
+    → ((goals : List ℕ) → AreGoals d m items others goals → ⊥) → ⊥
+sure_goals d m items others none = sure_list (IsGoal d m items others) (node_count m) (λ goals are.
+    none goals (record { exact = λ k. (λ h. ((are.exact k).0 h).1, λ s. (are.exact k).1 (s.there, s)) }))
+
+-- where no legal walk leads on, none leads from a start to a goal
+pub none_between : (d : Design) (m : Mesh) (items : List Item) (via_cost : ℕ) (island : Island) (others : List Island)
+    (starts goals : List ℕ) → AreStarts d m items island starts → AreGoals d m items others goals
+    → ¬ (LeadsOn d m items via_cost island others)
+    → NoneLeads (legal_graph d m items island.net via_cost) starts goals
+none_between d m items via_cost island others starts goals starts_are goals_are none s hs g cs cg p = none (record {
+  from = s;
+  hops = hs;
+  to = g;
+  starts = (starts_are.exact s).0 cs;
+  ends = (goals_are.exact g).0 cg;
+  leads = p;
+})
+
 pub leads_found : (d : Design) (m : Mesh) (via_cost : ℕ) (items : List Item) (island : Island) (others : List Island)
     → ¬ (IsLed (search_of d m via_cost items island others)) → ¬ (LeadsOn d m items via_cost island others)
 leads_found d m via_cost items island others none on =
-    sure_list (IsStart d m items island) (node_count m) (λ starts starts_are.
-    sure_list (IsGoal d m items others) (node_count m) (λ goals goals_are.
+    sure_starts d m items island (λ starts starts_are.
+    sure_goals d m items others (λ goals goals_are.
     let walk : Walk =
     record { nodes = on.from ∷ map to_of on.hops; moves = map move_of on.hops; price = cost on.hops } in
     none (
       walk,
       record {
         starts = starts;
-        starts_are =
-            record { exact = λ k. (λ h. ((starts_are.exact k).0 h).1, λ s. (starts_are.exact k).1 (s.there, s)) };
+        starts_are = starts_are;
         goals = goals;
-        goals_are = record { exact = λ k. (λ h. ((goals_are.exact k).0 h).1, λ s. (goals_are.exact k).1 (s.there, s)) };
+        goals_are = goals_are;
         walk = record {
           from = on.from;
           hops = on.hops;
           to = on.to;
-          starts_in = (starts_are.exact on.from).1 (on.starts.there, on.starts);
-          ends_in = (goals_are.exact on.to).1 (on.ends.there, on.ends);
+          starts_in = (starts_are.exact on.from).1 on.starts;
+          ends_in = (goals_are.exact on.to).1 on.ends;
           leads = on.leads;
           nodes = refl;
           moves = refl;

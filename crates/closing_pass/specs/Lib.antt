@@ -2,5 +2,4 @@ pub mod OpenCount
 pub mod Settled
 pub mod Closing
 pub mod inner
-pub mod Gate
 pub mod Ids

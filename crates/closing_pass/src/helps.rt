@@ -2,10 +2,11 @@
 //! The first that helps is kept.
 
 ghost use Rattle.std.specs.Prelude.{◌≡◌, ◌<◌, IfOk, OnOk, length};
+ghost use Rattle.closing_pass.specs.Closing.{HaveCuts};
 ghost use Rattle.closing_pass.specs.Settled.{AreNamed};
 ghost use Rattle.closing_pass.specs.inner.Steps.{AreReady};
 ghost use Rattle.closing_pass.specs.inner.Trials.{after_trial};
-ghost use Rattle.closing_pass.specs.inner.Tries.{AnswersAt, AnswersIsland, AnswersNet, AreShutOn, NamesMore};
+ghost use Rattle.closing_pass.specs.inner.Tries.{AnswersAt, AnswersIsland, AnswersNet, AreShutOn, HasCutAt, NamesMore};
 
 use crate::join::{Closer, SearchState, put_back};
 use crate::moves::ShutIsland;
@@ -51,19 +52,14 @@ fn named_ids(alloc: Global, tiles: &Tiles, cut: &Cut) -> Result<Vec<u64>, AllocE
 }
 
 impl ShutIsland<'_> {
-    /// Tries the first items that a cut of the island names.
-    fn try_named(
-        &self,
-        alloc: Global,
-        state: &mut SearchState,
-        cut: &Cut,
-    ) -> Result<Option<Board>, AllocError>
+    /// Tries the first items that the cut of the island names.
+    fn try_named(&self, alloc: Global, state: &mut SearchState) -> Result<Option<Board>, AllocError>
         requires ready { AreReady self.now.lat self.now.via_cost self.now.board state.old }
-        ensures answers { IfOk result (AnswersIsland self.now cut.now) }
+        ensures answers { IfOk result (AnswersIsland self.now) }
         ensures ready { IfOk result (λ o. AreReady self.now.lat self.now.via_cost (after_trial self.now.board o)
             state.new) }
     {
-        let mut ids = named_ids(alloc, self.board.items(), cut)?;
+        let mut ids = named_ids(alloc, self.board.items(), self.cut)?;
         ids.truncate(self.closer.tries as usize);
         for id in &ids {
             if let Some(helped) = self.try_item(alloc, state, *id)? {
@@ -88,6 +84,7 @@ impl Closer<'_> {
         requires ready { AreReady self.now.lat.now self.now.via_cost board.now state.old }
         requires shut { AreShutOn self.now.lat.now self.now.via_cost board.now found }
         requires place { place < length found }
+        requires cut { HasCutAt self.now.lat.now self.now.via_cost board.now found place cut.now }
         ensures found { IfOk result (λ r. r.0 ≡ found) }
         ensures answers { IfOk result (λ r. AnswersAt self.now.lat.now self.now.via_cost self.now.tries board.now found
             place cut.now r.1) }
@@ -101,8 +98,9 @@ impl Closer<'_> {
             board,
             island: &island,
             others: &others,
+            cut,
         };
-        let helped = shut.try_named(alloc, state, cut);
+        let helped = shut.try_named(alloc, state);
         drop(shut);
         match helped {
             Ok(helped) => match put_back(others, place, island) {
@@ -130,7 +128,7 @@ impl Closer<'_> {
     ) -> Result<Option<Board>, AllocError>
         requires ready { AreReady self.now.lat.now self.now.via_cost board.now state.old }
         requires shut { AreShutOn self.now.lat.now self.now.via_cost board.now found }
-        requires cuts { length cuts.now ≡ length found }
+        requires cuts { HaveCuts board.now.design self.now.lat.now self.now.via_cost board.now.items found cuts.now }
         ensures answers { IfOk result
             (AnswersNet self.now.lat.now self.now.via_cost self.now.tries board.now found cuts.now) }
         ensures ready { IfOk result (λ o. AreReady self.now.lat.now self.now.via_cost (after_trial board.now o)

@@ -10,11 +10,9 @@ ghost use Rattle.pcb_board.specs.Boards.{BoardOf};
 ghost use Rattle.closing_pass.specs.Settled.{TakesOut, LaysStated};
 ghost use Rattle.pcb_model.specs.declared.item.Item.{Item as OneItem};
 ghost use Rattle.pcb_model.specs.declared.design.Design.{Design as TheDesign};
-ghost use Rattle.cut_certificate.specs.declared.cut.Block.{Block as OneBlock};
 ghost use Rattle.geo_kernel.specs.declared.point.Point.{Point as OnePoint};
 ghost use Rattle.route_lattice.specs.Legal.{legal_graph};
 ghost use Rattle.closing_pass.specs.Ids.{beside, IdsChangeNothing, StatedAlike};
-ghost use Rattle.closing_pass.specs.Gate.{IsPassedOver, StaysWithin};
 
 /// Two offers for an island that take out the same item, or move it aside to the same chain, and lay stated walks add
 /// the same copper.
@@ -26,14 +24,6 @@ pub fn one_way_out()
     ensures out { (m : Mesh) (via_cost : ℕ) (b : BoardOf) (island : OneIsland) (others : Seq OneIsland) (id : ℕ)
         (o p : OneOffer) → TakesOut o id → TakesOut p id → o.penalty ≡ None → p.penalty ≡ None → o.net ≡ p.net
         → LaysStated m via_cost b o island others → LaysStated m via_cost b p island others → o.add ≡ p.add }
-{}
-
-/// Nodes that legal moves leave neither with an item nor, where it alone is named, without it, are left by no legal
-/// walk without it.
-pub fn stays_within()
-    ensures { (d : TheDesign) (m : Mesh) (items : Seq OneItem) (net via_cost id : ℕ) (nodes : Seq ℕ)
-        (blocked : Seq OneBlock) → IsPassedOver d m items net id nodes blocked
-        → StaysWithin d m items net via_cost id nodes }
 {}
 
 /// The id of a wire that was moved aside changes neither the moves beside it nor which nodes are legal, and so no

@@ -16,4 +16,4 @@ mod rounds;
 mod trial;
 
 pub use closed::{Closed, close_out};
-pub use laws::{ids_change_nothing, one_way_out, stays_within};
+pub use laws::{ids_change_nothing, one_way_out};

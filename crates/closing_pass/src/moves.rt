@@ -12,29 +12,31 @@ ghost use Rattle.closing_pass.specs.Settled.{MovesAside, TakesOut};
 ghost use Rattle.closing_pass.specs.inner.Steps.{AreReady};
 ghost use Rattle.closing_pass.specs.inner.Rooms.{IsRoomFor, MakesRoom};
 ghost use Rattle.closing_pass.specs.inner.Trials.{after_trial};
-ghost use Rattle.closing_pass.specs.inner.Tries.{AnswersBy, AnswersItem, AnswersTrial, FindsPast, HasRouted};
+ghost use Rattle.closing_pass.specs.inner.Tries.{AnswersBy, AnswersItem, AnswersTrial, FindsRoute, HasRouted};
 ghost use Rattle.closing_pass.specs.inner.Tries.{IsPastOffer, IsPastTrial, IsShoveTo, IsTriedItem, MovesRunTo, MovesTo};
 ghost use Rattle.closing_pass.specs.inner.Tries.{IsOfOther};
 
 use crate::join::{Closer, SearchState};
 use crate::room::Room;
+use cut_certificate::Cut;
 use geo_kernel::{List, Point};
 use least_offer::{one_may_be_moved_aside, one_may_be_taken_out};
 use pcb_board::{Board, CLOSER, Offer, Shoved};
 use pcb_islands::Island;
 use pcb_model::{Copper, Design, Item, Metal, make_item};
-use route_plan::{Route, Routed};
+use route_plan::Route;
 use shove::{Reshape, shove_at};
 use std::alloc::{AllocError, Global};
 use std::marker::Model;
 
-/// An island of a net on a board, and the others, none of which a legal walk leads to.
+/// An island of a net on a board, and the others, none of which a legal walk leads to, as its cut shows.
 #[derive(Drop)]
 pub(crate) struct ShutIsland<'a> {
     pub closer: Closer<'a>,
     pub board: &'a Board,
     pub island: &'a Island,
     pub others: &'a List<Island>,
+    pub cut: &'a Cut,
 }
 
 impl<'a> Model for ShutIsland<'a> {
@@ -49,9 +51,11 @@ impl<'a> Model for ShutIsland<'a> {
       board = s.board.now;
       island = s.island.now;
       others = s.others.now;
+      cut = s.cut.now;
     } };
 
-    ghost invariant = { λ s. IsShutIsland s.closer.lat.now s.closer.via_cost s.board.now s.island.now s.others.now };
+    ghost invariant = { λ s. IsShutIsland s.closer.lat.now s.closer.via_cost s.board.now s.island.now s.others.now
+        s.cut.now };
 }
 
 // How many runs a wire has; other metals have none.
@@ -111,7 +115,7 @@ impl ShutIsland<'_> {
         Room::of(alloc, lat, via_cost, self.board, mapped, id, moved)
     }
 
-    /// Whether a legal walk leads on without the item of an id.
+    /// Whether a legal walk may lead on without the item of an id.
     fn opens(&self, alloc: Global, state: &mut SearchState, id: u64) -> Result<bool, AllocError>
         requires ready { AreReady self.now.lat self.now.via_cost self.now.board state.old }
         requires there { MakesRoom self.now.board id None }
@@ -121,34 +125,36 @@ impl ShutIsland<'_> {
     {
         self.board.keeps();
         let room = self.room(alloc, state, id, None)?;
-        let led = room.leads_on(alloc, self.island, self.others);
+        let led = room.may_lead(alloc, self.island, self.others, self.cut, id);
         drop(state.mapped.replace(room.home()?));
         led
     }
 
-    /// The route of the stated walk without the item of an id, and with another in its place where one is given.
+    /// The route of the stated walk without the item of an id, and with another in its place where one is given; None
+    /// where no walk leads on.
     fn route_past(
         &self,
         alloc: Global,
         state: &mut SearchState,
         id: u64,
         moved: Option<Item>,
-    ) -> Result<Routed, AllocError>
+    ) -> Result<Option<Route>, AllocError>
         requires ready { AreReady self.now.lat self.now.via_cost self.now.board state.old }
         requires makes { MakesRoom self.now.board id moved }
-        ensures finds { IfOk result (FindsPast self.now id moved) }
+        ensures finds { IfOk result (FindsRoute self.now id moved) }
         ensures ready { AreReady self.now.lat self.now.via_cost self.now.board state.new }
     {
         self.board.keeps();
         let room = self.room(alloc, state, id, moved)?;
-        let routed = room.route(alloc, &mut state.search, self.island, self.others);
+        let (island, others) = (self.island, self.others);
+        let route = room.route(alloc, &mut state.search, island, others, self.cut, id);
         match room.home() {
             Ok(mapped) => {
                 drop(state.mapped.replace(mapped));
-                routed
+                route
             }
             Err(error) => {
-                drop(routed);
+                drop(route);
                 Err(error)
             }
         }
@@ -216,11 +222,8 @@ impl ShutIsland<'_> {
     {
         self.board.keeps();
         match self.route_past(alloc, state, item.id, None)? {
-            Routed::Shut(reach) => {
-                drop(reach);
-                Ok(None)
-            }
-            Routed::Route(route) => {
+            None => Ok(None),
+            Some(route) => {
                 let rip = List::from_slice(alloc, &[item.id])?;
                 let offer = self.offer_past(route, rip, List::new(alloc));
                 self.attempt(alloc, state, item, offer)
@@ -246,11 +249,11 @@ impl ShutIsland<'_> {
         self.board.keeps();
         let moved = reshape(alloc, self.board.design(), item, &chain)?;
         match self.route_past(alloc, state, item.id, Some(moved))? {
-            Routed::Shut(reach) => {
-                drop((reach, chain));
+            None => {
+                drop(chain);
                 Ok(None)
             }
-            Routed::Route(route) => {
+            Some(route) => {
                 let mut shoves = List::new(alloc);
                 shoves.push(Shoved { id: item.id, chain })?;
                 let offer = self.offer_past(route, List::new(alloc), shoves);

@@ -1,10 +1,12 @@
 //! The copper of a board without one of its items, perhaps with that wire where it is moved to, and maps of the moves
 //! on it. The maps follow there, and back to the board as it is; nothing of the board's size is copied.
 
-ghost use Rattle.std.specs.Prelude.{◌≡◌, ◌↔◌, ◌<◌, [], ◌∷◌, IfOk, IsTrue, Option, length};
+ghost use Rattle.std.specs.Prelude.{◌≡◌, ◌<◌, [], ◌∷◌, IfOk, Option, length};
+ghost use Rattle.std.specs.Bool.{OnFalse};
 ghost use Rattle.pcb_model.specs.Bounds.{IsItemFit};
 ghost use Rattle.route_lattice.specs.Mesh.{node_count};
-ghost use Rattle.route_plan.specs.Routes.{FindsStated, IsLed};
+ghost use Rattle.cut_certificate.specs.Past.{IsCutPast};
+ghost use Rattle.route_plan.specs.Routes.{FindsPast, IsLed, walks_of};
 ghost use Rattle.route_lattice.specs.Legal.{legal_graph};
 ghost use Rattle.route_plan.specs.Mapped.{IsMapped};
 ghost use Rattle.route_plan.specs.Planners.{AreMovesOf};
@@ -13,6 +15,7 @@ ghost use Rattle.closing_pass.specs.Closing.{CanClose};
 ghost use Rattle.closing_pass.specs.inner.Rooms.{CanPut, HasPut, IsHome, IsRoomFor, IsRoomOf, MakesRoom, search_in};
 
 use copper_change::Since;
+use cut_certificate::Cut;
 use geo_kernel::List;
 use move_maps::MoveMaps;
 use pcb_board::{Board, Snap, boards_serve};
@@ -20,7 +23,7 @@ use pcb_islands::Island;
 use pcb_model::{Copper, Design, Item, copy_item};
 use pcb_tiles::Tiles;
 use route_lattice::{Lattice, LegalMoves, Moves};
-use route_plan::{MappedSnap, NetSearch, Routed};
+use route_plan::{MappedSnap, NetSearch, Route};
 use std::alloc::{AllocError, Global};
 use std::marker::Model;
 use wave_search::Search;
@@ -194,15 +197,19 @@ impl<'a> Room<'a> {
         }
     }
 
-    /// Whether a legal walk leads from an island to one of the others.
-    pub(crate) fn leads_on(
+    /// Whether a legal walk may lead from an island to one of the others past the item of an id, which shut moves of the
+    /// island's cut.
+    pub(crate) fn may_lead(
         &self,
         alloc: Global,
         island: &Island,
         others: &List<Island>,
+        cut: &Cut,
+        id: u64,
     ) -> Result<bool, AllocError>
         requires net { island.now.net < length self.now.d.nets }
-        ensures { IfOk result (λ led. IsTrue led ↔ IsLed (search_in self.now island.now others.now)) }
+        requires cut { IsCutPast (walks_of (search_in self.now island.now others.now)) cut.now id }
+        ensures { IfOk result (λ led. OnFalse led (¬ (IsLed (search_in self.now island.now others.now)))) }
     {
         let (lat, d, net) = (self.lat, self.d, island.net);
         match self
@@ -210,29 +217,36 @@ impl<'a> Room<'a> {
             .net_moves(alloc, lat, d, &self.tiles, net, self.via_cost)
         {
             Ok(Some(moves)) => {
-                let led = self.search(&moves, island, others).leads_on(alloc);
+                let led = self
+                    .search(&moves, island, others)
+                    .may_lead_past(alloc, cut, id);
                 drop(moves);
                 led
             }
             Ok(None) => {
                 let moves = LegalMoves::of(lat, d, &self.tiles, net, self.via_cost);
-                self.search(&moves, island, others).leads_on(alloc)
+                self.search(&moves, island, others)
+                    .may_lead_past(alloc, cut, id)
             }
             Err(error) => Err(error),
         }
     }
 
-    /// The route of the stated walk from an island to one of the others.
+    /// The route of the stated walk from an island to one of the others past the item of an id, which shut moves of the
+    /// island's cut; None where no walk leads on.
     pub(crate) fn route(
         &self,
         alloc: Global,
         search: &mut Search,
         island: &Island,
         others: &List<Island>,
-    ) -> Result<Routed, AllocError>
+        cut: &Cut,
+        id: u64,
+    ) -> Result<Option<Route>, AllocError>
         requires net { island.now.net < length self.now.d.nets }
         requires size { search.old ≡ node_count self.now.lat }
-        ensures finds { IfOk result (FindsStated (search_in self.now island.now others.now)) }
+        requires cut { IsCutPast (walks_of (search_in self.now island.now others.now)) cut.now id }
+        ensures finds { IfOk result (FindsPast (search_in self.now island.now others.now)) }
         ensures size { search.new ≡ search.old }
     {
         let (lat, d, net) = (self.lat, self.d, island.net);
@@ -241,16 +255,16 @@ impl<'a> Room<'a> {
             .net_moves(alloc, lat, d, &self.tiles, net, self.via_cost)
         {
             Ok(Some(moves)) => {
-                let routed = self
+                let route = self
                     .search(&moves, island, others)
-                    .stated_route(alloc, search);
+                    .stated_route_past(alloc, search, cut, id);
                 drop(moves);
-                routed
+                route
             }
             Ok(None) => {
                 let moves = LegalMoves::of(lat, d, &self.tiles, net, self.via_cost);
                 self.search(&moves, island, others)
-                    .stated_route(alloc, search)
+                    .stated_route_past(alloc, search, cut, id)
             }
             Err(error) => Err(error),
         }

@@ -5,6 +5,7 @@ pub mod Leading
 pub mod Flooding
 mod Turning
 pub mod Backing
+mod Beyond
 pub mod Each
 pub mod Same
 pub mod Search

@@ -1,5 +1,5 @@
 -- The moves that lead out of a set of nodes.
-use Rattle.std.specs.Prelude.{◌≡◌, ℕ, ◌<◌, List, Option, Some, None, Contains, All, AllPairs, Any, ◌⊎◌}
+use Rattle.std.specs.Prelude.{◌≡◌, ℕ, ◌<◌, List, Option, Some, Contains, All, AllPairs, Any, ◌⊎◌}
 use Rattle.route_lattice.specs.declared.moves.Move.{Move}
 use Rattle.cut_certificate.specs.declared.cut.Blocker.{Blocker}
 use Rattle.cut_certificate.specs.declared.cut.Block.{Block}

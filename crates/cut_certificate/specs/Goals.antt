@@ -1,7 +1,7 @@
 -- What the nodes that are reached tell of goals.
 use Rattle.std.specs.Prelude.{ℕ, List, Contains}
 use Rattle.route_lattice.specs.declared.moves.Walk.{Walk}
-use Rattle.route_lattice.specs.Walks.{MoveGraph, IsReach, IsWalk, NoneLeads}
+use Rattle.route_lattice.specs.Walks.{MoveGraph, IsWalk, NoneLeads}
 
 -- one of the nodes is a goal
 pub record Meets (nodes goals : List ℕ) : Type 0 where
@@ -13,7 +13,3 @@ pub record Meets (nodes goals : List ℕ) : Type 0 where
 pub record Tells (graph : MoveGraph) (starts goals nodes : List ℕ) : Type 0 where
   pub met : Meets nodes goals → (w : Walk) × IsWalk graph starts goals w
   pub missed : (Meets nodes goals → ⊥) → NoneLeads graph starts goals
-
--- and so it is of the nodes that are reached, for any starts and goals
-abbrev pub ReachTells : MoveGraph → Type 0
-ReachTells graph = (starts goals nodes : List ℕ) → IsReach graph starts nodes → Tells graph starts goals nodes

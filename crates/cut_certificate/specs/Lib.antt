@@ -2,5 +2,6 @@ pub mod Goals
 pub mod Backwards
 pub mod Border
 pub mod Cuts
+pub mod Past
 pub mod Same
 pub mod inner

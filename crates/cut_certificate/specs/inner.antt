@@ -2,3 +2,4 @@ pub mod Marks
 pub mod Rows
 pub mod Listing
 pub mod Checks
+pub mod Beyond

@@ -289,7 +289,7 @@ pub(crate) fn are_blocks<'a, M: Shuts>(
 }
 
 /// Whether one of the nodes is a goal.
-fn meets(nodes: &[u32], goals: &[u32]) -> bool
+pub(crate) fn meets(nodes: &[u32], goals: &[u32]) -> bool
     requires { IsStrictlyIncreasing nodes.now }
     ensures { IsTrue result ↔ Meets nodes.now goals.now }
 {

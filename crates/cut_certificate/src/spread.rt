@@ -134,7 +134,8 @@ fn any_marked(front: &Front, nodes: &[u32]) -> bool
     false
 }
 
-/// Whether some goals are shut in: open moves lead to them from at most `most` nodes, and no start is among these.
+/// Whether some goals, at most `most`, are shut in: open moves lead to them from at most `most` nodes, and no start is
+/// among these.
 pub fn are_shut_in<M: Moves>(
     alloc: Global,
     m: &M,
@@ -149,7 +150,7 @@ pub fn are_shut_in<M: Moves>(
     ensures { IfOk result (λ shut. OnTrue shut (NoneLeads (M.graph m.now) starts.now goals.now)) }
 {
     let count = m.count();
-    if !all_below(goals.as_slice(), count) {
+    if goals.len() > most as usize || !all_below(goals.as_slice(), count) {
         return Ok(false);
     }
     let turned = Backwards { m };

@@ -1,5 +1,6 @@
 -- What a search answers over the same moves is the same.
 use Rattle.std.proofs.Common.{ℕ, ◌<◌, Bool, true, false, List, Result, Ok, Err, sym, subst}
+use Rattle.std.proofs.lemmas.List.Elements.{All-weaker}
 use Rattle.std.specs.Prelude.{IfOk}
 use Rattle.std.specs.Bool.{OnTrue}
 use Rattle.route_lattice.specs.Walks.{MoveGraph, IsWalk, NoneLeads, Answers}
@@ -8,6 +9,8 @@ use Rattle.route_lattice.specs.declared.moves.Found.{Found}
 use Rattle.route_lattice.specs.declared.moves.Found.TheVariants as found
 use Rattle.wave_search.specs.Bounds.{IsBound}
 use Rattle.wave_search.specs.Stated.{AnswersStated}
+use Rattle.cut_certificate.specs.declared.cut.Cut.{Cut}
+use Rattle.cut_certificate.specs.Past.{IsCutPast, IsMoveIn}
 use Rattle.cut_certificate.specs.Same.{SameMoves}
 use Rattle.cut_certificate.specs.Backwards.{HasMoveTo, IsMutual}
 use Rattle.std.proofs.Common.{◌∙◌}
@@ -92,3 +95,14 @@ module _ (a b : MoveGraph) (s : SameMoves a b) where
         listed = subst (λ n. way.index < n) (sym s.arity) way.listed;
         leads = s.leads to way.index ∙ way.leads;
       }
+
+  -- a cut past an item
+  pub past_same : (cut : Cut) (id : ℕ) → IsCutPast b cut id → IsCutPast a cut id
+  past_same cut id past = record {
+    ascends = past.ascends;
+    there = All-weaker (IsMoveIn b) (IsMoveIn a) (λ block is. record {
+      node_there = subst (λ n. block.node < n) (sym s.count) is.node_there;
+      index_there = subst (λ n. block.index < n) (sym s.arity) is.index_there;
+    }) cut.blocked past.there;
+    leads = λ node hop c o. past.leads node hop c (opens_same a b s node hop o);
+  }

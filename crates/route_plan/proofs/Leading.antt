@@ -1,16 +1,17 @@
 -- What a search finds for a net's plan, and whether a walk leads on.
-use Rattle.std.proofs.Common.{◌≡◌, ◌<◌, ℕ, Bool, true, false, true≢false, List, Option, None, refl, sym, subst, All}
-use Rattle.std.specs.Prelude.{IsTrue, ◌↔◌, Contains}
+use Rattle.std.proofs.Common.{◌≡◌, ◌<◌, ℕ, Bool, true, false, List, Option, None, Result, Ok, Err, sym, subst, All}
+use Rattle.std.specs.Prelude.{IfOk}
+use Rattle.std.specs.Bool.{OnFalse}
 use Rattle.pcb_model.specs.declared.design.Design.{Design}
 use Rattle.pcb_islands.specs.declared.net.Island.{Island}
+use Rattle.route_lattice.specs.declared.moves.Reach.{Reach}
 use Rattle.route_lattice.specs.declared.moves.Walk.{Walk}
 use Rattle.route_lattice.specs.Mesh.{Mesh, node_count}
 use Rattle.route_lattice.specs.Ground.{ground_of}
-use Rattle.route_lattice.specs.Walks.{MoveGraph, IsLeastWalk}
+use Rattle.route_lattice.specs.Walks.{MoveGraph, IsLeastWalk, NoneLeads}
 use Rattle.wave_search.specs.Stated.{IsStated}
 use Rattle.wave_search.proofs.Single.{are_least}
 use Rattle.cut_certificate.specs.Cuts.{AreStarts, AreGoals}
-use Rattle.cut_certificate.specs.Goals.{Meets, Tells}
 use Rattle.cut_certificate.specs.Same.{SameMoves}
 use Rattle.cut_certificate.proofs.Same.{flipped, leads_same}
 use Rattle.cut_certificate.proofs.Making.{starts_in_lattice}
@@ -21,9 +22,8 @@ use Rattle.route_plan.specs.declared.route.Routed.TheVariants as routed
 use Rattle.route_plan.specs.Planners.{NetPlanOf, planner_of}
 use Rattle.route_plan.specs.Searches.{NetSearchOf}
 use Rattle.route_plan.specs.Routes.{Finds, FindsRoute, FindsStated, IsLed, IsRoute, IsRouteOf, IsStatedRoute}
-use Rattle.route_plan.specs.Routes.{JoinsIslands, walks_of}
+use Rattle.route_plan.specs.Routes.{walks_of}
 use Rattle.route_plan.specs.inner.RouteOffers.{search_of}
-use Rattle.route_plan.proofs.Alike.{walk_same}
 use Rattle.route_plan.proofs.Planning.{IsRouteStated}
 
 -- ---- a plan's search
@@ -105,30 +105,24 @@ finds_stated y starts goals w r starts_are goals_are stated is = record {
 }
 
 -- ---- whether a walk leads on
-pub led_by : (y : NetSearchOf) (g : MoveGraph) (starts goals nodes : List ℕ) (t : Bool) → SameMoves g (walks_of y)
-    → AreStarts y.on.d y.on.lat y.on.items y.island starts → AreGoals y.on.d y.on.lat y.on.items y.others goals
-    → Tells g starts goals nodes → IsTrue t ↔ Meets nodes goals → IsTrue t ↔ IsLed y
-led_by y g starts goals nodes t same starts_are goals_are tells is = (forward, back t is)
-  where
-    forward : IsTrue t → IsLed y
-    forward h =
-        let met = tells.met (is.0 h) in (
-          met.0,
-          record {
-            starts = starts;
-            starts_are = starts_are;
-            goals = goals;
-            goals_are = goals_are;
-            walk = walk_same g (walks_of y) same starts goals met.0 met.1;
-          },
-        )
+-- where none leads from the starts to a goal, none leads from the island
+pub not_led : {E : Type 0} (y : NetSearchOf) (g : MoveGraph) (starts goals : List ℕ) (r : Result Bool E)
+    → SameMoves g (walks_of y) → AreStarts y.on.d y.on.lat y.on.items y.island starts
+    → AreGoals y.on.d y.on.lat y.on.items y.others goals
+    → IfOk r (λ led. OnFalse led (NoneLeads g starts goals)) → IfOk r (λ led. OnFalse led (¬ (IsLed y)))
+not_led y g starts goals (Ok true) same starts_are goals_are none = tt
+not_led y g starts goals (Ok false) same starts_are goals_are none = λ led.
+    let j = led.1 in
+    let w = j.walk in
+    none w.from w.hops w.to ((starts_are.exact w.from).1 ((j.starts_are.exact w.from).0 w.starts_in))
+    ((goals_are.exact w.to).1 ((j.goals_are.exact w.to).0 w.ends_in))
+    (leads_same (walks_of y) g (flipped g (walks_of y) same) w.hops w.from w.to w.leads)
+not_led y g starts goals (Err error) same starts_are goals_are none = none
 
-    back : (b : Bool) → IsTrue b ↔ Meets nodes goals → IsLed y → IsTrue b
-    back true met led = refl
-    back false met led =
-        let j = led.1 in
-        let w = j.walk in
-        absurd (tells.missed (λ m. true≢false (sym (met.1 m))) w.from w.hops w.to
-        ((starts_are.exact w.from).1 ((j.starts_are.exact w.from).0 w.starts_in))
-        ((goals_are.exact w.to).1 ((j.goals_are.exact w.to).0 w.ends_in))
-        (leads_same (walks_of y) g (flipped g (walks_of y) same) w.hops w.from w.to w.leads))
+-- so it is where all that moves reach was found
+pub shut_not_led : (y : NetSearchOf) (reach : Reach) → FindsStated y (routed.Shut reach) → ¬ (IsLed y)
+shut_not_led y reach shut led =
+    let j = led.1 in
+    let w = j.walk in
+    shut.none w.from w.hops w.to ((shut.starts_are.exact w.from).1 ((j.starts_are.exact w.from).0 w.starts_in))
+    ((shut.goals_are.exact w.to).1 ((j.goals_are.exact w.to).0 w.ends_in)) w.leads

@@ -1,5 +1,5 @@
 -- Routes: the copper of a walk between two islands of a net, and the items that it joins.
-use Rattle.std.specs.Prelude.{◌≡◌, ◌↔◌, ℕ, List, ◌∷◌, Bool, IsTrue, Contains, Option, Some, None}
+use Rattle.std.specs.Prelude.{◌≡◌, ℕ, List, ◌∷◌, Contains, Option, Some, None}
 use Rattle.pcb_model.specs.declared.item.Item.{Item}
 use Rattle.pcb_model.specs.declared.design.Design.{Design}
 use Rattle.pcb_islands.specs.declared.net.Island.{Island}
@@ -102,3 +102,8 @@ FindsStated s (routed.Shut reach) =
 -- some walk leads from the island to one of the others
 abbrev pub IsLed : NetSearchOf → Type 0
 IsLed s = (w : Walk) × JoinsIslands s w
+
+-- the route of the stated walk, or none where no walk leads on
+abbrev pub FindsPast : NetSearchOf → Option Route → Type 0
+FindsPast s (Some route) = IsStatedRoute s route
+FindsPast s None = ¬ (IsLed s)

@@ -1,20 +1,19 @@
 //! A least walk of a net on some copper, what it lays, and the items that it joins.
 //! The walk leads from one island of the net to another.
 
-ghost use Rattle.std.specs.Prelude.{◌≡◌, ◌↔◌, ◌<◌, ℕ, IfOk, All, Contains, IsTrue, length};
-ghost use Rattle.std.specs.Bool.{OnTrue};
-ghost use Rattle.std.specs.List.Sorted.{IsStrictlyIncreasing};
+ghost use Rattle.std.specs.Prelude.{◌≡◌, ◌<◌, ℕ, IfOk, All, length};
+ghost use Rattle.std.specs.Bool.{OnFalse, OnTrue};
 ghost use Rattle.route_lattice.specs.Mesh.{node_count};
 ghost use Rattle.route_lattice.specs.Walks.{Answers, NoneLeads};
 ghost use Rattle.cut_certificate.specs.Cuts.{AreGoals, AreStarts, IsGoal};
 ghost use Rattle.wave_search.specs.Stated.{AnswersStated};
-ghost use Rattle.cut_certificate.specs.Goals.{Meets};
-ghost use Rattle.route_plan.specs.Routes.{FindsAnchored, IsAnchoredIn, FindsRoute, FindsStated, walks_of};
+ghost use Rattle.cut_certificate.specs.Past.{IsCutPast};
+ghost use Rattle.route_plan.specs.Routes.{FindsAnchored, IsAnchoredIn, FindsPast, FindsRoute, FindsStated, walks_of};
 ghost use Rattle.route_plan.specs.Routes.{IsLed, IsRouteOf, JoinsIslands};
 
 use crate::laws::rip_bound_sound;
 use cut_certificate::{
-    are_shut_in, flood, goals_of, legal_moves_lead_back, reach_tells_goals, starts_of,
+    Cut, are_shut_in, flood, goals_of, legal_moves_lead_back, may_lead_past, starts_of,
 };
 use geo_kernel::List;
 use path_wire::{net_walks, walk_items};
@@ -72,27 +71,6 @@ fn anchored_at_goal<C: Copper>(on: &Ground<'_, C>, others: &[Island], node: u32)
         }
     }
     unreachable!()
-}
-
-/// Whether the node is among the nodes, which ascend.
-fn has(nodes: &[u32], node: u32) -> bool
-    requires { IsStrictlyIncreasing nodes.now }
-    ensures { IsTrue result ↔ Contains nodes.now node }
-{
-    nodes.binary_search(&node).is_ok()
-}
-
-/// Whether one of the nodes, which ascend, is a goal.
-fn meets(nodes: &[u32], goals: &[u32]) -> bool
-    requires { IsStrictlyIncreasing nodes.now }
-    ensures { IsTrue result ↔ Meets nodes.now goals.now }
-{
-    for goal in goals {
-        if has(nodes, *goal) {
-            return true;
-        }
-    }
-    false
 }
 
 /// The search from an island of a net to the others on some copper, and the moves of the net that it goes over. A via
@@ -252,13 +230,14 @@ impl<C: Copper, M: Moves> NetSearch<'_, C, M> {
         starts_of(alloc, self.lat, self.d, self.copper, self.island)
     }
 
-    /// Whether a walk leads from the island to one of the others. It is found by a flood, without prices.
-    pub fn leads_on(&self, alloc: Global) -> Result<bool, AllocError>
-        ensures { IfOk result (λ led. IsTrue led ↔ IsLed self.now) }
+    /// Whether a walk may lead from the island to one of the others past the item of an id, where of the moves that lead
+    /// out of a cut only those may be open that the item shut. It is found from there on, without prices.
+    pub fn may_lead_past(&self, alloc: Global, cut: &Cut, id: u64) -> Result<bool, AllocError>
+        requires { IsCutPast (walks_of self.now) cut.now id }
+        ensures { IfOk result (λ led. OnFalse led (¬ (IsLed self.now))) }
     {
         legal_graph_sound();
         rip_graph_sound();
-        reach_tells_goals(self.moves);
         let starts = self.starts(alloc)?;
         let goals = match self.goals(alloc) {
             Ok(goals) => goals,
@@ -267,19 +246,9 @@ impl<C: Copper, M: Moves> NetSearch<'_, C, M> {
                 return Err(error);
             }
         };
-        let flooded = flood(alloc, self.moves, &starts);
-        drop(starts);
-        match flooded {
-            Ok(reach) => {
-                let led = meets(reach.nodes.as_slice(), goals.as_slice());
-                drop((reach, goals));
-                Ok(led)
-            }
-            Err(error) => {
-                drop(goals);
-                Err(error)
-            }
-        }
+        let led = may_lead_past(alloc, self.moves, cut, id, &starts, &goals);
+        drop((starts, goals));
+        led
     }
 
     /// The route of the stated walk from the island to one of the others.
@@ -305,6 +274,32 @@ impl<C: Copper, M: Moves> NetSearch<'_, C, M> {
                 Err(error) => Err(error),
             },
             Err(error) => Err(error),
+        }
+    }
+
+    /// The route of the stated walk past the item of an id, where of the moves that lead out of a cut only those may be
+    /// open that the item shut; None where no walk leads on.
+    pub fn stated_route_past(
+        &self,
+        alloc: Global,
+        search: &mut Search,
+        cut: &Cut,
+        id: u64,
+    ) -> Result<Option<Route>, AllocError>
+        requires size { search.old ≡ node_count self.now.on.lat }
+        requires cut { IsCutPast (walks_of self.now) cut.now id }
+        ensures finds { IfOk result (FindsPast self.now) }
+        ensures size { search.new ≡ search.old }
+    {
+        if !self.may_lead_past(alloc, cut, id)? {
+            return Ok(None);
+        }
+        match self.stated_route(alloc, search)? {
+            Routed::Route(route) => Ok(Some(route)),
+            Routed::Shut(reach) => {
+                drop(reach);
+                Ok(None)
+            }
         }
     }
 

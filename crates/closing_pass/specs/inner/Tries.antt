@@ -11,13 +11,12 @@ use Rattle.route_plan.specs.Plans.{StandsAt}
 use Rattle.cut_certificate.specs.declared.cut.Cut.{Cut}
 use Rattle.cut_certificate.specs.declared.cut.Block.{Block}
 use Rattle.cut_certificate.specs.declared.cut.Blocker.TheVariants as blocker
-use Rattle.cut_certificate.specs.Cuts.{LeadsOn}
+use Rattle.cut_certificate.specs.Cuts.{Cuts, IsCut, LeadsOn}
 use Rattle.shove.specs.Shoves.{IsShove, IsWire}
 use Rattle.route_lattice.specs.Ground.{ground_of}
 use Rattle.route_plan.specs.Searches.{NetSearchOf}
-use Rattle.route_plan.specs.Routes.{FindsStated}
+use Rattle.route_plan.specs.Routes.{FindsPast}
 use Rattle.route_plan.specs.declared.route.Route.{Route}
-use Rattle.route_plan.specs.declared.route.Routed.{Routed}
 use Rattle.board_offers.specs.declared.offer.Shoved.{Shoved}
 use Rattle.board_offers.specs.declared.offer.Offer.{Offer}
 use Rattle.pcb_board.specs.Boards.{BoardOf}
@@ -28,7 +27,7 @@ use Rattle.closing_pass.specs.inner.Rooms.{IsPast}
 use Rattle.closing_pass.specs.inner.Steps.{IsShutAt}
 
 -- what contracts see of an island that is shut in: the lattice, the price of a via in nm, of how many items settled
--- moves are tried, the board, the island and the others
+-- moves are tried, the board, the island and the others, and the island's cut
 pub record ShutIslandOf : Type 0 where
   pub lat : Mesh
   pub via_cost : ℕ
@@ -36,14 +35,17 @@ pub record ShutIslandOf : Type 0 where
   pub board : BoardOf
   pub island : Island
   pub others : List Island
+  pub cut : Cut
 
--- the board may be closed, the island is one of its net, and no legal walk leads from it to another
-pub record IsShutIsland (m : Mesh) (via_cost : ℕ) (b : BoardOf) (island : Island) (others : List Island) : Type 0 where
+-- the board may be closed, the island is one of its net, and no legal walk leads from it to another, as its cut shows
+pub record IsShutIsland (m : Mesh) (via_cost : ℕ) (b : BoardOf) (island : Island) (others : List Island)
+    (cut : Cut) : Type 0 where
   pub can : CanClose m via_cost b.design
   pub net_there : island.net < length b.design.nets
   pub place : ℕ
   pub stands : StandsAt b.design b.items island.net place island others
   pub shut : ¬ (LeadsOn b.design m b.items via_cost island others)
+  pub is_cut : IsCut b.design m b.items island others cut
 
 -- the board with joins of the closing pass, after which fewer connections are open
 pub record IsHelped (m : Mesh) (via_cost : ℕ) (old new : BoardOf) : Type 0 where
@@ -107,10 +109,10 @@ search_on s items = record {
 }
 
 -- what is found without the item of the id, and with the other in its place
-pub record FindsPast (s : ShutIslandOf) (id : ℕ) (moved : Option Item) (found : Routed) : Type 0 where
+pub record FindsRoute (s : ShutIslandOf) (id : ℕ) (moved : Option Item) (found : Option Route) : Type 0 where
   pub items : List Item
   pub past : IsPast s.board.items id moved items
-  pub finds : FindsStated (search_on s items) found
+  pub finds : FindsPast (search_on s items) found
 
 -- the offer of the closing pass for a route
 pub record IsPastOffer (s : ShutIslandOf) (route : Route) (rip : List ℕ) (shoves : List Shoved) (o : Offer) : Type 0
@@ -139,9 +141,9 @@ abbrev pub AnswersItem : ShutIslandOf → ℕ → Option BoardOf → Type 0
 AnswersItem s id (Some c) = IsHelped s.lat s.via_cost s.board c
 AnswersItem s id None = IsSettled s.lat s.via_cost s.board s.island s.others id
 
-abbrev pub AnswersIsland : ShutIslandOf → Cut → Option BoardOf → Type 0
-AnswersIsland s cut (Some c) = IsHelped s.lat s.via_cost s.board c
-AnswersIsland s cut None = IsCutSettled s.lat s.via_cost s.tries s.board s.island s.others cut
+abbrev pub AnswersIsland : ShutIslandOf → Option BoardOf → Type 0
+AnswersIsland s (Some c) = IsHelped s.lat s.via_cost s.board c
+AnswersIsland s None = IsCutSettled s.lat s.via_cost s.tries s.board s.island s.others s.cut
 
 -- each island of the net that has a cut is settled
 pub record AreCutsSettled (m : Mesh) (via_cost tries : ℕ) (b : BoardOf) (found : List Island) (cuts : List Cut) :
@@ -170,6 +172,11 @@ pub record AreShutOn (m : Mesh) (via_cost : ℕ) (b : BoardOf) (found : List Isl
   pub net_there : net < length b.design.nets
   pub islands : AreIslands b.design b.items net found
   pub shut : (place : ℕ) → IsShutAt b.design m via_cost b.items found place
+
+-- it is the cut of the island at the place
+abbrev pub HasCutAt : Mesh → ℕ → BoardOf → List Island → ℕ → Cut → Type 0
+HasCutAt m via_cost b found place cut = (island : Island) → slice_get found place ≡ Some island
+    → Cuts b.design m b.items via_cost island (remove found place) (Some cut)
 
 -- the island at the place
 abbrev pub AnswersAt : Mesh → ℕ → ℕ → BoardOf → List Island → ℕ → Cut → Option BoardOf → Type 0

@@ -7,7 +7,7 @@ use Rattle.cut_certificate.specs.Border.{AreBlocks}
 use Rattle.cut_certificate.specs.inner.Listing.{IsClosed}
 use Rattle.cut_certificate.proofs.Closing.{reach_in_range, reach_is_closed}
 use Rattle.cut_certificate.proofs.Flooding.{reach_tells}
-use Rattle.cut_certificate.proofs.Same.{flipped, sound_same, starts_same, reach_same}
+use Rattle.cut_certificate.proofs.Same.{flipped, starts_same, reach_same}
 use Rattle.cut_certificate.proofs.border.close.Goals as goal
 
 pub flood-requires : goal.flood-requires

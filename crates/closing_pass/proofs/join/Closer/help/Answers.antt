@@ -1,7 +1,8 @@
-use Rattle.std.proofs.Common.{◌≡◌, ◌∙◌, ℕ, List, Option, ap, inl, inr, length, refl, subst}
+use Rattle.std.proofs.Common.{◌≡◌, ℕ, List, Option, inl, inr, refl, subst}
 use Rattle.pcb_islands.specs.declared.net.Island.{Island}
 use Rattle.pcb_board.specs.Boards.{BoardOf}
 use Rattle.pcb_board.proofs.Standing.{serves_now}
+use Rattle.closing_pass.specs.Closing.{HaveCuts}
 use Rattle.closing_pass.specs.inner.Steps.{AreReady, IsShutAt}
 use Rattle.closing_pass.specs.inner.Trials.{after_trial}
 use Rattle.closing_pass.specs.inner.Tries.{AnswersNet}
@@ -40,7 +41,8 @@ help_net-requires-clause-cuts c =
     let found = c.in_ok-found.found in
     let same : c.requires.cuts.found ≡ found = single b.design b.items net c.requires.cuts.found found
     c.keeps.ensures.sound (serves_now b c.keeps.ensures) c.requires.cuts.islands c.in_ok-found.ensures in
-    c.requires.cuts.cuts_are.all ∙ ap (λ (fs : List Island). length fs) same
+    subst (λ (fs : List Island). HaveCuts b.design c.args.self.now.lat.now c.args.self.now.via_cost b.items fs
+    c.args.cuts.now) same c.requires.cuts.cuts_are
 
 pub returns-in-Some-clause-helped : goal.returns-in-Some-clause-helped
 returns-in-Some-clause-helped c = inl

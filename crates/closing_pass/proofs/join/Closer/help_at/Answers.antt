@@ -10,8 +10,8 @@ remove-island-requires c = c.requires.place
 
 pub invariant_of-shut : goal.invariant_of-shut
 invariant_of-shut c = shut_island c.args.self.now.lat.now c.args.self.now.via_cost c.args.board.now c.args.found
-    c.remove-island.new.self c.args.place c.remove-island.result c.requires.shut c.remove-island.ensures.value
-    c.remove-island.ensures.rest
+    c.remove-island.new.self c.args.place c.remove-island.result c.args.cut.now c.requires.shut
+    c.remove-island.ensures.value c.remove-island.ensures.rest c.requires.cut
 
 pub try_named-helped-requires : goal.try_named-helped-requires
 try_named-helped-requires c = record { ready = c.requires.ready }

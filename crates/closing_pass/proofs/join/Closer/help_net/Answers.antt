@@ -6,7 +6,7 @@ use Rattle.cut_certificate.specs.declared.cut.Cut.{Cut}
 use Rattle.pcb_board.specs.Boards.{BoardOf}
 use Rattle.closing_pass.specs.inner.Steps.{AreReady}
 use Rattle.closing_pass.specs.inner.Trials.{after_trial}
-use Rattle.closing_pass.specs.inner.Tries.{AnswersAt, AreShutOn}
+use Rattle.closing_pass.specs.inner.Tries.{AnswersAt, AreShutOn, HasCutAt}
 use Rattle.closing_pass.proofs.Helpless.{below_all, below_more, below_none}
 use Rattle.closing_pass.proofs.join.Closer.help_net.Goals as goal
 
@@ -23,7 +23,7 @@ bounds-as_slice-place c =
     let count = c.len-place-end.ensures in
     let test = c.loop-place-test.true in
     let cuts = ap (λ (xs : List Cut). length xs) c.as_slice.ensures in
-    omega (arith, count, test, cuts, c.requires.cuts)
+    omega (arith, count, test, cuts, c.requires.cuts.all)
 
 pub help_at-requires-clause-ready : goal.help_at-requires-clause-ready
 help_at-requires-clause-ready c = c.loop-place.invariant.ready
@@ -39,6 +39,21 @@ help_at-requires-clause-place c =
     let test = c.loop-place-test.true in
     let found = ap (λ (xs : List Island). length xs) c.loop-place.invariant.found in
     omega (arith, count, test, found)
+
+pub help_at-requires-clause-cut : goal.help_at-requires-clause-cut
+help_at-requires-clause-cut c =
+    let b = c.args.board.now in
+    let place = c.loop-place.place in
+    let cut = c.index-as_slice-place.result in
+    let count = c.len-place-end.ensures in
+    let test = c.loop-place-test.true in
+    let cuts = ap (λ (xs : List Cut). length xs) c.as_slice.ensures in
+    let at : slice_get c.args.cuts.now place ≡ Some cut =
+    ap (λ (xs : List Cut). slice_get xs place) (sym c.as_slice.ensures)
+    ∙ slice_get-get_or c.as_slice.result.now place cut (omega (arith, count, test, cuts, c.requires.cuts.all))
+    ∙ ap (λ (x : Cut). Some x) (sym c.index-as_slice-place.is) in
+    subst (λ (found : List Island). HasCutAt c.args.self.now.lat.now c.args.self.now.via_cost b found place cut)
+    (sym c.loop-place.invariant.found) (λ island there. c.requires.cuts.each place island cut there at)
 
 pub returns-in-Some-clause-answers : goal.returns-in-Some-clause-answers
 returns-in-Some-clause-answers c =
@@ -64,7 +79,7 @@ loop-place-preserved c =
     let cuts = ap (λ (xs : List Cut). length xs) c.as_slice.ensures in
     let at : slice_get c.args.cuts.now place ≡ Some cut =
     ap (λ (xs : List Cut). slice_get xs place) (sym c.as_slice.ensures)
-    ∙ slice_get-get_or c.as_slice.result.now place cut (omega (arith, count, test, cuts, c.requires.cuts))
+    ∙ slice_get-get_or c.as_slice.result.now place cut (omega (arith, count, test, cuts, c.requires.cuts.all))
     ∙ ap (λ (x : Cut). Some x) (sym c.index-as_slice-place.is) in
     record {
       found = c.in_ok-same.ensures.found ∙ c.loop-place.invariant.found;

@@ -25,7 +25,7 @@ trial-requires-clause-trial c =
     wire shove shoves rip (record { routed = routed; clashes = clash }) in
     subst (λ (s : ShutIslandOf). IsTrial s.lat s.via_cost s.board c.args.offer c.in-Some.net) (sym c.self.view_is)
     (is_trial c.args.self.now c.args.item.now c.args.offer c.in-Some.net
-    (subst (λ (s : ShutIslandOf). IsShutIsland s.lat s.via_cost s.board s.island s.others) c.self.view_is
+    (subst (λ (s : ShutIslandOf). IsShutIsland s.lat s.via_cost s.board s.island s.others s.cut) c.self.view_is
     c.self.invariant) (subst (λ (s : ShutIslandOf). IsBoard s.board) c.self.view_is c.keeps.ensures) c.requires.item
     c.in-Some.is c.requires.trial out aside)
 
@@ -33,7 +33,7 @@ pub returns-in-Some-2-clause-tries : goal.returns-in-Some-2-clause-tries
 returns-in-Some-2-clause-tries c =
     let s = c.args.self.now in
     helped s c.args.item.now c.args.offer c.in-Some.net
-    (subst (λ (t : ShutIslandOf). IsShutIsland t.lat t.via_cost t.board t.island t.others) c.self.view_is
+    (subst (λ (t : ShutIslandOf). IsShutIsland t.lat t.via_cost t.board t.island t.others t.cut) c.self.view_is
     c.self.invariant) (subst (λ (t : ShutIslandOf). IsBoard t.board) c.self.view_is c.keeps.ensures) c.requires.item
     c.in-Some.is c.requires.trial c.in-Some-2.helped c.keeps-in-Some-2.ensures
     (subst (λ (r : Option BoardOf). TriesOffer s.lat s.via_cost s.board c.args.offer c.in-Some.net r) c.in-Some-2.is
@@ -60,7 +60,7 @@ returns-in-None-clause-tries c =
     c.one_may_be_moved_aside.ensures m via_cost b o x r up1 chain kept up plain fits base worker there least none x_in
     wire shove shoves rip (record { routed = routed; clashes = clash }) in
     none_helps s c.args.item.now c.args.offer c.in-Some.net
-    (subst (λ (t : ShutIslandOf). IsShutIsland t.lat t.via_cost t.board t.island t.others) c.self.view_is
+    (subst (λ (t : ShutIslandOf). IsShutIsland t.lat t.via_cost t.board t.island t.others t.cut) c.self.view_is
     c.self.invariant) (subst (λ (t : ShutIslandOf). IsBoard t.board) c.self.view_is c.keeps.ensures) c.requires.item
     c.in-Some.is c.requires.trial out aside
     (subst (λ (r : Option BoardOf). TriesOffer s.lat s.via_cost s.board c.args.offer c.in-Some.net r) c.in-None.is

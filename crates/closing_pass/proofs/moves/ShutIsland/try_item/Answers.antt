@@ -27,7 +27,7 @@ pub returns-then-not-is_of_other-clause-answers : goal.returns-then-not-is_of_ot
 returns-then-not-is_of_other-clause-answers c =
     let s = c.args.self.now in
     let x = c.in-Some.item.now in
-    let inv = subst (λ (t : ShutIslandOf). IsShutIsland t.lat t.via_cost t.board t.island t.others) c.self.view_is
+    let inv = subst (λ (t : ShutIslandOf). IsShutIsland t.lat t.via_cost t.board t.island t.others t.cut) c.self.view_is
     c.self.invariant in
     let kept = subst (λ (t : ShutIslandOf). IsBoard t.board) c.self.view_is c.keeps.ensures in
     let has : Contains c.items.result.now.items x × (x.id ≡ c.args.id) = c.in-Some.ensures in
@@ -56,7 +56,7 @@ pub returns-then-not-branch-clause-answers : goal.returns-then-not-branch-clause
 returns-then-not-branch-clause-answers c =
     let s = c.args.self.now in
     let x = c.in-Some.item.now in
-    let inv = subst (λ (t : ShutIslandOf). IsShutIsland t.lat t.via_cost t.board t.island t.others) c.self.view_is
+    let inv = subst (λ (t : ShutIslandOf). IsShutIsland t.lat t.via_cost t.board t.island t.others t.cut) c.self.view_is
     c.self.invariant in
     let kept = subst (λ (t : ShutIslandOf). IsBoard t.board) c.self.view_is c.keeps.ensures in
     let has : Contains c.items.result.now.items x × (x.id ≡ c.args.id) = c.in-Some.ensures in
@@ -126,7 +126,7 @@ pub returns-clause-answers : goal.returns-clause-answers
 returns-clause-answers c =
     let s = c.args.self.now in
     let x = c.in-Some.item.now in
-    let inv = subst (λ (t : ShutIslandOf). IsShutIsland t.lat t.via_cost t.board t.island t.others) c.self.view_is
+    let inv = subst (λ (t : ShutIslandOf). IsShutIsland t.lat t.via_cost t.board t.island t.others t.cut) c.self.view_is
     c.self.invariant in
     let kept = subst (λ (t : ShutIslandOf). IsBoard t.board) c.self.view_is c.keeps.ensures in
     let has : Contains c.items.result.now.items x × (x.id ≡ c.args.id) = c.in-Some.ensures in

@@ -2,6 +2,7 @@ use Rattle.std.proofs.Common.{◌≡◌, ◌∙◌, ℕ, List, Option, ap, get_o
 use Rattle.std.specs.Prelude.{Contains}
 use Rattle.std.proofs.lemmas.List.Elements.{Contains-get_or}
 use Rattle.pcb_model.specs.declared.item.Item.{Item}
+use Rattle.cut_certificate.specs.declared.cut.Cut.{Cut}
 use Rattle.pcb_board.specs.Boards.{BoardOf}
 use Rattle.closing_pass.specs.Settled.{AreNamed}
 use Rattle.closing_pass.specs.inner.Steps.{AreReady}
@@ -19,11 +20,12 @@ try_item-requires-clause-ready c = c.loop-id.invariant.ready
 pub try_item-requires-clause-item : goal.try_item-requires-clause-item
 try_item-requires-clause-item c =
     let s = c.args.self.now in
-    let cut = c.args.cut.now in
+    let cut = s.cut in
     let ids = c.in_ok-ids.ids.items in
     let xs = c.deref-id-items.result.now in
-    let named = subst (λ (ys : List Item). AreNamed ys cut ids)
-    (c.items.ensures.items ∙ ap (λ (t : ShutIslandOf). t.board.items) c.self.view_is) c.in_ok-ids.ensures in
+    let named = subst (λ (y : List Item × Cut). AreNamed y.0 y.1 ids)
+    (λ i. ((c.items.ensures.items ∙ ap (λ (t : ShutIslandOf). t.board.items) c.self.view_is) i, (c.self.view_is i).cut))
+    c.in_ok-ids.ensures in
     let list_is : xs ≡ take s.tries ids = c.deref-id-items.ensures.value ∙ c.truncate.ensures.items
     ∙ ap (λ (t : ShutIslandOf). take t.tries ids) c.self.view_is in
     let id = get_or xs c.loop-id.id-index 0 in
@@ -56,11 +58,12 @@ loop-id-preserved c =
 pub returns-clause-answers : goal.returns-clause-answers
 returns-clause-answers c =
     let s = c.args.self.now in
-    let cut = c.args.cut.now in
+    let cut = s.cut in
     let ids = c.in_ok-ids.ids.items in
     let xs = c.deref-id-items.result.now in
-    let named = subst (λ (ys : List Item). AreNamed ys cut ids)
-    (c.items.ensures.items ∙ ap (λ (t : ShutIslandOf). t.board.items) c.self.view_is) c.in_ok-ids.ensures in
+    let named = subst (λ (y : List Item × Cut). AreNamed y.0 y.1 ids)
+    (λ i. ((c.items.ensures.items ∙ ap (λ (t : ShutIslandOf). t.board.items) c.self.view_is) i, (c.self.view_is i).cut))
+    c.in_ok-ids.ensures in
     let list_is : xs ≡ take s.tries ids = c.deref-id-items.ensures.value ∙ c.truncate.ensures.items
     ∙ ap (λ (t : ShutIslandOf). take t.tries ids) c.self.view_is in
     record {

@@ -1,10 +1,10 @@
-use Rattle.std.proofs.Common.{ℕ, List, None, refl, subst}
+use Rattle.std.proofs.Common.{ℕ, List, None, Option, refl, subst}
 use Rattle.std.proofs.lemmas.Result.{IfOk-weaker}
 use Rattle.pcb_board.specs.Keeping.{IsBoard}
 use Rattle.board_offers.specs.declared.offer.Shoved.{Shoved}
-use Rattle.route_plan.specs.declared.route.Routed.{Routed}
+use Rattle.route_plan.specs.declared.route.Route.{Route}
 use Rattle.closing_pass.specs.Settled.{TakesOut}
-use Rattle.closing_pass.specs.inner.Tries.{AnswersBy, AnswersTrial, FindsPast, IsPastOffer, IsPastTrial, IsShutIsland}
+use Rattle.closing_pass.specs.inner.Tries.{AnswersBy, AnswersTrial, FindsRoute, IsPastOffer, IsPastTrial, IsShutIsland}
 use Rattle.closing_pass.specs.inner.Tries.{ShutIslandOf}
 use Rattle.closing_pass.proofs.Answered.{out_answers, out_shut, out_trial}
 use Rattle.closing_pass.proofs.moves.ShutIsland.try_out.Goals as goal
@@ -22,7 +22,7 @@ route_past-requires-clause-makes c = record {
 }
 
 pub attempt-requires-clause-ready : goal.attempt-requires-clause-ready
-attempt-requires-clause-ready c = c.in_ok-reach.ensures.ready
+attempt-requires-clause-ready c = c.in_ok-route_past.ensures.ready
 
 pub attempt-requires-clause-item : goal.attempt-requires-clause-item
 attempt-requires-clause-item c = c.requires.item
@@ -31,42 +31,42 @@ pub attempt-requires-clause-trial : goal.attempt-requires-clause-trial
 attempt-requires-clause-trial c =
     let s = c.args.self.now in
     let x = c.args.item.now in
-    let inv = subst (λ (t : ShutIslandOf). IsShutIsland t.lat t.via_cost t.board t.island t.others) c.self.view_is
+    let inv = subst (λ (t : ShutIslandOf). IsShutIsland t.lat t.via_cost t.board t.island t.others t.cut) c.self.view_is
     c.self.invariant in
     let kept = subst (λ (t : ShutIslandOf). IsBoard t.board) c.self.view_is c.keeps.ensures in
-    out_trial s inv kept x c.requires.item c.in-Route.route c.offer_past-offer.result
-    (subst (λ (f : Routed). FindsPast s x.id None f) c.in-Route.is c.in_ok-reach.ensures.finds)
-    (subst (λ (y : List ℕ × List Shoved). IsPastOffer s c.in-Route.route y.0 y.1 c.offer_past-offer.result)
-    (λ i. (c.in_ok-rip-in-Route.ensures i, c.new.ensures i)) c.offer_past-offer.ensures)
+    out_trial s inv kept x c.requires.item c.in-Some.route c.offer_past-offer.result
+    (subst (λ (f : Option Route). FindsRoute s x.id None f) c.in-Some.is c.in_ok-route_past.ensures.finds)
+    (subst (λ (y : List ℕ × List Shoved). IsPastOffer s c.in-Some.route y.0 y.1 c.offer_past-offer.result)
+    (λ i. (c.in_ok-rip-in-Some.ensures i, c.new.ensures i)) c.offer_past-offer.ensures)
 
-pub returns-in-Shut-clause-answers : goal.returns-in-Shut-clause-answers
-returns-in-Shut-clause-answers c =
+pub returns-in-None-clause-answers : goal.returns-in-None-clause-answers
+returns-in-None-clause-answers c =
     let s = c.args.self.now in
     let x = c.args.item.now in
-    let inv = subst (λ (t : ShutIslandOf). IsShutIsland t.lat t.via_cost t.board t.island t.others) c.self.view_is
+    let inv = subst (λ (t : ShutIslandOf). IsShutIsland t.lat t.via_cost t.board t.island t.others t.cut) c.self.view_is
     c.self.invariant in
     let kept = subst (λ (t : ShutIslandOf). IsBoard t.board) c.self.view_is c.keeps.ensures in
-    out_shut s inv kept x c.requires.item c.in-Shut.reach
-    (subst (λ (f : Routed). FindsPast s x.id None f) c.in-Shut.is c.in_ok-reach.ensures.finds)
+    out_shut s inv kept x c.requires.item
+    (subst (λ (f : Option Route). FindsRoute s x.id None f) c.in-None.is c.in_ok-route_past.ensures.finds)
 
-pub returns-in-Shut-clause-ready : goal.returns-in-Shut-clause-ready
-returns-in-Shut-clause-ready c = c.in_ok-reach.ensures.ready
+pub returns-in-None-clause-ready : goal.returns-in-None-clause-ready
+returns-in-None-clause-ready c = c.in_ok-route_past.ensures.ready
 
-pub returns-in_ok-rip-in-Route-clause-answers : goal.returns-in_ok-rip-in-Route-clause-answers
-returns-in_ok-rip-in-Route-clause-answers c =
+pub returns-in_ok-rip-in-Some-clause-answers : goal.returns-in_ok-rip-in-Some-clause-answers
+returns-in_ok-rip-in-Some-clause-answers c =
     let s = c.args.self.now in
     let x = c.args.item.now in
     let o = c.offer_past-offer.result in
-    let inv = subst (λ (t : ShutIslandOf). IsShutIsland t.lat t.via_cost t.board t.island t.others) c.self.view_is
+    let inv = subst (λ (t : ShutIslandOf). IsShutIsland t.lat t.via_cost t.board t.island t.others t.cut) c.self.view_is
     c.self.invariant in
     let kept = subst (λ (t : ShutIslandOf). IsBoard t.board) c.self.view_is c.keeps.ensures in
-    let p = subst (λ (y : List ℕ × List Shoved). IsPastOffer s c.in-Route.route y.0 y.1 o)
-    (λ i. (c.in_ok-rip-in-Route.ensures i, c.new.ensures i)) c.offer_past-offer.ensures in
-    let trial : IsPastTrial s x o = out_trial s inv kept x c.requires.item c.in-Route.route o
-    (subst (λ (f : Routed). FindsPast s x.id None f) c.in-Route.is c.in_ok-reach.ensures.finds) p in
+    let p = subst (λ (y : List ℕ × List Shoved). IsPastOffer s c.in-Some.route y.0 y.1 o)
+    (λ i. (c.in_ok-rip-in-Some.ensures i, c.new.ensures i)) c.offer_past-offer.ensures in
+    let trial : IsPastTrial s x o = out_trial s inv kept x c.requires.item c.in-Some.route o
+    (subst (λ (f : Option Route). FindsRoute s x.id None f) c.in-Some.is c.in_ok-route_past.ensures.finds) p in
     IfOk-weaker c.attempt.result (AnswersTrial s x o) (AnswersBy s x.id (λ q. TakesOut q x.id))
     (λ r h. out_answers s inv kept x c.requires.item o trial
     (record { rip_is = p.rip_is; no_shove = p.shoves_are }) r h) c.attempt.ensures.tries
 
-pub returns-in_ok-rip-in-Route-clause-ready : goal.returns-in_ok-rip-in-Route-clause-ready
-returns-in_ok-rip-in-Route-clause-ready c = c.attempt.ensures.ready
+pub returns-in_ok-rip-in-Some-clause-ready : goal.returns-in_ok-rip-in-Some-clause-ready
+returns-in_ok-rip-in-Some-clause-ready c = c.attempt.ensures.ready

@@ -29,7 +29,7 @@ shove_at-requires-clause-serves c =
 pub shove_at-requires-clause-item : goal.shove_at-requires-clause-item
 shove_at-requires-clause-item c =
     let s = c.args.self.now in
-    let inv = subst (λ (t : ShutIslandOf). IsShutIsland t.lat t.via_cost t.board t.island t.others) c.self.view_is
+    let inv = subst (λ (t : ShutIslandOf). IsShutIsland t.lat t.via_cost t.board t.island t.others t.cut) c.self.view_is
     c.self.invariant in
     let kept = subst (λ (t : ShutIslandOf). IsBoard t.board) c.self.view_is c.keeps.ensures in
     subst (λ (d : Design). IsItemOf d c.args.item.now)
@@ -53,7 +53,7 @@ found_there s lat d items x run up o q lat_is d_is items_is is h =
 pub returns-in_default-clause-answers : goal.returns-in_default-clause-answers
 returns-in_default-clause-answers c =
     let s = c.args.self.now in
-    let inv = subst (λ (t : ShutIslandOf). IsShutIsland t.lat t.via_cost t.board t.island t.others) c.self.view_is
+    let inv = subst (λ (t : ShutIslandOf). IsShutIsland t.lat t.via_cost t.board t.island t.others t.cut) c.self.view_is
     c.self.invariant in
     let kept = subst (λ (t : ShutIslandOf). IsBoard t.board) c.self.view_is c.keeps.ensures in
     run_none s inv kept c.args.item.now c.requires.item c.args.run c.args.up
@@ -90,7 +90,7 @@ pub returns-clause-answers : goal.returns-clause-answers
 returns-clause-answers c =
     let s = c.args.self.now in
     let x = c.args.item.now in
-    let inv = subst (λ (t : ShutIslandOf). IsShutIsland t.lat t.via_cost t.board t.island t.others) c.self.view_is
+    let inv = subst (λ (t : ShutIslandOf). IsShutIsland t.lat t.via_cost t.board t.island t.others t.cut) c.self.view_is
     c.self.invariant in
     let kept = subst (λ (t : ShutIslandOf). IsBoard t.board) c.self.view_is c.keeps.ensures in
     IfOk-weaker c.try_chain.result (AnswersBy s x.id (λ o. MovesTo x.id c.in-Some.field-0.chain o))

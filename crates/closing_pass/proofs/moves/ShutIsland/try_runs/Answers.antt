@@ -21,7 +21,7 @@ pub loop-run-preserved : goal.loop-run-preserved
 loop-run-preserved c =
     let s = c.args.self.now in
     let x = c.args.item.now in
-    let inv = subst (λ (t : ShutIslandOf). IsShutIsland t.lat t.via_cost t.board t.island t.others) c.self.view_is
+    let inv = subst (λ (t : ShutIslandOf). IsShutIsland t.lat t.via_cost t.board t.island t.others t.cut) c.self.view_is
     c.self.invariant in
     let kept = subst (λ (t : ShutIslandOf). IsBoard t.board) c.self.view_is c.keeps.ensures in
     record {
@@ -37,7 +37,7 @@ loop-run-preserved c =
 pub returns-clause-answers : goal.returns-clause-answers
 returns-clause-answers c =
     let s = c.args.self.now in
-    let inv = subst (λ (t : ShutIslandOf). IsShutIsland t.lat t.via_cost t.board t.island t.others) c.self.view_is
+    let inv = subst (λ (t : ShutIslandOf). IsShutIsland t.lat t.via_cost t.board t.island t.others t.cut) c.self.view_is
     c.self.invariant in
     let kept = subst (λ (t : ShutIslandOf). IsBoard t.board) c.self.view_is c.keeps.ensures in
     let e = c.run_count-run-end.ensures in

@@ -5,7 +5,7 @@ use Rattle.route_lattice.specs.Mesh.{Mesh}
 use Rattle.route_lattice.specs.Legal.{CanMove}
 use Rattle.closing_pass.specs.inner.Rooms.{RoomOf}
 use Rattle.closing_pass.proofs.Rooming.{same_room}
-use Rattle.closing_pass.proofs.room.Room.leads_on.Goals as goal
+use Rattle.closing_pass.proofs.room.Room.may_lead.Goals as goal
 
 pub search-requires-clause-moves : goal.search-requires-clause-moves
 search-requires-clause-moves c =

@@ -114,7 +114,8 @@ pub record NoneTo (s : ShutIslandOf) (x : Item) (k : ℕ) : Type 0 where
   pub each : (r : ℕ) (up : Bool) → r < k → NoneHelps s x.id (MovesRunTo s x r up)
 
 -- ---- an island that is shut in
-module _ (s : ShutIslandOf) (inv : IsShutIsland s.lat s.via_cost s.board s.island s.others s.cut) (kept : IsBoard s.board)
+module _ (s : ShutIslandOf) (inv : IsShutIsland s.lat s.via_cost s.board s.island s.others s.cut)
+    (kept : IsBoard s.board)
   where
     abbrev b : BoardOf
     b = s.board

@@ -82,9 +82,9 @@ still_shut d items past net id stay (Some p) (blocker.Item y) shut is_open = eli
 still_shut d items past net id stay (Some p) blocker.Outside shut is_open = absurd (shut.1 is_open.inside)
 
 -- a cut of an island, past an item
-pub cut_past : (d : Design) (m : Mesh) (items past : List Item) (via_cost id : ℕ) (moved : Option Item) (island : Island)
-    (others : List Island) (cut : Cut) → IsCut d m items island others cut → IsPast items id moved past
-    → IsCutPast (legal_graph d m past island.net via_cost) cut id
+pub cut_past : (d : Design) (m : Mesh) (items past : List Item) (via_cost id : ℕ) (moved : Option Item)
+    (island : Island) (others : List Island) (cut : Cut) → IsCut d m items island others cut
+    → IsPast items id moved past → IsCutPast (legal_graph d m past island.net via_cost) cut id
 cut_past d m items past via_cost id moved island others cut is way_past = record {
   ascends = is.ascends;
   there = All-weaker (IsBlock (way d m net) (way_count d m net) (IsShutBy d m items net) cut.reach.nodes)

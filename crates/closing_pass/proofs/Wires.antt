@@ -33,7 +33,8 @@ chain_fit (metal.Via padstack at) chain wire fit some within = absurd wire
 chain_fit (metal.Pad pin) chain wire fit some within = absurd wire
 chain_fit (metal.Ban wires vias) chain wire fit some within = absurd wire
 
-module _ (s : ShutIslandOf) (inv : IsShutIsland s.lat s.via_cost s.board s.island s.others s.cut) (kept : IsBoard s.board)
+module _ (s : ShutIslandOf) (inv : IsShutIsland s.lat s.via_cost s.board s.island s.others s.cut)
+    (kept : IsBoard s.board)
     (x : Item) (tried : IsTriedItem s x) where
   pub item_of_board : IsItemOf s.board.design x
   item_of_board =

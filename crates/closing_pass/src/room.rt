@@ -197,8 +197,8 @@ impl<'a> Room<'a> {
         }
     }
 
-    /// Whether a legal walk may lead from an island to one of the others past the item of an id, which shut moves of the
-    /// island's cut.
+    /// Whether a legal walk may lead from an island to one of the others past the item of an id, which shut moves of
+    /// the island's cut.
     pub(crate) fn may_lead(
         &self,
         alloc: Global,

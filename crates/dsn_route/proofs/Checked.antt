@@ -35,7 +35,7 @@ use Rattle.dsn_route.proofs.Wording.{one_input, one_name, text_input}
 
 -- ---- commands that read a session
 -- one that routes starts from it
-started_from : (command : Command) (session : List ℕ) (desk : DeskState) (read e : Design) → AsksToRoute command
+pub started_from : (command : Command) (session : List ℕ) (desk : DeskState) (read e : Design) → AsksToRoute command
     → IsSessionOf command session → IsStartedBy (from_of command) desk read e
     → (items : List SesItem) × IsSessionIn session desk read items
 started_from (Route input output from knobs) session desk read e routes named starts =

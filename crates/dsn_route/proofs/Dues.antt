@@ -22,7 +22,7 @@ use Rattle.dsn_route.specs.declared.outcome.Outcome.{Outcome}
 use Rattle.dsn_route.specs.Lines.{max_bytes}
 use Rattle.session_start.specs.Starting.{started}
 use Rattle.ses_reader.specs.Reading.{HasSession, OneSession}
-use Rattle.dsn_route.specs.Commands.{mesh_of, from_of, AsksToRoute, IsInputOf, IsText, IsToldText}
+use Rattle.dsn_route.specs.Commands.{mesh_of, from_of, AsksToRoute, IsText, IsToldText}
 use Rattle.route_check.specs.declared.verdict.Verdict.{Verdict}
 use Rattle.route_check.specs.declared.verdict.JudgeFault.{JudgeFault}
 use Rattle.dsn_route.specs.Judging.{HasJudged, HasMisread, IsDesignOf, IsNoSession, IsStartedBy}
@@ -30,7 +30,7 @@ use Rattle.dsn_route.specs.Answers.{IsUnread, IsOverlong, IsRefusal, IsOverfull,
 use Rattle.dsn_route.specs.Answers.{SessionFaulted}
 use Rattle.dsn_route.specs.Answers.{IsOutcome, Stopped, Leaves, Answers}
 use Rattle.dsn_route.specs.Due.{IsRead, IsFit, IsUnfit, IsOver, IsTooFine, IsRoutable, IsDueAfterRead, HasNoFault}
-use Rattle.dsn_route.specs.Due.{IsDone, IsDue, IsHeldInput, IsLong, IsMissing, IsOldHeld, IsStartHeld}
+use Rattle.dsn_route.specs.Due.{IsDone, IsOldHeld, IsStartHeld}
 use Rattle.dsn_route.proofs.OneText.{one_design, one_lack, apart, no_session}
 use Rattle.dsn_route.proofs.Wording.{input_text}
 
@@ -112,7 +112,7 @@ unfit_not_long (Check input session report) desk text line held fits none (inl l
     not_long desk.files input text held fits long
 unfit_not_long (Check input session report) desk text line held fits none (inr (d, first, rest), is) =
     none first.text d first.is_text first.reads
-unfit_not_long (Gen n) desk text line told fits none why = absurd why
+unfit_not_long (Gen n) desk text line told fits none why = absurd why.0
 
 not_overlong : (command : Command) (desk : DeskState) (text line : List ℕ) (read d : Design) → AsksToRoute command
     → IsToldText command desk text → length text ≤ max_bytes → IsStartHeld (from_of command) desk read d
@@ -124,7 +124,7 @@ not_overlong (Route input output from knobs) desk text line read d routes held f
     let h : IsOldHeld old desk read d = subst (λ (f : Option (List ℕ)). IsStartHeld f desk read d) named starts in
     not_long desk.files old h.told h.held h.fits long
 not_overlong (Check input session report) desk text line read d routes held fits starts why = absurd routes
-not_overlong (Gen n) desk text line read d routes told fits starts why = absurd why
+not_overlong (Gen n) desk text line read d routes told fits starts why = absurd why.0
 
 -- what was judged isn't routed, and has a design
 pub not_routed : (command : Command) (desk : DeskState) (answer : Result Verdict JudgeFault)
@@ -148,25 +148,15 @@ not_misread single one (Route input output from knobs) desk text read d place m 
 not_misread single one (Check input session report) desk text read d place m told reads starts routes = absurd routes
 not_misread single one (Gen n) desk text read d place m told reads starts routes = absurd m.is_input
 
-judged_text : (command : Command) (desk : DeskState) (answer : Result Verdict JudgeFault)
+pub judged_text : (command : Command) (desk : DeskState) (answer : Result Verdict JudgeFault)
     → (j : HasJudged command desk answer) → IsText command desk j.of_input.text
 judged_text command desk answer j =
     subst (λ (k : Command). IsText k desk j.of_input.text) (sym j.command_is) j.of_input.is_text
 
-misread_text : (command : Command) (desk : DeskState) (place : ℕ) → (m : HasMisread command desk place)
+pub misread_text : (command : Command) (desk : DeskState) (place : ℕ) → (m : HasMisread command desk place)
     → IsText command desk m.of_input.text
 misread_text command desk place m =
     input_text command m.input desk m.of_input.text m.is_input m.of_input.is_text
-
--- an absent file has no text, and is not too long
-not_read : (files : Option Files) (name text : List ℕ) → IsAbsent files name → IsFile files name text → ⊥
-not_read None name text gone is = absurd gone
-not_read (Some m) name text gone is = none-some text (sym gone ∙ is)
-
-none_long : (files : Option Files) (name : List ℕ) → IsAbsent files name → IsTooLong files name max_bytes → ⊥
-none_long None name gone long = absurd gone
-none_long (Some m) name gone long =
-    absurd (subst (λ (o : Option (List ℕ)). IsSomeAnd o (λ bytes. max_bytes < length bytes)) gone long)
 
 -- a call that routed this status
 abbrev pub Ran : Command → DeskState → DeskState → SinkState → SinkState → Status → Type 0
@@ -343,103 +333,6 @@ module _ (single : OneOutcome) (one : OneSession) (desk later : DeskState) (sink
       absurd (no_design w.1.0.is_design.text w.1.0.is_design.read over.over.refusal w.1.0.is_design.is_text
       w.1.0.is_design.reads over.over.lacks)
 
--- ---- an input that the desk tells to be absent
-not_text : (command : Command) (desk : DeskState) (input other : List ℕ) → IsInputOf command input
-    → IsAbsent desk.files input → IsText command desk other → ⊥
-not_text (Route name output from knobs) desk input other names gone is =
-    not_read desk.files name other (subst (IsAbsent desk.files) names gone) is.file
-not_text (Check name session report) desk input other names gone is =
-    not_read desk.files name other (subst (IsAbsent desk.files) names gone) is.file
-not_text (Gen n) desk input other names gone is = absurd names
-
-absent_not_long : (command : Command) (desk : DeskState) (input line : List ℕ) → IsInputOf command input
-    → IsAbsent desk.files input → IsOverlong command desk line → ⊥
-absent_not_long (Route name output from knobs) desk input line names gone (inl long, is) =
-    none_long desk.files name (subst (IsAbsent desk.files) names gone) long
-absent_not_long (Route name output from knobs) desk input line names gone (inr (old, named, d, first, rest), is) =
-    not_read desk.files name first.text (subst (IsAbsent desk.files) names gone) first.is_text.file
-absent_not_long (Check name session report) desk input line names gone (inl long, is) =
-    none_long desk.files name (subst (IsAbsent desk.files) names gone) long
-absent_not_long (Check name session report) desk input line names gone (inr (d, first, rest), is) =
-    not_read desk.files name first.text (subst (IsAbsent desk.files) names gone) first.is_text.file
-absent_not_long (Gen n) desk input line names gone why = absurd names
-
--- whatever is due of a call whose input gives no text
-module _ (desk later : DeskState) (sink after : SinkState) (command : Command)
-    (none : (other : List ℕ) → IsText command desk other → ⊥) (Due : Status → Type 0) (unread : Due ReadFault)
-    (unwritten : Due WriteFault) (wanting : Due Memory)
-    (overlong : (line : List ℕ) → IsOverlong command desk line → Due Limit) where
-  textless_case : (status : Status) → Ends command desk later sink after status → Due status
-  textless_case ReadFault answers = unread
-  textless_case WriteFault answers = unwritten
-  textless_case Memory answers = wanting
-  textless_case Usage (inl s) = absurd s.said.stops
-  textless_case Usage (inr w) = absurd w.1.1
-  textless_case Refused (inl s) = absurd (none s.said.stops.text s.said.stops.is_text)
-  textless_case Refused (inr w) = absurd w.1.1
-  textless_case Rejected (inl s) = elim s.said.stops [
-    | inl a ↦ absurd (none _ (misread_text command desk a.place a.misread))
-    | inr a ↦ absurd (none _ (judged_text command desk _ a.judged))
-  ]
-  textless_case Rejected (inr w) = absurd w.1.1
-  textless_case Limit (inl s) = elim s.said.stops [
-    | inl long ↦ overlong s.said.line long
-    | inr counted ↦ elim counted [
-      | inl over ↦ absurd (none over.text over.is_text)
-      | inr nodes ↦ elim nodes [
-        | inl crowded ↦ absurd (none crowded.is_design.text crowded.is_design.is_text)
-        | inr fine ↦ absurd (none _ (judged_text command desk _ fine.judged))
-      ]
-    ]
-  ]
-  textless_case Limit (inr w) = absurd w.1.1
-  textless_case Complete (inl s) = absurd (none _ (judged_text command desk _ s.said.stops.0))
-  textless_case Complete (inr w) = absurd (none w.1.0.is_design.text w.1.0.is_design.is_text)
-  textless_case SomeOpen (inl s) = absurd s.said
-  textless_case SomeOpen (inr w) = absurd (none w.1.0.is_design.text w.1.0.is_design.is_text)
-
--- a text that is told and too long isn't read
-not_fit : (files : Option Files) (name text other : List ℕ) → IsHeld files name text → max_bytes < length text
-    → IsFile files name other → length other ≤ max_bytes → ⊥
-not_fit files name text other held long is fits =
-    let short : length text ≤ max_bytes =
-    subst (λ (t : List ℕ). length t ≤ max_bytes) (one_text files name text other held is) fits in
-    absurd (omega (arith, long, short))
-
-long_not_text : (command : Command) (desk : DeskState) (input text other : List ℕ) → IsInputOf command input
-    → IsHeld desk.files input text → max_bytes < length text → IsText command desk other → ⊥
-long_not_text (Route name output from knobs) desk input text other names held long is =
-    not_fit desk.files name text other (subst (λ (n : List ℕ). IsHeld desk.files n text) names held) long is.file
-    is.fits
-long_not_text (Check name session report) desk input text other names held long is =
-    not_fit desk.files name text other (subst (λ (n : List ℕ). IsHeld desk.files n text) names held) long is.file
-    is.fits
-long_not_text (Gen n) desk input text other names held long is = absurd names
-
-module _ (found : Result Command WordFault) (desk later : DeskState) (sink after : SinkState) (command : Command)
-    (is : found ≡ Ok command) (o : Outcome) (answers : Answers (Ok command) desk later sink after o) where
-  ends_so : Ends command desk later sink after o.status
-  ends_so = sides command desk later sink after o.routed o.status answers
-
-  input_of : (asked : Command) (input : List ℕ) → found ≡ Ok asked → IsInputOf asked input → IsInputOf command input
-  input_of asked input accepted_so names =
-      let same : command ≡ asked = one_command command asked (sym is ∙ accepted_so) in
-      subst (λ (k : Command). IsInputOf k input) (sym same) names
-
-  pub absent_due : IsMissing found desk → IsDue ReadFault o.status
-  absent_due missing =
-      let names = input_of missing.asked missing.input missing.accepted missing.names in
-      textless_case desk later sink after command
-      (λ other t. not_text command desk missing.input other names missing.holds t) (IsDue ReadFault) refl tt tt
-      (λ line long. absurd (absent_not_long command desk missing.input line names missing.holds long)) o.status ends_so
-
-  pub long_due : (text : List ℕ) → IsHeldInput found desk text → IsLong text → IsDueAfterRead Limit o.status
-  long_due text held long =
-      let names = input_of held.asked held.input held.accepted held.names in
-      textless_case desk later sink after command
-      (λ other t. long_not_text command desk held.input text other names held.holds long t) (IsDueAfterRead Limit) tt tt
-      tt (λ line why. refl) o.status ends_so
-
 -- ---- a call without faults is done
 pub no_desk_fault : {P : Type 0} (desk later : DeskState) (sink after : SinkState) → HasNoFault desk later sink after
     → DeskFaulted desk later P → (P → ⊥) → ⊥
@@ -464,7 +357,7 @@ not_unread (Route input output from knobs) desk later sink after text line read 
     no_desk_fault desk later sink after calm fault (not_absent desk.files old h.told h.held)
 not_unread (Check input session report) desk later sink after text line read d routes held starts calm why =
     absurd routes
-not_unread (Gen n) desk later sink after text line read d routes _ starts calm why = absurd why
+not_unread (Gen n) desk later sink after text line read d routes _ starts calm why = absurd why.0
 
 not_cut_short : (command : Command) (b : BoardOf) (desk later : DeskState) (sink after : SinkState)
     → HasNoFault desk later sink after → SessionFaulted command b desk later sink after → ⊥

@@ -20,7 +20,7 @@ use Rattle.route_check.specs.declared.verdict.JudgeFault.{JudgeFault}
 use Rattle.route_check.specs.declared.verdict.JudgeFault.TheVariants.{TooManyNodes}
 use Rattle.dsn_route.specs.Commands.{IsInput, IsText, from_of}
 use Rattle.dsn_route.specs.Judging.{HasJudged, HasMisread, IsDesignIn, IsDesignOf, IsSessionIn, IsStartedBy}
-use Rattle.dsn_route.specs.Judging.{OfOneFile}
+use Rattle.dsn_route.specs.Judging.{OfFiles, OfOneFile}
 use Rattle.dsn_route.specs.Lines.{max_bytes}
 use Rattle.dsn_route.specs.inner.Said.{IsReadFor}
 use Rattle.dsn_route.specs.Answers.{Stops, LinePut, Said, IsUnread, IsOverlong, HasWritten, SessionFaulted}
@@ -54,6 +54,15 @@ module _ (desk later : DeskState) (faults : ℕ) (calm : Bool) (le : desk.faults
       inr (d, design_in input d is, inl (to session second))
   one_file P Q to input session report (inr (d, is, inr (items, told, third))) =
       inr (d, design_in input d is, inr (items, session_in session d items told, to report third))
+
+  -- one of the files of a command
+  of_files : (P Q : List ℕ → Type 0) → ((name : List ℕ) → P name → Q name) → (command : Command)
+      → OfFiles P command (at desk.files faults calm) → OfFiles Q command desk
+  of_files P Q to (Route input output from knobs) (inl first) = inl (to input first)
+  of_files P Q to (Route input output from knobs) (inr (old, named, d, first, second)) =
+      inr (old, named, d, design_in input d first, to old second)
+  of_files P Q to (Check input session report) one = one_file P Q to input session report one
+  of_files P Q to (Gen n) one = absurd one
 
   judged : (command : Command) (answer : Result Verdict JudgeFault)
       → HasJudged command (at desk.files faults calm) answer → HasJudged command desk answer
@@ -110,27 +119,19 @@ module _ (desk later : DeskState) (faults : ℕ) (calm : Bool) (le : desk.faults
 
   unread : (command : Command) (line : List ℕ) → IsUnread command (at desk.files faults calm) later line
       → IsUnread command desk later line
-  unread (Route input output from knobs) line (inl fault, is) = (inl (faulted fault), is)
-  unread (Route input output from knobs) line (inr (old, named, d, first, fault), is) =
-      (inr (old, named, d, design_in input d first, faulted fault), is)
-  unread (Check input session report) line (one, is) = (
-    one_file (λ name. DeskFaulted (at desk.files faults calm) later (IsAbsent desk.files name))
-        (λ name. DeskFaulted desk later (IsAbsent desk.files name)) (λ name f. faulted f) input session report one,
+  unread command line (one, is) = (
+    of_files (λ name. DeskFaulted (at desk.files faults calm) later (IsAbsent desk.files name))
+        (λ name. DeskFaulted desk later (IsAbsent desk.files name)) (λ name f. faulted f) command one,
     is,
   )
-  unread (Gen n) line why = absurd why
 
   overlong : (command : Command) (line : List ℕ) → IsOverlong command (at desk.files faults calm) line
       → IsOverlong command desk line
-  overlong (Route input output from knobs) line (inl long, is) = (inl long, is)
-  overlong (Route input output from knobs) line (inr (old, named, d, first, long), is) =
-      (inr (old, named, d, design_in input d first, long), is)
-  overlong (Check input session report) line (one, is) = (
-    one_file (λ name. IsTooLong desk.files name max_bytes) (λ name. IsTooLong desk.files name max_bytes)
-        (λ name long. long) input session report one,
+  overlong command line (one, is) = (
+    of_files (λ name. IsTooLong desk.files name max_bytes) (λ name. IsTooLong desk.files name max_bytes)
+        (λ name long. long) command one,
     is,
   )
-  overlong (Gen n) line why = absurd why
 
   written : (command : Command) (b : BoardOf) → HasWritten command b (at desk.files faults calm) later
       → HasWritten command b desk later

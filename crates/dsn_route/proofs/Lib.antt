@@ -3,6 +3,7 @@ mod Later
 mod OneText
 mod Unread
 mod Dues
+mod Halted
 mod Checking
 mod Checked
 mod Started

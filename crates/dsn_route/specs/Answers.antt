@@ -24,7 +24,7 @@ use Rattle.dsn_route.specs.Lines.{max_bytes, number_of, usage_line, refused_line
 use Rattle.dsn_route.specs.Lines.{over_line, nodes_line, check_line, check_ok_line}
 use Rattle.dsn_route.specs.Texts.{IsRefused, IsOverLimit}
 use Rattle.dsn_route.specs.Commands.{mesh_of, run_of, AsksToRoute, IsText, is_short}
-use Rattle.dsn_route.specs.Judging.{HasJudged, HasMisread, IsDesignOf, OfInputs, OfOneFile}
+use Rattle.dsn_route.specs.Judging.{HasJudged, HasMisread, IsDesignOf, OfFiles}
 use Rattle.route_check.specs.declared.verdict.Verdict.TheVariants.{Yes, No}
 use Rattle.route_check.specs.declared.verdict.JudgeFault.TheVariants.{TooManyNodes}
 use Rattle.dsn_shapes.specs.declared.table.TheConstants.{BAD_PAIR}
@@ -93,22 +93,15 @@ pub record IsReportTooFine (command : Command) (desk : DeskState) (line : List �
   pub judged : HasJudged command desk (Err (TooManyNodes count))
   pub line_is : line ≡ nodes_line count
 
--- a file couldn't be read; a generated board has none
+-- a file couldn't be read
 abbrev pub IsUnread : Command → DeskState → DeskState → List ℕ → Type 0
-IsUnread (Route input output from knobs) desk later line =
-    OfInputs (λ name. DeskFaulted desk later (IsAbsent desk.files name)) input from desk × (line ≡ read_fault_line)
-IsUnread (Check input session report) desk later line =
-    OfOneFile (λ name. DeskFaulted desk later (IsAbsent desk.files name)) input session report desk
-    × (line ≡ read_fault_line)
-IsUnread (Gen n) desk later line = ⊥
+IsUnread command desk later line =
+    OfFiles (λ name. DeskFaulted desk later (IsAbsent desk.files name)) command desk × (line ≡ read_fault_line)
 
 -- a file is longer than the limit
 abbrev pub IsOverlong : Command → DeskState → List ℕ → Type 0
-IsOverlong (Route input output from knobs) desk line =
-    OfInputs (λ name. IsTooLong desk.files name max_bytes) input from desk × (line ≡ limit_line)
-IsOverlong (Check input session report) desk line =
-    OfOneFile (λ name. IsTooLong desk.files name max_bytes) input session report desk × (line ≡ limit_line)
-IsOverlong (Gen n) desk line = ⊥
+IsOverlong command desk line =
+    OfFiles (λ name. IsTooLong desk.files name max_bytes) command desk × (line ≡ limit_line)
 
 -- why a call doesn't route, and the line that says so
 abbrev pub Stops : Result Command WordFault → DeskState → DeskState → Status → List ℕ → Type 0

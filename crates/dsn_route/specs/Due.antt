@@ -16,7 +16,7 @@ use Rattle.route_words.specs.declared.command.WordFault.{WordFault}
 use Rattle.dsn_route.specs.Texts.{IsRefused, IsOverLimit}
 use Rattle.dsn_route.specs.Lines.{max_bytes}
 use Rattle.dsn_route.specs.Commands.{mesh_at, mesh_of, run_at, from_of, AsksToRoute, IsInputOf, IsSessionOf, IsToldText}
-use Rattle.dsn_route.specs.Judging.{case_of}
+use Rattle.dsn_route.specs.Judging.{OfFiles, case_of}
 use Rattle.pcb_board.specs.Boards.{BoardOf}
 use Rattle.pcb_board.specs.Keeping.{IsBoard}
 use Rattle.pcb_model.specs.Scale.{scale_of}
@@ -37,31 +37,31 @@ use Rattle.session_law.specs.Told.{HaveSameCopper, IsOnScale}
 use Rattle.session_start.specs.Starting.{started}
 use Rattle.route_lattice.specs.declared.limits.TheConstants.{MOST_NODES}
 
--- accepted words name an input, of which P holds
-pub record Names (P : List ℕ → Type 0) (command : Result Command WordFault) : Type 0 where
+-- accepted words come to a file of which P holds: that of the design, or that of the session behind the design, or that
+-- of the report behind both
+pub record ComesTo (P : List ℕ → Type 0) (command : Result Command WordFault) (desk : DeskState) : Type 0 where
   pub asked : Command
   pub accepted : command ≡ Ok asked
-  pub input : List ℕ
-  pub names : IsInputOf asked input
-  pub holds : P input
+  pub file : OfFiles P asked desk
 
 -- the desk tells that it is absent
 abbrev pub IsMissing : Result Command WordFault → DeskState → Type 0
-IsMissing command desk = Names (λ input. IsAbsent desk.files input) command
+IsMissing command desk = ComesTo (λ name. IsAbsent desk.files name) command desk
 
--- the desk tells this text of it
-abbrev pub IsHeldInput : Result Command WordFault → DeskState → List ℕ → Type 0
-IsHeldInput command desk text = Names (λ input. IsHeld desk.files input text) command
+-- the desk tells its text, which is longer than the limit
+pub record IsToldLong (desk : DeskState) (name : List ℕ) : Type 0 where
+  pub text : List ℕ
+  pub held : IsHeld desk.files name text
+  pub long : max_bytes < length text
+
+abbrev pub IsLong : Result Command WordFault → DeskState → Type 0
+IsLong command desk = ComesTo (IsToldLong desk) command desk
 
 -- accepted words ask for a design whose text is this, as is told at entry
 pub record IsRead (command : Result Command WordFault) (desk : DeskState) (text : List ℕ) : Type 0 where
   pub asked : Command
   pub accepted : command ≡ Ok asked
   pub told : IsToldText asked desk text
-
--- the text is longer than the limit
-abbrev pub IsLong : List ℕ → Type 0
-IsLong text = max_bytes < length text
 
 -- the text is within the limit, and is refused
 pub record IsUnfit (text : List ℕ) : Type 0 where

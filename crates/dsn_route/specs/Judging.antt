@@ -19,7 +19,7 @@ use Rattle.route_check.specs.Board.{board_of}
 use Rattle.copper_check.specs.Checks.{AreAllIslands}
 use Rattle.route_check.specs.Judged.{Case, IsVouched, Judges}
 use Rattle.route_words.specs.declared.command.Command.{Command}
-use Rattle.route_words.specs.declared.command.Command.TheVariants.{Check}
+use Rattle.route_words.specs.declared.command.Command.TheVariants.{Route, Check, Gen}
 use Rattle.session_start.specs.Starting.{started}
 use Rattle.dsn_route.specs.Commands.{IsInput, IsInputOf, IsSessionOf, IsText, from_of}
 use Rattle.dsn_route.specs.Texts.{tree_refusal}
@@ -89,6 +89,12 @@ abbrev pub OfOneFile : (List ℕ → Type 0) → List ℕ → List ℕ → List 
 OfOneFile P input session report desk =
     P input ⊎ ((d : Design) × IsDesignIn input desk d
     × (P session ⊎ ((items : List SesItem) × IsSessionIn session desk d items × P report)))
+
+-- P holds of one of the files that the command reads, and those before it were read; a generated board has none
+abbrev pub OfFiles : (List ℕ → Type 0) → Command → DeskState → Type 0
+OfFiles P (Route input output from knobs) desk = OfInputs P input from desk
+OfFiles P (Check input session report) desk = OfOneFile P input session report desk
+OfFiles P (Gen n) desk = ⊥
 
 -- the items of a session and a report by the design
 abbrev pub case_of : Design → List SesItem → List ℕ → List (List Island) → Case

@@ -16,7 +16,7 @@ ghost use Rattle.dsn_route.specs.Commands.{from_of, knobs_of as knobs_told, mesh
 ghost use Rattle.dsn_route.specs.Answers.{Answers};
 ghost use Rattle.dsn_route.specs.Judging.{IsDesignOf, IsNoSession, IsVouchedFor};
 ghost use Rattle.dsn_route.specs.inner.Said.{RoutesDesign, IsOrder, IsReadFor};
-ghost use Rattle.dsn_route.specs.Due.{IsMissing, IsHeldInput, IsRead, IsLong, IsUnfit, IsOver, IsTooFine, IsRoutable};
+ghost use Rattle.dsn_route.specs.Due.{IsMissing, IsLong, IsRead, IsUnfit, IsOver, IsTooFine, IsRoutable};
 ghost use Rattle.dsn_route.specs.Due.{IsDue, IsDueAfterRead, HasNoFault, IsDone};
 ghost use Rattle.dsn_route.specs.Due.{IsFromBoard, ComesBack};
 ghost use Rattle.dsn_route.specs.Due.{IsSessionHeld, AreHeld, HasFewNodes, AreOfRun, IsJudgedDone, IsClean};
@@ -311,8 +311,8 @@ pub fn dsn_route<T: Threads + Wait + Sync, D: Desk, R: Sink, G: Gate + Sync>(
     ensures usage { IsErr (command_of (texts words.now)) → IsDue Status.Usage result.status }
     ensures absent { IsMissing (command_of (texts words.now)) (D.state desk.old)
         → IsDue Status.ReadFault result.status }
-    ensures limit { (text : Seq ℕ) → IsHeldInput (command_of (texts words.now)) (D.state desk.old) text
-        → IsLong text → IsDueAfterRead Status.Limit result.status }
+    ensures limit { IsLong (command_of (texts words.now)) (D.state desk.old)
+        → IsDueAfterRead Status.Limit result.status }
     ensures refused { (text : Seq ℕ) → IsRead (command_of (texts words.now)) (D.state desk.old) text → IsUnfit text
         → IsDueAfterRead Status.Refused result.status }
     ensures counted { (text : Seq ℕ) → IsRead (command_of (texts words.now)) (D.state desk.old) text → IsOver text

@@ -230,8 +230,8 @@ impl<C: Copper, M: Moves> NetSearch<'_, C, M> {
         starts_of(alloc, self.lat, self.d, self.copper, self.island)
     }
 
-    /// Whether a walk may lead from the island to one of the others past the item of an id, where of the moves that lead
-    /// out of a cut only those may be open that the item shut. It is found from there on, without prices.
+    /// Whether a walk may lead from the island to one of the others past the item of an id, where of the moves that
+    /// lead out of a cut only those may be open that the item shut. It is found from there on, without prices.
     pub fn may_lead_past(&self, alloc: Global, cut: &Cut, id: u64) -> Result<bool, AllocError>
         requires { IsCutPast (walks_of self.now) cut.now id }
         ensures { IfOk result (λ led. OnFalse led (¬ (IsLed self.now))) }

@@ -2,7 +2,8 @@ use Rattle.std.proofs.Common.{Err, refl, sym, ◌∙◌}
 use Rattle.dsn_route.specs.declared.status.Status.TheVariants.{Usage}
 use Rattle.dsn_route.specs.Lines.{usage_line}
 use Rattle.dsn_route.proofs.Ended.{stopped}
-use Rattle.dsn_route.proofs.Dues.{absent_due, long_due, refused_due, over_due, nodes_due, complete_due}
+use Rattle.dsn_route.proofs.Dues.{refused_due, over_due, nodes_due, complete_due}
+use Rattle.dsn_route.proofs.Halted.{absent_due, long_due}
 use Rattle.dsn_route.proofs.Checked.{clean_due, judged_due, rejected_due}
 use Rattle.dsn_route.proofs.Started.{back_due}
 use Rattle.dsn_route.proofs.Knobbed.{is_readable, is_yes}
@@ -20,11 +21,13 @@ returns-in-Some-clause-answers g c =
 
 pub returns-in-Ok-clause-absent : goal.returns-in-Ok-clause-absent
 returns-in-Ok-clause-absent g c = λ missing.
-    absent_due _ _ _ _ _ c.in-Ok.command c.in-Ok.ensures.says _ c.route.ensures missing
+    absent_due c.one_outcome.ensures c.one_session.ensures _ _ _ _ _ c.in-Ok.command c.in-Ok.ensures.says _
+    c.route.ensures missing
 
 pub returns-in-Ok-clause-limit : goal.returns-in-Ok-clause-limit
-returns-in-Ok-clause-limit g c = λ text held long.
-    long_due _ _ _ _ _ c.in-Ok.command c.in-Ok.ensures.says _ c.route.ensures text held long
+returns-in-Ok-clause-limit g c = λ long.
+    long_due c.one_outcome.ensures c.one_session.ensures _ _ _ _ _ c.in-Ok.command c.in-Ok.ensures.says _
+    c.route.ensures long
 
 pub returns-in-Ok-clause-refused : goal.returns-in-Ok-clause-refused
 returns-in-Ok-clause-refused g c = λ text read unfit.

@@ -7,5 +7,6 @@ abbrev pub invariant-loop-block : goal.invariant-loop-block
 invariant-loop-block g l = record {
   kept : (v : ℕ) → Contains l.fn.ends v → Contains l.ends v;
   ends : All (EndsAmong (g.M.Moves.graph l.self) l.id l.ends) (take l.block-index l.blocked);
-  there : All (λ v. v < (g.M.Moves.graph l.self).count) l.fn.ends → All (λ v. v < (g.M.Moves.graph l.self).count) l.ends;
+  there : All (λ v. v < (g.M.Moves.graph l.self).count) l.fn.ends
+      → All (λ v. v < (g.M.Moves.graph l.self).count) l.ends;
 }

@@ -2,7 +2,7 @@
 //! A row takes memory once a node of it is marked, so a flood of few nodes costs little on a lattice of many.
 
 ghost use Rattle.std.specs.Prelude.{◌≡◌, ◌↔◌, ◌<◌, ◌≤◌, ◌+◌, ◌*◌, ◌==◌, ℕ, [], length, set, slice_index_or, true};
-ghost use Rattle.std.specs.Prelude.{false, IfOk, OnOk, IsTrue};
+ghost use Rattle.std.specs.Prelude.{false, IfOk, OnErr, OnOk, IsTrue};
 ghost use Rattle.cut_certificate.specs.declared.marks.TheConstants.{ROW};
 ghost use Rattle.cut_certificate.specs.inner.Rows.{IsSetIn, AreBlank};
 ghost use Rattle.cut_certificate.specs.inner.Marks.{IsMarked, AreListed};
@@ -12,7 +12,7 @@ use std::alloc::{AllocError, Global};
 use std::marker::Model;
 
 /// How many nodes a row has.
-const ROW: usize = 4096;
+const ROW: usize = 512;
 
 /// The marks of a row's nodes, or none where no node of the row is marked.
 #[derive(Drop)]
@@ -29,6 +29,17 @@ impl Model for Row {
     ghost view = { λ s. s.marks.items };
 
     ghost invariant = { λ s. IsRow s.marks.items };
+}
+
+/// Makes so many marks of which none is set, where there are none.
+fn make_blank(marks: &mut Vec<bool>, count: usize) -> Result<(), AllocError>
+    requires { length marks.old.items ≡ 0 }
+    ensures size { OnOk result (length marks.new.items ≡ count) }
+    ensures same { OnOk result ((u : ℕ) → slice_index_or marks.new.items u false
+        ≡ slice_index_or marks.old.items u false) }
+    ensures err { OnErr result (length marks.new.items ≡ 0) }
+{
+    marks.resize(count, false)
 }
 
 impl Row {
@@ -66,7 +77,7 @@ impl Row {
         if !self.marks.is_empty() {
             return Ok(());
         }
-        self.marks.resize(ROW, false)
+        make_blank(&mut self.marks, ROW)
     }
 
     /// Marks the node at this place of the row.

@@ -9,6 +9,13 @@ use pcb_model::Copper;
 use route_lattice::{Ground, anchors_among};
 use std::alloc::{AllocError, Global};
 
+/// Islands of a net, with the nodes that anchor the items of each.
+#[derive(Clone, Copy)]
+pub struct AnchoredIslands<'a> {
+    pub islands: &'a [Island],
+    pub anchors: &'a [List<u32>],
+}
+
 /// Of each island the nodes that anchor its items, ascending.
 pub fn anchors_of<C: Copper>(
     alloc: Global,

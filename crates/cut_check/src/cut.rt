@@ -11,11 +11,10 @@ ghost use Rattle.cut_check.specs.Marks.{IsBlank};
 ghost use Rattle.cut_check.specs.inner.Marking.{AreMarked};
 ghost use Rattle.cut_check.specs.inner.Outs.{IsSizedBy};
 
+use crate::anchors::AnchoredIslands;
 use crate::marks::{ascending, clear, mark_all};
 use crate::outward::Marked;
 use crate::stretch::{Stretch, all_on};
-use geo_kernel::List;
-use pcb_islands::Island;
 use pcb_model::Copper;
 use route_lattice::{Ground, legal_graph_sound};
 use std::alloc::{AllocError, Global};
@@ -30,24 +29,24 @@ pub struct CutSize {
 // The size of the cut that has these nodes, or None where they don't shut the island in.
 fn size_of<C: Copper>(
     on: &Ground<'_, C>,
-    own: &[Island],
-    anchors: &[List<u32>],
+    own: &AnchoredIslands<'_>,
     k: usize,
     marks: &[bool],
     nodes: &[u32],
 ) -> Option<CutSize>
-    requires anchored { AreAnchored on.now.d on.now.lat on.now.items own.now anchors.now }
-    requires nets { All (λ (s : OneIsland). s.net < length on.now.d.nets) own.now }
-    requires place { k < length own.now }
+    requires anchored { AreAnchored on.now.d on.now.lat on.now.items own.now.islands.now own.now.anchors.now }
+    requires nets { All (λ (s : OneIsland). s.net < length on.now.d.nets) own.now.islands.now }
+    requires place { k < length own.now.islands.now }
     requires ascend { IsStrictlyIncreasing nodes.now }
     requires marked { AreMarked (node_count on.now.lat) marks.now nodes.now }
-    ensures { (island : OneIsland) → slice_get own.now k ≡ Some island
-        → MatchOption result (IsCutSet on.now.d on.now.lat on.now.items island (remove own.now k) nodes.now → ⊥)
-        (IsSizedBy on.now.d on.now.lat on.now.items island (remove own.now k) nodes.now) }
+    ensures { let islands = own.now.islands.now in (island : OneIsland) → slice_get islands k ≡ Some island
+        → MatchOption result (IsCutSet on.now.d on.now.lat on.now.items island (remove islands k) nodes.now → ⊥)
+        (IsSizedBy on.now.d on.now.lat on.now.items island (remove islands k) nodes.now) }
 {
     legal_graph_sound();
     on.keeps();
-    let net = own[k].net;
+    let anchors = own.anchors;
+    let net = own.islands[k].net;
     let moves = on.moves(net, 0);
     let held = Marked {
         moves: &moves,
@@ -70,22 +69,21 @@ fn size_of<C: Copper>(
 }
 
 /// The size of the cut of the island at a place among those of its net that these stretches have, or None where they
-/// have none. `anchors` are the nodes that anchor the items of each island. No mark is set before, and none behind.
+/// have none. No mark is set before, and none behind.
 pub fn cut_size<C: Copper>(
     alloc: Global,
     on: &Ground<'_, C>,
-    own: &[Island],
-    anchors: &[List<u32>],
+    own: &AnchoredIslands<'_>,
     k: usize,
     runs: &[Stretch],
     marks: &mut Vec<bool>,
 ) -> Result<Option<CutSize>, AllocError>
-    requires anchored { AreAnchored on.now.d on.now.lat on.now.items own.now anchors.now }
-    requires nets { All (λ (s : OneIsland). s.net < length on.now.d.nets) own.now }
-    requires place { k < length own.now }
+    requires anchored { AreAnchored on.now.d on.now.lat on.now.items own.now.islands.now own.now.anchors.now }
+    requires nets { All (λ (s : OneIsland). s.net < length on.now.d.nets) own.now.islands.now }
+    requires place { k < length own.now.islands.now }
     requires blank { IsBlank (node_count on.now.lat) marks.old.items }
     ensures blank { OnOk result (IsBlank (node_count on.now.lat) marks.new.items) }
-    ensures sized { IfOk result (IsSized on.now.d on.now.lat on.now.items own.now k runs.now) }
+    ensures sized { IfOk result (IsSized on.now.d on.now.lat on.now.items own.now.islands.now k runs.now) }
 {
     if !all_on(on.lat, runs) {
         return Ok(None);
@@ -93,7 +91,7 @@ pub fn cut_size<C: Copper>(
     let mut nodes = Vec::new(alloc);
     mark_all(on.lat, runs, marks, &mut nodes)?;
     let nodes = ascending(nodes);
-    let size = size_of(on, own, anchors, k, marks, &nodes);
+    let size = size_of(on, own, k, marks, &nodes);
     clear(marks, &nodes);
     Ok(size)
 }

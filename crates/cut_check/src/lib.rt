@@ -8,7 +8,7 @@ mod marks;
 mod outward;
 mod stretch;
 
-pub use anchors::anchors_of;
+pub use anchors::{AnchoredIslands, anchors_of};
 pub use cut::{CutSize, cut_size};
 pub use laws::sizes_are_one;
 pub use marks::blank_marks;

@@ -79,8 +79,14 @@ placed text (tree_fault.TooDeep at) place has is = (has, λ no. no)
 placed text tree_fault.Empty place has is = (has, λ no. no)
 
 module _ (text : List ℕ) (d : Design) (reads : HasDesign text d) (told page : List ℕ) (w : AreOfRun d told page) where
-  few_workers : w.knobs.workers ≤ CLOSER
-  few_workers = w.within.workers.1
+  -- the run as it was made
+  abbrev ran : RunOf
+  ran = record (run_at w.knobs) { workers = w.run.workers }
+
+  few_workers : ran.workers ≤ CLOSER
+  few_workers =
+      let fewer : w.run.workers ≤ w.knobs.workers = w.run.few in
+      let few = w.within.workers.1 in omega (arith, fewer, few)
 
   abbrev grid : ℕ
   grid = unwrap_or w.knobs.grid (default_grid d)
@@ -89,16 +95,16 @@ module _ (text : List ℕ) (d : Design) (reads : HasDesign text d) (told page : 
   is_readable law place (inl (f, has, is)) =
       let both = placed (session_of d w.board.items w.knobs.omit_fixed) f place
       (subst (λ (t : List ℕ). HasFault t f) w.session_is has) is in
-      both.1 (law text d grid (run_at w.knobs) w.board w.facts w.knobs.omit_fixed (Err (Spelling f)) reads few_workers
-      w.run both.0)
+      both.1 (law text d grid ran w.board w.facts w.knobs.omit_fixed (Err (Spelling f)) reads few_workers
+      w.run.run both.0)
   is_readable law place (inr (number, refused)) =
-      law text d grid (run_at w.knobs) w.board w.facts w.knobs.omit_fixed (Err (Refused number place)) reads few_workers
-      w.run (subst (λ (t : List ℕ). ReadsSession t d (Err (Refused number place))) w.session_is refused)
+      law text d grid ran w.board w.facts w.knobs.omit_fixed (Err (Refused number place)) reads few_workers
+      w.run.run (subst (λ (t : List ℕ). ReadsSession t d (Err (Refused number place))) w.session_is refused)
 
   pub is_yes : RunsAreRight → (items : List SesItem) (answer : Result Verdict JudgeFault) → HasSession told d items
       → Judges d items page answer → IsYes answer
   is_yes law items answer has judges =
       let within = grid_at w.knobs.grid d w.within.grid in
-      law text d grid (run_at w.knobs) w.board w.facts w.knobs.omit_fixed items answer reads few_workers within.0
-      within.1 w.few w.run w.small (subst (λ (t : List ℕ). HasSession t d items) w.session_is has)
+      law text d grid ran w.board w.facts w.knobs.omit_fixed items answer reads few_workers within.0
+      within.1 w.few w.run.run w.small (subst (λ (t : List ℕ). HasSession t d items) w.session_is has)
       (subst (λ (t : List ℕ). Judges d items t answer) w.report_is judges)

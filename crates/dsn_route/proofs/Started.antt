@@ -67,5 +67,5 @@ module _ (law : SessionsComeBack) (single : OneOutcome) (found : Result Command 
       run_back made r.design
       (subst (λ (k : Command). IsDesignOf k desk r.design) (one_command command asked (sym is ∙ given.accepted))
       r.is_design)
-      (subst (λ (x : Design). Starts x made.facts.dropped made.board.start) r.run.design_is
-      r.run.facts_are.dropped_are)
+      (subst (λ (x : Design). Starts x made.facts.dropped made.board.start) r.run.run.design_is
+      r.run.run.facts_are.dropped_are)

@@ -15,7 +15,7 @@ use Rattle.route_run.specs.declared.facts.Facts.{Facts}
 use Rattle.route_report.specs.Report.{report_of}
 use Rattle.pcb_board.specs.Boards.{BoardOf}
 use Rattle.route_run.specs.declared.run.Routed.{Routed}
-use Rattle.route_run.specs.Runs.{IsRun}
+use Rattle.route_run.specs.Runs.{IsSomeRun}
 use Rattle.dsn_route.specs.declared.status.Status.{Status}
 use Rattle.dsn_route.specs.declared.status.Status.TheVariants.{Complete, SomeOpen, Usage, Refused, ReadFault}
 use Rattle.dsn_route.specs.declared.status.Status.TheVariants.{WriteFault, Limit, Memory, Rejected}
@@ -151,7 +151,7 @@ pub record IsOutcome (command : Command) (desk : DeskState) (routed : Routed) : 
   pub is_design : IsDesignOf command desk design
   pub routes : AsksToRoute command
   pub few : node_count (mesh_of command design) ≤ MOST_NODES
-  pub run : IsRun design (mesh_of command design) (run_of command) routed.board routed.facts
+  pub run : IsSomeRun design (mesh_of command design) (run_of command) routed.board routed.facts
 
 -- the files are those where all went well: the output is the session, whole, or nothing is written of a generated board
 abbrev pub HasWritten : Command → BoardOf → DeskState → DeskState → Type 0

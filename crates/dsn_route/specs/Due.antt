@@ -22,7 +22,7 @@ use Rattle.pcb_board.specs.Keeping.{IsBoard}
 use Rattle.pcb_model.specs.Scale.{scale_of}
 use Rattle.pcb_islands.specs.declared.net.Island.{Island}
 use Rattle.route_run.specs.declared.facts.Facts.{Facts}
-use Rattle.route_run.specs.Runs.{IsRun}
+use Rattle.route_run.specs.Runs.{IsSomeRun}
 use Rattle.route_run.specs.declared.run.Routed.{Routed}
 use Rattle.route_report.specs.Report.{report_of}
 use Rattle.route_words.specs.Words.{AreWithin}
@@ -198,7 +198,7 @@ pub record AreOfRun (d : Design) (told page : List ℕ) : Type 0 where
   pub board : BoardOf
   pub facts : Facts
   pub few : node_count (mesh_at knobs d) ≤ MOST_NODES
-  pub run : IsRun d (mesh_at knobs d) (run_at knobs) board facts
+  pub run : IsSomeRun d (mesh_at knobs d) (run_at knobs) board facts
   pub small : AreSmall d board.items facts
   pub session_is : told ≡ session_of d board.items knobs.omit_fixed
   pub report_is : page ≡ report_of d (mesh_at knobs d) board.items facts false

@@ -11,6 +11,7 @@ ghost use Rattle.dsn_route.specs.inner.Said.{IsEarlier, IsOrder, IsReadFor};
 
 use crate::Status;
 use crate::check::end_misread;
+use crate::context::RunContext;
 use crate::outcome::{Outcome, unrouted};
 use crate::refusals::end_unread;
 use crate::route::{MAX_BYTES, route_design};
@@ -21,20 +22,17 @@ use pcb_model::Design;
 use route_words::{Command, Text};
 use ses_reader::{SesItem, read_session};
 use session_start::{other_wiring_keeps, with_session};
-use std::alloc::Global;
 use std::sync::Wait;
 use std::thread::Threads;
 
 // Routes the design that starts from a session's items.
 fn route_started<T: Threads + Wait + Sync, D: Desk, R: Sink, G: Gate + Sync>(
-    rt: &T,
-    alloc: Global,
+    context: &RunContext<'_, T, G>,
     design: Design,
     items: List<SesItem>,
     command: &Command,
     desk: &mut D,
     report: &mut R,
-    gate: &G,
 ) -> Outcome
     requires sound { IsSound design }
     requires plain { IsPlainCopper design }
@@ -46,24 +44,22 @@ fn route_started<T: Threads + Wait + Sync, D: Desk, R: Sink, G: Gate + Sync>(
         (D.state desk.new) (R.state report.old) (R.state report.new) result }
 {
     other_wiring_keeps();
-    let started = with_session(alloc, design, &items);
+    let started = with_session(context.alloc, design, &items);
     drop(items);
     match started {
-        Ok(design) => route_design(rt, alloc, design, command, desk, report, gate),
+        Ok(design) => route_design(context, design, command, desk, report),
         Err(_) => unrouted(Status::Memory),
     }
 }
 
 /// Reads the earlier session of a design, and routes the design from it.
 pub(crate) fn route_from<T: Threads + Wait + Sync, D: Desk, R: Sink, G: Gate + Sync>(
-    rt: &T,
-    alloc: Global,
+    context: &RunContext<'_, T, G>,
     design: Design,
     old: &Text,
     command: &Command,
     desk: &mut D,
     report: &mut R,
-    gate: &G,
 ) -> Outcome
     requires sound { IsSound design }
     requires plain { IsPlainCopper design }
@@ -75,19 +71,19 @@ pub(crate) fn route_from<T: Threads + Wait + Sync, D: Desk, R: Sink, G: Gate + S
 {
     match desk.read(old.as_str(), MAX_BYTES) {
         Ok(text) => {
-            let read = read_session(alloc, &text, &design);
+            let read = read_session(context.alloc, &text, &design);
             drop(text);
             match read {
-                Ok(items) => route_started(rt, alloc, design, items, command, desk, report, gate),
+                Ok(items) => route_started(context, design, items, command, desk, report),
                 Err(fault) => {
                     drop(design);
-                    unrouted(end_misread(alloc, &fault, report))
+                    unrouted(end_misread(context.alloc, &fault, report))
                 }
             }
         }
         Err(fail) => {
             drop(design);
-            unrouted(end_unread(alloc, fail, report))
+            unrouted(end_unread(context.alloc, fail, report))
         }
     }
 }

@@ -4,6 +4,7 @@
 #![tactic(auto)]
 
 mod check;
+mod context;
 mod earlier;
 mod lines;
 mod outcome;

@@ -23,12 +23,13 @@ ghost use Rattle.dsn_route.specs.Due.{IsSessionHeld, AreHeld, HasFewNodes, AreOf
 
 use crate::Status;
 use crate::check::check;
+use crate::context::RunContext;
 use crate::earlier::route_from;
 use crate::lines::{say_nodes, say_usage};
 use crate::outcome::{Outcome, unrouted};
 use crate::refusals::{end_refused, end_unread, refusal_of};
 use crate::status::ended;
-use crate::write::write_out;
+use crate::write::{RunOutput, write_out};
 use board_gen::design_text;
 use board_turn::Gate;
 use check_law::runs_are_right;
@@ -38,7 +39,7 @@ use pcb_model::Design;
 use pcb_model::limits::MOST_BYTES;
 use route_check::right_is_vouched;
 use route_lattice::{Lattice, LatticeFault};
-use route_run::{RunInput, run_nets};
+use route_run::{RunInput, run_best};
 use route_words::{Command, Knobs, Text, WordFault, read_words};
 use ses_reader::one_session;
 use session_law::runs_read_back;
@@ -117,14 +118,12 @@ fn earlier_of(command: &Command) -> Option<&Text>
 
 // Routes a design on its lattice.
 fn route_on<T: Threads + Wait + Sync, D: Desk, R: Sink, G: Gate + Sync>(
-    rt: &T,
-    alloc: Global,
+    context: &RunContext<'_, T, G>,
     lat: &Lattice,
     design: Design,
     command: &Command,
     desk: &mut D,
     report: &mut R,
-    gate: &G,
 ) -> Outcome
     requires sound { IsSound design }
     requires order { IsOrder command.now }
@@ -142,9 +141,13 @@ fn route_on<T: Threads + Wait + Sync, D: Desk, R: Sink, G: Gate + Sync>(
         passes: knobs.passes,
         tries: knobs.tries,
     };
-    match run_nets(rt, alloc, input, design, gate) {
+    match run_best(context.rt, context.alloc, input, design, context.gate) {
         Ok(routed) => {
-            let status = write_out(alloc, lat, &routed, command, desk, report);
+            let run = RunOutput {
+                lat,
+                routed: &routed,
+            };
+            let status = write_out(context.alloc, &run, command, desk, report);
             Outcome {
                 status,
                 routed: Some(routed),
@@ -156,13 +159,11 @@ fn route_on<T: Threads + Wait + Sync, D: Desk, R: Sink, G: Gate + Sync>(
 
 /// Routes the design that a command asks for.
 pub(crate) fn route_design<T: Threads + Wait + Sync, D: Desk, R: Sink, G: Gate + Sync>(
-    rt: &T,
-    alloc: Global,
+    context: &RunContext<'_, T, G>,
     design: Design,
     command: &Command,
     desk: &mut D,
     report: &mut R,
-    gate: &G,
 ) -> Outcome
     requires sound { IsSound design }
     requires plain { IsPlainCopper design }
@@ -171,15 +172,15 @@ pub(crate) fn route_design<T: Threads + Wait + Sync, D: Desk, R: Sink, G: Gate +
     ensures { Answers (Ok command.now) (D.state desk.old)
         (D.state desk.new) (R.state report.old) (R.state report.new) result }
 {
-    match Lattice::of(alloc, &design, knobs_of(command).grid) {
+    match Lattice::of(context.alloc, &design, knobs_of(command).grid) {
         Ok(lat) => {
-            let outcome = route_on(rt, alloc, &lat, design, command, desk, report, gate);
+            let outcome = route_on(context, &lat, design, command, desk, report);
             drop(lat);
             outcome
         }
         Err(LatticeFault::TooManyNodes { count }) => {
             drop(design);
-            unrouted(ended(say_nodes(alloc, count, report), Status::Limit))
+            unrouted(ended(say_nodes(context.alloc, count, report), Status::Limit))
         }
         Err(LatticeFault::Memory(_)) => {
             drop(design);
@@ -190,13 +191,11 @@ pub(crate) fn route_design<T: Threads + Wait + Sync, D: Desk, R: Sink, G: Gate +
 
 // Routes a design that was read, from the earlier session that the command names, if it names one.
 fn route_read<T: Threads + Wait + Sync, D: Desk, R: Sink, G: Gate + Sync>(
-    rt: &T,
-    alloc: Global,
+    context: &RunContext<'_, T, G>,
     design: Design,
     command: &Command,
     desk: &mut D,
     report: &mut R,
-    gate: &G,
 ) -> Outcome
     requires sound { IsSound design }
     requires plain { IsPlainCopper design }
@@ -206,20 +205,18 @@ fn route_read<T: Threads + Wait + Sync, D: Desk, R: Sink, G: Gate + Sync>(
         (D.state desk.new) (R.state report.old) (R.state report.new) result }
 {
     match earlier_of(command) {
-        Some(old) => route_from(rt, alloc, design, old, command, desk, report, gate),
-        None => route_design(rt, alloc, design, command, desk, report, gate),
+        Some(old) => route_from(context, design, old, command, desk, report),
+        None => route_design(context, design, command, desk, report),
     }
 }
 
 // Reads the design of a text, and routes it.
 fn route_text<T: Threads + Wait + Sync, D: Desk, R: Sink, G: Gate + Sync>(
-    rt: &T,
-    alloc: Global,
+    context: &RunContext<'_, T, G>,
     text: &[u8],
     command: &Command,
     desk: &mut D,
     report: &mut R,
-    gate: &G,
 ) -> Outcome
     requires order { IsOrder command.now }
     requires is_text { IsText command.now (D.state desk.old) text.now }
@@ -227,10 +224,10 @@ fn route_text<T: Threads + Wait + Sync, D: Desk, R: Sink, G: Gate + Sync>(
     ensures { Answers (Ok command.now) (D.state desk.old)
         (D.state desk.new) (R.state report.old) (R.state report.new) result }
 {
-    match read_design(alloc, text) {
-        Ok(design) => route_read(rt, alloc, design, command, desk, report, gate),
+    match read_design(context.alloc, text) {
+        Ok(design) => route_read(context, design, command, desk, report),
         Err(fault) => match refusal_of(&fault) {
-            Some(refusal) => unrouted(end_refused(alloc, refusal, report)),
+            Some(refusal) => unrouted(end_refused(context.alloc, refusal, report)),
             None => unrouted(Status::Memory),
         },
     }
@@ -238,13 +235,11 @@ fn route_text<T: Threads + Wait + Sync, D: Desk, R: Sink, G: Gate + Sync>(
 
 // Reads the input, and routes it.
 fn route_file<T: Threads + Wait + Sync, D: Desk, R: Sink, G: Gate + Sync>(
-    rt: &T,
-    alloc: Global,
+    context: &RunContext<'_, T, G>,
     input: &Text,
     command: &Command,
     desk: &mut D,
     report: &mut R,
-    gate: &G,
 ) -> Outcome
     requires order { IsOrder command.now }
     requires names { IsInputOf command.now input.now }
@@ -252,19 +247,17 @@ fn route_file<T: Threads + Wait + Sync, D: Desk, R: Sink, G: Gate + Sync>(
         (D.state desk.new) (R.state report.old) (R.state report.new) result }
 {
     match desk.read(input.as_str(), MAX_BYTES) {
-        Ok(text) => route_text(rt, alloc, &text, command, desk, report, gate),
-        Err(fail) => unrouted(end_unread(alloc, fail, report)),
+        Ok(text) => route_text(context, &text, command, desk, report),
+        Err(fail) => unrouted(end_unread(context.alloc, fail, report)),
     }
 }
 
 // Does what a command asks for.
 fn route<T: Threads + Wait + Sync, D: Desk, R: Sink, G: Gate + Sync>(
-    rt: &T,
-    alloc: Global,
+    context: &RunContext<'_, T, G>,
     command: &Command,
     desk: &mut D,
     report: &mut R,
-    gate: &G,
 ) -> Outcome
     requires within { IsWithin command.now }
     ensures { Answers (Ok command.now) (D.state desk.old)
@@ -276,14 +269,14 @@ fn route<T: Threads + Wait + Sync, D: Desk, R: Sink, G: Gate + Sync>(
             output: _,
             from: _,
             knobs: _,
-        } => route_file(rt, alloc, input, command, desk, report, gate),
+        } => route_file(context, input, command, desk, report),
         Command::Check {
             input,
             session,
             report: page,
-        } => unrouted(check(alloc, input, session, page, desk, report)),
-        Command::Gen { n } => match design_text(alloc, *n) {
-            Ok(text) => route_text(rt, alloc, &text, command, desk, report, gate),
+        } => unrouted(check(context.alloc, input, session, page, desk, report)),
+        Command::Gen { n } => match design_text(context.alloc, *n) {
+            Ok(text) => route_text(context, &text, command, desk, report),
             Err(_) => unrouted(Status::Memory),
         },
     }
@@ -347,7 +340,7 @@ pub fn dsn_route<T: Threads + Wait + Sync, D: Desk, R: Sink, G: Gate + Sync>(
     runs_read_back();
     sessions_come_back();
     match read_words(alloc, words) {
-        Ok(command) => route(rt, alloc, &command, desk, report, gate),
+        Ok(command) => route(&RunContext { rt, alloc, gate }, &command, desk, report),
         Err(fault) => match number_of(fault) {
             Some(number) => unrouted(ended(say_usage(alloc, number, report), Status::Usage)),
             None => unrouted(Status::Memory),

@@ -19,6 +19,13 @@ use route_words::{Command, Knobs, Text};
 use ses_writer::session_text;
 use std::alloc::Global;
 
+/// What a run gave: the lattice, and what was routed on it.
+#[derive(Clone, Copy)]
+pub(crate) struct RunOutput<'a> {
+    pub lat: &'a Lattice,
+    pub routed: &'a Routed,
+}
+
 // Complete where there is no cut.
 fn verdict(cuts: &[Cut]) -> Status
     ensures { IsVerdict cuts.now result }
@@ -33,23 +40,23 @@ fn verdict(cuts: &[Cut]) -> Status
 // Writes the session and puts the report.
 fn write_both<D: Desk, R: Sink>(
     alloc: Global,
-    lat: &Lattice,
-    routed: &Routed,
+    run: &RunOutput<'_>,
     output: &Text,
     knobs: Knobs,
     desk: &mut D,
     report: &mut R,
 ) -> Status
-    requires lattice { lat.now ≡ mesh_at knobs routed.now.board.design }
+    requires lattice { run.now.lat.now ≡ mesh_at knobs run.now.routed.now.board.design }
     ensures { (input : Seq ℕ) (from : Option (Seq ℕ))
-        → Leaves (Route input output.now from knobs) routed.now.board routed.now.facts (D.state desk.old)
-        (D.state desk.new) (R.state report.old) (R.state report.new) result }
+        → Leaves (Route input output.now from knobs) run.now.routed.now.board run.now.routed.now.facts
+        (D.state desk.old) (D.state desk.new) (R.state report.old) (R.state report.new) result }
 {
+    let routed = run.routed;
     let board = &routed.board;
     let Ok(session) = session_text(alloc, board.design(), board, knobs.omit_fixed) else {
         return Status::Memory;
     };
-    let Ok(page) = report_text(alloc, board.design(), lat, board, &routed.facts, false) else {
+    let Ok(page) = report_text(alloc, board.design(), run.lat, board, &routed.facts, false) else {
         return Status::Memory;
     };
     match desk.write(output.as_str(), &session) {
@@ -60,14 +67,15 @@ fn write_both<D: Desk, R: Sink>(
 }
 
 // Puts the short report.
-fn put_short<R: Sink>(alloc: Global, lat: &Lattice, routed: &Routed, report: &mut R) -> Status
-    requires lattice { lat.now ≡ mesh_at default_knobs routed.now.board.design }
+fn put_short<R: Sink>(alloc: Global, run: &RunOutput<'_>, report: &mut R) -> Status
+    requires lattice { run.now.lat.now ≡ mesh_at default_knobs run.now.routed.now.board.design }
     ensures { (n : ℕ) (desk : DeskState)
-        → Leaves (Gen n) routed.now.board routed.now.facts desk desk (R.state report.old)
+        → Leaves (Gen n) run.now.routed.now.board run.now.routed.now.facts desk desk (R.state report.old)
         (R.state report.new) result }
 {
+    let routed = run.routed;
     let board = &routed.board;
-    let Ok(page) = report_text(alloc, board.design(), lat, board, &routed.facts, true) else {
+    let Ok(page) = report_text(alloc, board.design(), run.lat, board, &routed.facts, true) else {
         return Status::Memory;
     };
     ended(report.put(&page), verdict(routed.facts.cuts.as_slice()))
@@ -76,15 +84,14 @@ fn put_short<R: Sink>(alloc: Global, lat: &Lattice, routed: &Routed, report: &mu
 /// Writes what a command wants of a run, and answers how the call ends.
 pub(crate) fn write_out<D: Desk, R: Sink>(
     alloc: Global,
-    lat: &Lattice,
-    routed: &Routed,
+    run: &RunOutput<'_>,
     command: &Command,
     desk: &mut D,
     report: &mut R,
 ) -> Status
     requires routes { AsksToRoute command.now }
-    requires lattice { lat.now ≡ mesh_of command.now routed.now.board.design }
-    ensures { Leaves command.now routed.now.board routed.now.facts (D.state desk.old)
+    requires lattice { run.now.lat.now ≡ mesh_of command.now run.now.routed.now.board.design }
+    ensures { Leaves command.now run.now.routed.now.board run.now.routed.now.facts (D.state desk.old)
         (D.state desk.new) (R.state report.old) (R.state report.new) result }
 {
     match command {
@@ -93,12 +100,12 @@ pub(crate) fn write_out<D: Desk, R: Sink>(
             output,
             from: _,
             knobs,
-        } => write_both(alloc, lat, routed, output, *knobs, desk, report),
+        } => write_both(alloc, run, output, *knobs, desk, report),
         Command::Check {
             input: _,
             session: _,
             report: _,
         }
-        | Command::Gen { n: _ } => put_short(alloc, lat, routed, report),
+        | Command::Gen { n: _ } => put_short(alloc, run, report),
     }
 }

@@ -166,43 +166,50 @@ fn area_shape(tree: &Tree) -> Option<&Tree>
     }
 }
 
+/// What a plane is read by: the design, its layers as readers take them, and the scale.
+#[derive(Drop)]
+struct PlaneInput<'a> {
+    d: &'a Design,
+    layers: &'a List<Layer>,
+    s: Scale,
+    ghost few: { length d.now.layers ≤ MOST_LAYERS },
+}
+
 // The shape of a net's plane.
 fn read_shape_of(
     alloc: Global,
     first: &mut Option<Refusal>,
-    d: &Design,
-    layers: &List<Layer>,
-    s: Scale,
+    by: &PlaneInput<'_>,
     net: u32,
     shape: &Tree,
 ) -> Result<Option<PlaneArea>, AllocError>
-    requires few { length d.now.layers ≤ MOST_LAYERS }
-    ensures noted { OnOk result (first.new ≡ noted first.old (shape_refusals s.nm layers.now shape.now)) }
-    ensures value { IfOk result (λ o. o ≡ area_on d.now net (shape_of s.nm layers.now shape.now)) }
+    ensures noted { let b = by.now in
+        OnOk result (first.new ≡ noted first.old (shape_refusals b.s.nm b.layers.now shape.now)) }
+    ensures value { let b = by.now in
+        IfOk result (λ o. o ≡ area_on b.d.now net (shape_of b.s.nm b.layers.now shape.now)) }
 {
-    let read = note_shape(alloc, first, shape, s, layers)?;
-    Ok(area_of(d, net, read))
+    let read = note_shape(alloc, first, shape, by.s, by.layers)?;
+    Ok(area_of(by.d, net, read))
 }
 
 #[tactic(auto, unfolding(crate::specs::Reading::plane_refusals, crate::specs::Reading::plane_of))]
 fn read_plane(
     alloc: Global,
     first: &mut Option<Refusal>,
-    d: &Design,
-    layers: &List<Layer>,
+    by: &PlaneInput<'_>,
     nets: &NameIndex,
-    s: Scale,
     tree: &Tree,
 ) -> Result<Option<PlaneArea>, AllocError>
-    requires few { length d.now.layers ≤ MOST_LAYERS }
-    ensures noted { OnOk result (first.new ≡ noted first.old (plane_refusals s.nm layers.now nets.now tree.now)) }
-    ensures value { IfOk result (λ o. o ≡ plane_of s.nm layers.now nets.now d.now tree.now) }
+    ensures noted { let b = by.now in
+        OnOk result (first.new ≡ noted first.old (plane_refusals b.s.nm b.layers.now nets.now tree.now)) }
+    ensures value { let b = by.now in
+        IfOk result (λ o. o ≡ plane_of b.s.nm b.layers.now nets.now b.d.now tree.now) }
 {
     match area_shape(tree) {
         None => Ok(None),
         Some(shape) => match net_of(nets, name_of(tree, 1)) {
             None => Ok(None),
-            Some(net) => read_shape_of(alloc, first, d, layers, s, net, shape),
+            Some(net) => read_shape_of(alloc, first, by, net, shape),
         },
     }
 }
@@ -219,20 +226,18 @@ fn push_some(found: &mut List<PlaneArea>, area: Option<PlaneArea>) -> Result<(),
 fn read_all(
     alloc: Global,
     first: &mut Option<Refusal>,
-    d: &Design,
-    layers: &List<Layer>,
+    by: &PlaneInput<'_>,
     nets: &NameIndex,
-    s: Scale,
     trees: &[&Tree],
 ) -> Result<List<PlaneArea>, AllocError>
-    requires few { length d.now.layers ≤ MOST_LAYERS }
-    ensures noted { OnOk result
-        (first.new ≡ noted first.old (flat_map (plane_refusals s.nm layers.now nets.now) (trees_of trees.now))) }
-    ensures value { IfOk result (λ ps. ps ≡ flat_map (areas_of s.nm layers.now nets.now d.now) (trees_of trees.now)) }
+    ensures noted { let b = by.now in OnOk result
+        (first.new ≡ noted first.old (flat_map (plane_refusals b.s.nm b.layers.now nets.now) (trees_of trees.now))) }
+    ensures value { let b = by.now in
+        IfOk result (λ ps. ps ≡ flat_map (areas_of b.s.nm b.layers.now nets.now b.d.now) (trees_of trees.now)) }
 {
     let mut found = List::new(alloc);
     for tree in trees {
-        let area = read_plane(alloc, first, d, layers, nets, s, tree)?;
+        let area = read_plane(alloc, first, by, nets, tree)?;
         push_some(&mut found, area)?;
     }
     Ok(found)
@@ -254,7 +259,12 @@ fn note_planes(
     let layers = layers_of(alloc, d)?;
     let nets = net_names(alloc, d)?;
     let lists = plane_lists(alloc, pcb)?;
-    read_all(alloc, first, d, &layers, &nets, s, lists.as_slice())
+    let by = PlaneInput {
+        d,
+        layers: &layers,
+        s,
+    };
+    read_all(alloc, first, &by, &nets, lists.as_slice())
 }
 
 // The planes of a design's tree, or the first of their refusals.

@@ -10,7 +10,9 @@ ghost use Rattle.route_check.specs.inner.Kept.{AreAllJudged, AreJudged, HaveThei
 ghost use Rattle.route_check.specs.inner.Kept.{IsPinBelow, stretch_of};
 
 use crate::names::first_pin;
-use cut_check::{CutSize, Stretch, anchors_of, blank_marks, cut_size, sizes_are_one};
+use cut_check::{
+    AnchoredIslands, CutSize, Stretch, anchors_of, blank_marks, cut_size, sizes_are_one,
+};
 use geo_kernel::List;
 use pcb_islands::Island;
 use pcb_model::Copper;
@@ -44,19 +46,20 @@ fn is_size(size: CutSize, cut: &ReadCut) -> bool
 fn is_cut<C: Copper>(
     alloc: Global,
     on: &Ground<'_, C>,
-    own: &[Island],
-    anchors: &[List<u32>],
+    own: &AnchoredIslands<'_>,
     k: usize,
     cut: &ReadCut,
     marks: &mut Vec<bool>,
 ) -> Result<bool, AllocError>
-    requires anchored { AreAnchored on.now.d on.now.lat on.now.items own.now anchors.now }
-    requires nets { All (λ (s : OneIsland). s.net < length on.now.d.nets) own.now }
-    requires place { k < length own.now }
+    requires anchored { AreAnchored on.now.d on.now.lat on.now.items own.now.islands.now own.now.anchors.now }
+    requires nets { All (λ (s : OneIsland). s.net < length on.now.d.nets) own.now.islands.now }
+    requires place { k < length own.now.islands.now }
     requires blank { IsBlank (node_count on.now.lat) marks.old.items }
     ensures blank { OnOk result (IsBlank (node_count on.now.lat) marks.new.items) }
-    ensures yes { IfOk result (λ is. OnTrue is (IsKeptTrue on.now.d on.now.lat on.now.items own.now k cut.now)) }
-    ensures no { IfOk result (λ is. OnFalse is (IsKeptFalse on.now.d on.now.lat on.now.items own.now k cut.now)) }
+    ensures yes { IfOk result
+        (λ is. OnTrue is (IsKeptTrue on.now.d on.now.lat on.now.items own.now.islands.now k cut.now)) }
+    ensures no { IfOk result
+        (λ is. OnFalse is (IsKeptFalse on.now.d on.now.lat on.now.items own.now.islands.now k cut.now)) }
 {
     if !cut.named {
         return Ok(false);
@@ -64,7 +67,7 @@ fn is_cut<C: Copper>(
     sizes_are_one();
     on.keeps();
     let runs = stretches(alloc, cut.runs.as_slice())?;
-    match cut_size(alloc, on, own, anchors, k, &runs, marks)? {
+    match cut_size(alloc, on, own, k, &runs, marks)? {
         None => Ok(false),
         Some(size) => Ok(is_size(size, cut)),
     }
@@ -100,9 +103,13 @@ fn lowered_by_net<C: Copper>(
         (AreJudged on.now.d on.now.lat on.now.items own.now cuts.now (length cuts.now) bound) }
 {
     let anchors = anchors_of(alloc, on, own)?;
+    let anchored = AnchoredIslands {
+        islands: own,
+        anchors: anchors.as_slice(),
+    };
     let mut least = bound;
     for k in 0..cuts.len() {
-        if !is_cut(alloc, on, own, anchors.as_slice(), k, &cuts[k], marks)? {
+        if !is_cut(alloc, on, &anchored, k, &cuts[k], marks)? {
             least = lowered(least, first_pin(&own[k]));
         }
     }

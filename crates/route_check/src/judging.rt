@@ -5,14 +5,13 @@ ghost use Rattle.std.specs.Prelude.{Some, length};
 ghost use Rattle.pcb_model.specs.Copper.{Ascends};
 ghost use Rattle.pcb_model.specs.Sound.{IsSound, Serves};
 ghost use Rattle.pcb_islands.specs.declared.net.Island.{Island as OneIsland};
-ghost use Rattle.pcb_tiles.specs.Spread.{ServesSpread};
 ghost use Rattle.route_lattice.specs.Mesh.{node_count};
 ghost use Rattle.route_lattice.specs.Whole.{lattice_of};
-ghost use Rattle.copper_check.specs.Checks.{AreAllIslands};
 ghost use Rattle.report_form.specs.Form.{IsOutOfPlace, IsTrulyTold};
 ghost use Rattle.report_form.specs.Reading.{IsMisread, IsRead, HasTrueLine};
 ghost use Rattle.ses_reader.specs.Sound.{IsItemSound};
 ghost use Rattle.route_check.specs.Judged.{Answers, Judges, first_names as first_names_of};
+ghost use Rattle.route_check.specs.inner.Found.{IsFound};
 ghost use Rattle.route_check.specs.inner.Order.{IsVerdictOf, JudgesBoard};
 
 use crate::board::board_items;
@@ -29,6 +28,15 @@ use report_form::{GridLine, ReadCut, Reading, read_report, reports_say_one};
 use route_lattice::{Ground, Lattice, LatticeFault};
 use ses_reader::SesItem;
 use std::alloc::{AllocError, Global};
+
+/// A board whose report is judged: its design, its items and the tiles of them, and the islands net by net.
+#[derive(Drop)]
+struct FoundBoard<'a> {
+    d: &'a Design,
+    tiles: &'a Tiles,
+    items: &'a [Item],
+    found: &'a [List<Island>],
+}
 
 // Whether the line of the grid tells this number of nodes.
 fn tells(grid: &GridLine, count: u128) -> bool
@@ -115,27 +123,20 @@ fn judge_on(
 // What is wrong first where each line of the report is in its place.
 fn judge_read(
     alloc: Global,
-    d: &Design,
-    tiles: &Tiles,
-    items: &[Item],
-    found: &[List<Island>],
+    board: &FoundBoard<'_>,
     grid: GridLine,
     nets: &[List<ReadCut>],
 ) -> Result<Verdict, JudgeFault>
-    requires sound { IsSound d.now }
-    requires same_items { tiles.now.items ≡ items.now }
-    requires spread { ServesSpread tiles.now d.now }
-    requires ascends { Ascends items.now }
-    requires serves { Serves items.now d.now }
-    requires islands { AreAllIslands d.now items.now found.now }
+    requires board { let b = board.now in IsFound b.d.now b.tiles.now b.items.now b.found.now }
     requires from { 1000 ≤ grid.grid }
     requires to { grid.grid ≤ 409600000 }
-    requires same { length found.now ≡ length nets.now }
-    ensures { (text : Seq ℕ) → IsRead d.now (first_names_of d.now found.now) text grid nets.now
-        → Answers (record { design = d.now; items = items.now; found = found.now; report = text }) result }
+    requires same { length board.now.found.now ≡ length nets.now }
+    ensures { let b = board.now in
+        (text : Seq ℕ) → IsRead b.d.now (first_names_of b.d.now b.found.now) text grid nets.now
+        → Answers (record { design = b.d.now; items = b.items.now; found = b.found.now; report = text }) result }
 {
     reports_say_one();
-    let lat = match Lattice::of(alloc, d, Some(grid.grid)) {
+    let lat = match Lattice::of(alloc, board.d, Some(grid.grid)) {
         Ok(lat) => lat,
         Err(LatticeFault::TooManyNodes { count }) => {
             return Err(JudgeFault::TooManyNodes { count });
@@ -150,10 +151,10 @@ fn judge_read(
     }
     let on = Ground {
         lat: &lat,
-        d,
-        c: tiles,
+        d: board.d,
+        c: board.tiles,
     };
-    match judge_on(alloc, &on, items, found, nets) {
+    match judge_on(alloc, &on, board.items, board.found, nets) {
         Ok(verdict) => Ok(verdict),
         Err(cause) => Err(JudgeFault::Memory(cause)),
     }
@@ -162,37 +163,19 @@ fn judge_read(
 // What the report's text answers, for the islands on the board.
 fn judge_found(
     alloc: Global,
-    d: &Design,
-    tiles: &Tiles,
-    items: &[Item],
-    found: &List<List<Island>>,
+    board: &FoundBoard<'_>,
     report: &[u8],
 ) -> Result<Result<Verdict, JudgeFault>, AllocError>
-    requires sound { IsSound d.now }
-    requires same_items { tiles.now.items ≡ items.now }
-    requires spread { ServesSpread tiles.now d.now }
-    requires ascends { Ascends items.now }
-    requires serves { Serves items.now d.now }
-    requires islands { AreAllIslands d.now items.now found.now }
-    ensures { IfOk result
-        (Answers (record { design = d.now; items = items.now; found = found.now; report = report.now })) }
+    requires board { let b = board.now in IsFound b.d.now b.tiles.now b.items.now b.found.now }
+    ensures { let b = board.now in IfOk result
+        (Answers (record { design = b.d.now; items = b.items.now; found = b.found.now; report = report.now })) }
 {
-    let names = first_names(alloc, d, found.as_slice())?;
-    match read_report(alloc, d, &names, report)? {
-        Reading::Read { grid, nets } => {
-            Ok(judge_read(
-                alloc,
-                d,
-                tiles,
-                items,
-                found.as_slice(),
-                grid,
-                nets.as_slice(),
-            ))
-        }
+    let names = first_names(alloc, board.d, board.found)?;
+    match read_report(alloc, board.d, &names, report)? {
+        Reading::Read { grid, nets } => Ok(judge_read(alloc, board, grid, nets.as_slice())),
         Reading::OutOfPlace { line, passed } => Ok(Ok(Verdict::No {
             number: 2,
-            at: true_line(alloc, d, line, passed)?,
+            at: true_line(alloc, board.d, line, passed)?,
         })),
     }
 }
@@ -210,7 +193,13 @@ fn judge_board(
 {
     let tiles = tiles_of(alloc, d, items)?;
     let found = islands_of_all(alloc, d, &tiles)?;
-    judge_found(alloc, d, &tiles, items, &found, report)
+    let board = FoundBoard {
+        d,
+        tiles: &tiles,
+        items,
+        found: found.as_slice(),
+    };
+    judge_found(alloc, &board, report)
 }
 
 /// Judges a session's items and a report of the design: yes, or what is wrong first. Its faults are a lattice of too

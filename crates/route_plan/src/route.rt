@@ -164,7 +164,10 @@ impl<C: Copper, M: Moves> NetSearch<'_, C, M> {
             return self.closed(alloc, starts, goals);
         }
         let bound = BoxBound::of(alloc, self.lat, goals)?;
-        let ties = LayerDirections { lat: self.lat };
+        let ties = LayerDirections {
+            lat: self.lat,
+            pattern: search.pattern(),
+        };
         search.tied_walk(alloc, self.moves, &bound, &ties, starts, goals)
     }
 

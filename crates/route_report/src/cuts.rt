@@ -9,13 +9,12 @@ ghost use Rattle.route_report.specs.Report.{has_outside as has_outside_in, by_li
 ghost use Rattle.route_report.specs.Report.{detail_lines, cut_lines};
 ghost use Rattle.route_report.specs.inner.Naming.{has_id, is_among, AreNamed, AreNamedOnce, AreAscending};
 
+use crate::input::ReportInput;
 use crate::stretches::put_stretches;
 use crate::words::{put_count, put_pair};
 use cut_certificate::{Block, Blocker, Cut};
-use pcb_board::Board;
 use pcb_model::{Copper, Design, Kind, Pin};
 use pcb_tiles::Tiles;
-use route_lattice::Lattice;
 use ses_writer::{put, put_word};
 use std::alloc::{AllocError, Global};
 
@@ -178,33 +177,30 @@ fn put_bys(
 fn put_detail(
     out: &mut Vec<u8>,
     alloc: Global,
-    lat: &Lattice,
-    board: &Board,
+    input: &ReportInput<'_>,
     cut: &Cut,
 ) -> Result<(), AllocError>
-    ensures { OnOk result (Appends out.old.items out.new.items (detail_lines lat.now board.now.items false cut.now)) }
+    ensures { OnOk result (Appends out.old.items out.new.items
+        (detail_lines input.now.lat.now input.now.board.now.items false cut.now)) }
 {
-    put_bys(out, alloc, board.items(), cut.blocked.as_slice())?;
-    put_stretches(out, lat, cut.reach.nodes.as_slice())
+    put_bys(out, alloc, input.board.items(), cut.blocked.as_slice())?;
+    put_stretches(out, input.lat, cut.reach.nodes.as_slice())
 }
 
-/// The lines of a cut; the line alone where `short`.
+/// The lines of a cut; the line alone in a short report.
 #[tactic(auto, unfolding(crate::specs::Report::cut_lines))]
 pub(crate) fn put_cut(
     out: &mut Vec<u8>,
     alloc: Global,
-    d: &Design,
-    lat: &Lattice,
-    board: &Board,
-    short: bool,
+    input: &ReportInput<'_>,
     cut: &Cut,
 ) -> Result<(), AllocError>
-    ensures { OnOk result (Appends out.old.items out.new.items
-        (cut_lines d.now lat.now board.now.items short cut.now)) }
+    ensures { let i = input.now in OnOk result (Appends out.old.items out.new.items
+        (cut_lines i.d.now i.lat.now i.board.now.items i.short cut.now)) }
 {
-    put_cut_line(out, alloc, d, cut)?;
-    if short {
+    put_cut_line(out, alloc, input.d, cut)?;
+    if input.short {
         return Ok(());
     }
-    put_detail(out, alloc, lat, board, cut)
+    put_detail(out, alloc, input, cut)
 }

@@ -2,6 +2,7 @@
 #![tactic(auto)]
 
 mod cuts;
+mod input;
 mod nets;
 mod report;
 mod stretches;

@@ -9,11 +9,10 @@ ghost use Rattle.route_report.specs.Report.{cut_lines, verdict_words, net_line, 
 ghost use Rattle.route_report.specs.inner.Tallies.{AddsOne, AreCounts, AddsPiece, TellsCuts, told_lines};
 
 use crate::cuts::put_cut;
+use crate::input::ReportInput;
 use crate::words::{put_count, put_pair};
 use cut_certificate::Cut;
-use pcb_board::Board;
 use pcb_model::{Design, Net};
-use route_lattice::Lattice;
 use route_run::Facts;
 use ses_writer::{put, put_word};
 use std::alloc::{AllocError, Global};
@@ -57,19 +56,16 @@ fn empty_texts(alloc: Global, count: usize) -> Result<Vec<Vec<u8>>, AllocError>
 fn add_cut(
     texts: &mut Vec<Vec<u8>>,
     alloc: Global,
-    d: &Design,
-    lat: &Lattice,
-    board: &Board,
-    short: bool,
+    input: &ReportInput<'_>,
     cut: &Cut,
 ) -> Result<(), AllocError>
-    ensures { OnOk result (AddsPiece cut.now.net (cut_lines d.now lat.now board.now.items short cut.now)
-        texts.old.items texts.new.items) }
+    ensures { let i = input.now in OnOk result (AddsPiece cut.now.net
+        (cut_lines i.d.now i.lat.now i.board.now.items i.short cut.now) texts.old.items texts.new.items) }
 {
     let at = cut.net as usize;
     if at < texts.len() {
         let text = &mut texts[at];
-        put_cut(text, alloc, d, lat, board, short, cut)?;
+        put_cut(text, alloc, input, cut)?;
     }
     Ok(())
 }
@@ -77,18 +73,15 @@ fn add_cut(
 // In one pass over the cuts.
 fn cut_texts(
     alloc: Global,
-    d: &Design,
-    lat: &Lattice,
-    board: &Board,
-    short: bool,
+    input: &ReportInput<'_>,
     cuts: &[Cut],
 ) -> Result<Vec<Vec<u8>>, AllocError>
-    ensures { IfOk result (λ texts. TellsCuts (cut_lines d.now lat.now board.now.items short)
-        cuts.now (length d.now.nets) texts.items) }
+    ensures { let i = input.now in IfOk result (λ texts. TellsCuts
+        (cut_lines i.d.now i.lat.now i.board.now.items i.short) cuts.now (length i.d.now.nets) texts.items) }
 {
-    let mut texts = empty_texts(alloc, d.nets.len())?;
+    let mut texts = empty_texts(alloc, input.d.nets.len())?;
     for cut in cuts {
-        add_cut(&mut texts, alloc, d, lat, board, short, cut)?;
+        add_cut(&mut texts, alloc, input, cut)?;
     }
     Ok(texts)
 }
@@ -136,18 +129,20 @@ fn put_told(
 pub(crate) fn put_nets(
     out: &mut Vec<u8>,
     alloc: Global,
-    d: &Design,
-    lat: &Lattice,
-    board: &Board,
-    facts: &Facts,
-    short: bool,
+    input: &ReportInput<'_>,
 ) -> Result<(), AllocError>
-    ensures { OnOk result (Appends out.old.items out.new.items
-        (flat_map (net_lines d.now lat.now board.now.items facts.now short) (enumerate_from 0 d.now.nets))) }
+    ensures { let i = input.now in OnOk result (Appends out.old.items out.new.items
+        (flat_map (net_lines i.d.now i.lat.now i.board.now.items i.facts.now i.short)
+        (enumerate_from 0 i.d.now.nets))) }
 {
-    let counts = cut_counts(alloc, facts.cuts.as_slice(), d.nets.len())?;
-    let texts = cut_texts(alloc, d, lat, board, short, facts.cuts.as_slice())?;
-    put_told(out, d.nets.as_slice(), counts.as_slice(), texts.as_slice())
+    let counts = cut_counts(alloc, input.facts.cuts.as_slice(), input.d.nets.len())?;
+    let texts = cut_texts(alloc, input, input.facts.cuts.as_slice())?;
+    put_told(
+        out,
+        input.d.nets.as_slice(),
+        counts.as_slice(),
+        texts.as_slice(),
+    )
 }
 
 fn zeros(counts: &[u64]) -> usize

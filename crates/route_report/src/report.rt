@@ -5,6 +5,7 @@ ghost use Rattle.ses_writer.specs.Words.{Appends};
 ghost use Rattle.route_report.specs.Report.{board_line, size_line, drop_line, pass_line};
 ghost use Rattle.route_report.specs.Report.{pass_lines, head_lines, run_lines, report_of};
 
+use crate::input::ReportInput;
 use crate::nets::{put_nets, put_totals};
 use crate::words::{put_count, put_counted, put_pair};
 use pcb_board::Board;
@@ -80,22 +81,14 @@ fn put_run(out: &mut Vec<u8>, facts: &Facts) -> Result<(), AllocError>
 }
 
 #[tactic(auto, unfolding(crate::specs::Report::report_of))]
-fn put_report(
-    out: &mut Vec<u8>,
-    alloc: Global,
-    d: &Design,
-    lat: &Lattice,
-    board: &Board,
-    facts: &Facts,
-    short: bool,
-) -> Result<(), AllocError>
-    ensures { OnOk result (Appends out.old.items out.new.items
-        (report_of d.now lat.now board.now.items facts.now short)) }
+fn put_report(out: &mut Vec<u8>, alloc: Global, input: &ReportInput<'_>) -> Result<(), AllocError>
+    ensures { let i = input.now in OnOk result (Appends out.old.items out.new.items
+        (report_of i.d.now i.lat.now i.board.now.items i.facts.now i.short)) }
 {
-    put_head(out, d, facts)?;
-    put_run(out, facts)?;
-    put_nets(out, alloc, d, lat, board, facts, short)?;
-    put_totals(out, alloc, d, facts)
+    put_head(out, input.d, input.facts)?;
+    put_run(out, input.facts)?;
+    put_nets(out, alloc, input)?;
+    put_totals(out, alloc, input.d, input.facts)
 }
 
 /// The report's bytes. With `short` the lines of what blocks a cut and of its reached nodes are left out.
@@ -111,6 +104,13 @@ pub fn report_text(
     ensures { IfOk result (λ text. text.items ≡ report_of d.now lat.now board.now.items facts.now short) }
 {
     let mut text = Vec::new(alloc);
-    put_report(&mut text, alloc, d, lat, board, facts, short)?;
+    let input = ReportInput {
+        d,
+        lat,
+        board,
+        facts,
+        short,
+    };
+    put_report(&mut text, alloc, &input)?;
     Ok(text)
 }

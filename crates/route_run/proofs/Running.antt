@@ -1,7 +1,7 @@
 -- A run, from its parts.
 use Rattle.std.proofs.Common.{◌≡◌, ◌∙◌, inl, inr, ℕ, ◌+◌, ◌-◌, ◌<◌, ◌≤◌, ◌^◌, refl, sym, ap, subst, arith}
 use Rattle.std.proofs.Common.{List, [], ◌∷◌, ◌++◌, length, get_or, Some, length-append}
-use Rattle.std.specs.Prelude.{Bool, IsTrue, flat_map, slice_get}
+use Rattle.std.specs.Prelude.{Bool, IfOk, IsTrue, Ok, Result, flat_map, slice_get, ◌⊎◌}
 use Rattle.std.proofs.lemmas.List.{append-nil}
 use Rattle.std.proofs.lemmas.Option.{slice_get_within, slice_get-get_or}
 use Rattle.pcb_model.specs.declared.item.Item.{Item}
@@ -24,7 +24,8 @@ use Rattle.searcher_pool.specs.Passes.{PassOf, IsSpent}
 use Rattle.searcher_pool.specs.Passes.{Grows as GrowsBy}
 use Rattle.route_run.specs.declared.facts.PassLine.{PassLine}
 use Rattle.route_run.specs.declared.facts.Facts.{Facts}
-use Rattle.route_run.specs.Runs.{AreFacts, AreLeast, ClosesFrom, HaveEnded, IsBest, IsRun, RunOf, complete_from}
+use Rattle.route_run.specs.Runs.{AreFacts, AreLeast, ClosesFrom, HaveEnded, IsBest, IsRun, IsSomeRun, RunOf}
+use Rattle.route_run.specs.Runs.{complete_from}
 use Rattle.route_run.specs.Runs.{entries_after}
 use Rattle.route_run.specs.inner.Passing.{EndsBy, GoesBack, HasPassed, MayFollow, Stays}
 use Rattle.route_run.specs.inner.Passing.{IsFinished, IsKept, IsNew, routed_of}
@@ -296,3 +297,27 @@ some_lines r b lines ended =
 pub kept_within : (lines : List PassLine) (kept : ℕ) → IsBest lines kept → kept ≤ length lines
 kept_within lines kept best =
     let within = slice_get_within lines (kept - 1) best.line best.line_is in omega (arith, within, best.counted)
+
+-- ---- several starts
+-- a start of a design is one of its board's design
+pub begun_own : (d : Design) (first : BoardOf) (dropped : List ℕ) → IsStarted d (2 ^ 19) first dropped
+    → IsStarted first.design (2 ^ 19) first dropped
+begun_own d first dropped begun =
+    subst (λ (x : Design). IsStarted x (2 ^ 19) first dropped)
+    (sym (ap (λ (b : BoardOf). b.design) begun.board_is)) begun
+
+-- a run by all workers that there are is one by some of them
+pub some_run : (d : Design) (m : Mesh) (r : RunOf) (b : BoardOf) (facts : Facts) → 1 ≤ r.workers → IsRun d m r b facts
+    → IsSomeRun d m r b facts
+some_run d m r b facts some is = record { workers = r.workers; some = some; few = omega arith; run = is }
+
+-- a run of the board's design is one of the design that it was made of
+pub run_of_design : (d e : Design) (m : Mesh) (r : RunOf) (routed : Routed) → e ≡ d
+    → IsSomeRun e m r routed.board routed.facts → IsSomeRun d m r routed.board routed.facts
+run_of_design d e m r routed same is = subst (λ (x : Design). IsSomeRun x m r routed.board routed.facts) same is
+
+-- the better of two, which is one of them
+pub better_is : {E : Type 0} (P : Routed → Type 0) (first better : Routed) (other : Result Routed E) → P first
+    → IfOk other P → (better ≡ first) ⊎ (other ≡ Ok better) → P better
+better_is P first better other one two (inl is) = subst P (sym is) one
+better_is P first better other one two (inr is) = subst (λ o. IfOk o P) is two

@@ -26,7 +26,7 @@ use Rattle.route_run.proofs.Running.{ended_by, ended_last, follow_none, stays_on
 
 -- what stands ready may be worked off
 pub can_work : (j : RunInput) (b : BoardOf) (nets : OpenNets) (maps : PassMaps) (tasks : Bor (List ℕ))
-    (penalty : Option ℕ) (lent : Bor PassMaps) → IsState j b nets maps → IsBoard b
+    (penalty : Option ℕ) (pattern : ℕ) (lent : Bor PassMaps) → IsState j b nets maps → IsBoard b
     → IfSome penalty (λ p. p ≤ 2 ^ 30) → tasks.now ≡ nets.nets.items → length tasks.now ≡ vec_len nets.nets
     → lent.now ≡ maps → CanWorkOff (record {
       lat = j.lat;
@@ -34,9 +34,10 @@ pub can_work : (j : RunInput) (b : BoardOf) (nets : OpenNets) (maps : PassMaps) 
       workers = j.workers;
       tasks = tasks;
       penalty = penalty;
+      pattern = pattern;
       maps = lent;
     }) b
-can_work j b nets maps tasks penalty lent is kept small tasks_are long lent_are =
+can_work j b nets maps tasks penalty pattern lent is kept small tasks_are long lent_are =
     let opened = is.open_nets in
     let few = kept.sound.parts.few_nets in
     record {

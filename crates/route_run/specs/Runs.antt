@@ -205,6 +205,14 @@ pub record IsRun (d : Design) (m : Mesh) (r : RunOf) (b : BoardOf) (facts : Fact
   pub least : AreLeast m r.via_cost b
   pub facts_are : AreFacts m r.via_cost r.tries b from facts
 
+-- A run as it is handed back: one of several that may have been made, by the workers that there are or by fewer. No
+-- clause says which one.
+pub record IsSomeRun (d : Design) (m : Mesh) (r : RunOf) (b : BoardOf) (facts : Facts) : Type 0 where
+  pub workers : ℕ
+  pub some : 1 ≤ workers
+  pub few : workers ≤ r.workers
+  pub run : IsRun d m (record r { workers = workers }) b facts
+
 -- the design is of plain copper, the lattice fits it, and the price of a via is small
 pub record IsTask (d : Design) (m : Mesh) (via_cost : ℕ) : Type 0 where
   pub plain : IsPlainCopper d

@@ -8,8 +8,11 @@ mod input;
 mod keep;
 mod passes;
 mod run;
+mod starts;
 mod state;
+mod trials;
 
 pub use facts::{Facts, PassLine};
 pub use input::RunInput;
 pub use run::{MOST_ENTRIES, Routed, run_nets};
+pub use starts::run_best;

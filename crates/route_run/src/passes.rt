@@ -16,12 +16,13 @@ use std::alloc::{AllocError, Global};
 use std::sync::Wait;
 use std::thread::Threads;
 
-/// Makes passes over the nets of a new board until they end, at most as many as the run may have.
+/// Makes passes of a pattern over the nets of a new board until they end, at most as many as the run may have.
 pub(crate) fn make_passes<R: Threads + Wait + Sync, G: Gate + Sync>(
     rt: &R,
     alloc: Global,
     input: RunInput<'_>,
     board: Board,
+    pattern: u32,
     gate: &G,
 ) -> Result<(Board, List<PassLine>), AllocError>
     requires { IsNew input board }
@@ -30,7 +31,7 @@ pub(crate) fn make_passes<R: Threads + Wait + Sync, G: Gate + Sync>(
     ensures same { IfOk result (λ r. Stays board r.0) }
 {
     board.keeps();
-    let mut state = PassState::start(alloc, input, board)?;
+    let mut state = PassState::start(alloc, input, board, pattern)?;
     for k in 0..state.most() {
         let (next, more) = state.next(rt, alloc, k + 1, gate)?;
         if !more {

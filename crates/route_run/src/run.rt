@@ -3,6 +3,7 @@
 
 ghost use Rattle.std.specs.Prelude.{◌≡◌, ◌≤◌, ◌^◌, IfOk, flat_map, length, List as Seq};
 ghost use Rattle.pcb_model.specs.Sound.{IsSound};
+ghost use Rattle.pcb_board.specs.Keeping.{IsStarted};
 ghost use Rattle.cut_certificate.specs.declared.cut.Cut.{Cut as OneCut};
 ghost use Rattle.route_run.specs.Runs.{IsRun, IsTask, complete_from};
 ghost use Rattle.route_run.specs.Inputs.{CanRun, run_of};
@@ -41,18 +42,26 @@ pub(crate) struct Kept {
     pub kept: u32,
 }
 
-// Makes the passes over a new board, and goes back to the end of the best one.
+/// A new board of a design, and the places of the free wiring that wasn't legal.
+#[derive(Drop)]
+pub(crate) struct Start {
+    pub board: Board,
+    pub dropped: List<u64>,
+}
+
+// Makes the passes of a pattern over a new board, and goes back to the end of the best one.
 fn keep_best<R: Threads + Wait + Sync, G: Gate + Sync>(
     rt: &R,
     alloc: Global,
     input: RunInput<'_>,
     board: Board,
+    pattern: u32,
     gate: &G,
 ) -> Result<Kept, AllocError>
     requires { IsNew input board }
     ensures { IfOk result (IsKept input.entry.lat.now (run_of input.entry) board) }
 {
-    let (board, lines) = make_passes(rt, alloc, input, board, gate)?;
+    let (board, lines) = make_passes(rt, alloc, input, board, pattern, gate)?;
     let kept = best_of(lines.as_slice());
     let board = go_back(board, lines.as_slice(), kept)?;
     Ok(Kept { board, lines, kept })
@@ -127,6 +136,42 @@ fn close_and_tell(
     }
 }
 
+/// A run over a new board, the searches of whose passes prefer some of equally cheap walks by a pattern.
+pub(crate) fn run_under<R: Threads + Wait + Sync, G: Gate + Sync>(
+    rt: &R,
+    alloc: Global,
+    input: RunInput<'_>,
+    start: Start,
+    pattern: u32,
+    gate: &G,
+) -> Result<Routed, AllocError>
+    requires begun { IsStarted start.board.design (2 ^ 19) start.board start.dropped }
+    requires input { CanRun input start.board.design }
+    ensures { IfOk result
+        (λ r. IsRun start.board.design input.entry.lat.now (run_of input.entry) r.board r.facts) }
+{
+    let Start { board, dropped } = start;
+    let best = match keep_best(rt, alloc, input, board, pattern, gate) {
+        Ok(best) => best,
+        Err(error) => {
+            drop(dropped);
+            return Err(error);
+        }
+    };
+    best.board.keeps();
+    close_and_tell(alloc, input.lat, input.via_cost, input.tries, best, dropped)
+}
+
+/// The start of a run of a design. The only error is want of memory.
+pub(crate) fn start_of(alloc: Global, design: Design) -> Result<Start, AllocError>
+    requires { IsSound design }
+    ensures begun { IfOk result (λ s. IsStarted s.board.design (2 ^ 19) s.board s.dropped) }
+    ensures design { IfOk result (λ s. s.board.design ≡ design) }
+{
+    let (board, dropped) = Board::start(alloc, design, MOST_ENTRIES)?;
+    Ok(Start { board, dropped })
+}
+
 /// Routes the nets of a design on a lattice of it by passes and by the closing pass. The gate is called round each
 /// offer of a pass. The only error is want of memory.
 pub fn run_nets<R: Threads + Wait + Sync, G: Gate + Sync>(
@@ -140,8 +185,6 @@ pub fn run_nets<R: Threads + Wait + Sync, G: Gate + Sync>(
     requires input { CanRun input design }
     ensures { IfOk result (λ r. IsRun design input.entry.lat.now (run_of input.entry) r.board r.facts) }
 {
-    let (board, dropped) = Board::start(alloc, design, MOST_ENTRIES)?;
-    let best = keep_best(rt, alloc, input, board, gate)?;
-    best.board.keeps();
-    close_and_tell(alloc, input.lat, input.via_cost, input.tries, best, dropped)
+    let start = start_of(alloc, design)?;
+    run_under(rt, alloc, input, start, 0, gate)
 }

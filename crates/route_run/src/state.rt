@@ -36,11 +36,13 @@ pub(crate) struct PassResult {
     pub full: bool,
 }
 
-/// Where passes stand: the board, what is open on it, the lines of the passes, and the maps that were made so far.
+/// Where passes stand: the board, what is open on it, the lines of the passes, and the maps that were made so far; and
+/// the pattern by which its searches prefer some of equally cheap walks.
 /// Contracts see the lattice, the run, the board and the lines.
 #[derive(Drop)]
 pub(crate) struct PassState<'a> {
     input: RunInput<'a>,
+    pattern: u32,
     board: Board,
     open_nets: OpenNets,
     lines: List<PassLine>,
@@ -141,11 +143,12 @@ fn may_follow(number: u32, line: PassLine, full: bool) -> bool
 }
 
 impl<'a> PassState<'a> {
-    /// Where passes stand before the first.
+    /// Where passes of a pattern stand before the first.
     pub(crate) fn start(
         alloc: Global,
         input: RunInput<'a>,
         board: Board,
+        pattern: u32,
     ) -> Result<PassState<'a>, AllocError>
         requires { CanRun input board.design }
         ensures { IfOk result (λ s. s ≡ first_state input.entry board) }
@@ -153,6 +156,7 @@ impl<'a> PassState<'a> {
         let open_nets = look_over(alloc, &board)?;
         Ok(PassState {
             input,
+            pattern,
             board,
             open_nets,
             lines: List::new(alloc),
@@ -206,6 +210,7 @@ impl<'a> PassState<'a> {
     {
         let PassState {
             input,
+            pattern,
             board,
             open_nets,
             lines,
@@ -218,6 +223,7 @@ impl<'a> PassState<'a> {
             workers: input.workers,
             tasks: open_nets.nets.as_slice(),
             penalty,
+            pattern,
             maps: &maps,
         };
         let passed = one_pass(rt, alloc, board, pass, gate);
@@ -232,6 +238,7 @@ impl<'a> PassState<'a> {
                 } = made;
                 let state = PassState {
                     input,
+                    pattern,
                     board,
                     open_nets,
                     lines,
@@ -272,6 +279,7 @@ impl<'a> PassState<'a> {
     {
         let PassState {
             input: _,
+            pattern: _,
             board,
             open_nets: _,
             lines,

@@ -27,6 +27,8 @@ pub struct PassInput<'a> {
     pub tasks: &'a [u32],
     /// What a move costs for each routed item in its way, in nm; without one no routed item gives way.
     pub penalty: Option<u64>,
+    /// The pattern by which searches prefer some of equally cheap walks; 0 prefers none.
+    pub pattern: u32,
     /// The maps that were made before.
     pub maps: &'a PassMaps,
 }

@@ -38,7 +38,7 @@ fn make_buffers(alloc: Global, input: PassInput<'_>) -> Result<(Buffers, Counter
     ensures { IfOk result (λ r. AreBuffers (pass_of input.entry) r.1 r.0
         × (r.1.tasks ≡ length (pass_of input.entry).tasks)) }
 {
-    let searches = searches(alloc, input.workers, input.lat.count())?;
+    let searches = searches(alloc, input.workers, input.lat.count(), input.pattern)?;
     let workers = Vec::with_capacity(alloc, input.workers as usize)?;
     let logs = Vec::with_capacity(alloc, input.workers as usize)?;
     let (counter, own_claimer) = Counter::new(alloc, input.tasks.len() as u64)?;
@@ -195,6 +195,7 @@ pub fn run_pass<R: Threads + Wait + Sync, G: Gate + Sync>(
         workers,
         tasks: tasks.as_slice(),
         penalty,
+        pattern: 0,
         maps: &maps,
     };
     let passed = run_pass_from(rt, alloc, board, input, gate);

@@ -26,13 +26,20 @@ use wave_search::Search;
 /// Workers, each on cache lines of its own.
 pub(crate) type Workers = Vec<CachePadded<Worker>>;
 
-/// Memory for the searches of so many workers.
-pub(crate) fn searches(alloc: Global, count: u32, nodes: u32) -> Result<Vec<Search>, AllocError>
+/// Memory for the searches of so many workers, each of which prefers walks by the pattern.
+pub(crate) fn searches(
+    alloc: Global,
+    count: u32,
+    nodes: u32,
+    pattern: u32,
+) -> Result<Vec<Search>, AllocError>
     ensures { IfOk result (λ made. (vec_len made ≡ count) × All (λ s. s ≡ nodes) made.items) }
 {
     let mut made = Vec::new(alloc);
     for _ in 0..count {
-        made.push(Search::new(alloc, nodes)?)?;
+        let mut search = Search::new(alloc, nodes)?;
+        search.prefer(pattern);
+        made.push(search)?;
     }
     Ok(made)
 }

@@ -17,15 +17,20 @@ use route_lattice::{Found, Moves};
 use std::alloc::{AllocError, Global};
 use std::marker::Model;
 
-/// Memory for searches over a number of nodes, 16 bytes a node; contracts see it as that number.
+/// Memory for searches over a number of nodes, 16 bytes a node; contracts see it as that number. Beside it stands the
+/// pattern by which those who search prefer some of equally cheap walks: it changes no price, and 0 prefers none.
 pub struct Search {
     labels: Labels,
+    pattern: u32,
 }
 
 // Let go by a call, where a derived `Drop` would let go field by field in each function that owns it.
 impl Drop for Search {
     fn drop(self) {
-        let Search { labels: _ } = self;
+        let Search {
+            labels: _,
+            pattern: _,
+        } = self;
     }
 }
 
@@ -43,7 +48,19 @@ impl Search {
         ensures { IfOk result (λ s. s ≡ count) }
     {
         let labels = Labels::new(alloc, count)?;
-        Ok(Search { labels })
+        Ok(Search { labels, pattern: 0 })
+    }
+
+    /// The pattern that is kept, 0 where none was.
+    pub fn pattern(&self) -> u32 {
+        self.pattern
+    }
+
+    /// Keeps a pattern. No contract speaks of it.
+    pub fn prefer(&mut self, pattern: u32)
+        ensures { self.new ≡ self.old }
+    {
+        self.pattern = pattern;
     }
 
     /// A walk over open moves from a start to a goal such that none costs less; Closed exactly where there is none,

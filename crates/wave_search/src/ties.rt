@@ -3,7 +3,7 @@
 
 ghost use Rattle.std.specs.Prelude.{◌≡◌, ◌<◌, true, false};
 ghost use Rattle.route_lattice.specs.Mesh.{node_count, level};
-ghost use Rattle.wave_search.specs.Directions.{heading, turns, is_against, direction_cost};
+ghost use Rattle.wave_search.specs.Directions.{heading, turns, is_against, quarter, direction_cost};
 
 use route_lattice::{Lattice, Move};
 
@@ -45,7 +45,8 @@ pub enum Heading {
     Elsewhere,
 }
 
-/// The heading of a move: a step leads along x or along y, and a via elsewhere.
+/// The heading of a move: a step of direction 0 or 1 leads along x, one of 2 or 3 along y, and any other move
+/// elsewhere.
 pub fn heading_of(m: Move) -> Heading
     ensures { result ≡ heading m }
 {
@@ -53,8 +54,10 @@ pub fn heading_of(m: Move) -> Heading
         Move::Step { dir } => {
             if dir < 2 {
                 Heading::Across
-            } else {
+            } else if dir < 4 {
                 Heading::Up
+            } else {
+                Heading::Elsewhere
             }
         }
         Move::Via { .. } => Heading::Elsewhere,
@@ -83,12 +86,23 @@ fn leads_against(place: usize, here: Heading) -> bool
     }
 }
 
+/// A number from 0 to 3 that a pattern gives a node, as if it were drawn: from the square of the high half of their
+/// product. Pattern 0 gives each node 0.
+fn quarter_of(pattern: u32, node: u32) -> u64
+    ensures value { result ≡ quarter pattern node }
+    ensures small { result < 4 }
+{
+    let high = node.wrapping_mul(pattern) / 65_536;
+    u64::from(high * high / 16_384 % 4)
+}
+
 /// Few corners, and on each signal layer a preferred direction: a step costs its length where it leads along y on
-/// the first signal layer
-/// of a lattice, the third and so on, or along x on the others, and a corner as much as 20 um of such steps.
+/// the first signal layer of a lattice, the third and so on, or along x on the others, and a corner as much as 20 um of
+/// such steps. Below that a pattern tells walks apart: a move costs 0 to 3 nm more by the node that it leaves.
 #[derive(Drop)]
 pub struct LayerDirections<'a> {
     pub lat: &'a Lattice,
+    pub pattern: u32,
 }
 
 impl LayerDirections<'_> {
@@ -113,7 +127,8 @@ impl Ties for LayerDirections<'_> {
     }
 
     fn cost(&self, node: u32, m: Move, price: u64, next: Heading) -> u64
-        ensures { node < node_count self.now.lat.now → result ≡ direction_cost self.now.lat.now node m price next }
+        ensures { node < node_count self.now.lat.now
+            → result ≡ direction_cost self.now.lat.now self.now.pattern node m price next }
     {
         let here = heading_of(m);
         let step = if leads_against(self.place(node), here) {
@@ -122,6 +137,6 @@ impl Ties for LayerDirections<'_> {
             0
         };
         let corner = if is_corner(here, next) { CORNER } else { 0 };
-        step.saturating_add(corner)
+        step.saturating_add(corner + quarter_of(self.pattern, node))
     }
 }

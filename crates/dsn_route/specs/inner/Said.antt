@@ -17,7 +17,7 @@ use Rattle.route_check.specs.declared.verdict.Verdict.TheVariants.{Yes, No}
 use Rattle.route_check.specs.declared.verdict.JudgeFault.{JudgeFault}
 use Rattle.route_check.specs.declared.verdict.JudgeFault.TheVariants as judge_fault
 use Rattle.route_run.specs.declared.run.Routed.{Routed}
-use Rattle.route_run.specs.Runs.{IsRun}
+use Rattle.route_run.specs.Runs.{IsSomeRun}
 use Rattle.dsn_route.specs.declared.status.Status.{Status}
 use Rattle.dsn_route.specs.declared.status.Status.TheVariants.{Complete, SomeOpen, Refused, ReadFault, Memory, Limit}
 use Rattle.dsn_route.specs.declared.status.Status.TheVariants.{Rejected}
@@ -104,7 +104,7 @@ pub record IsLeft (desk later : DeskState) (sink after : SinkState) (status : St
 pub record IsOut (command : Command) (d : Design) (desk later : DeskState) (sink after : SinkState) (status : Status)
     (routed : Routed) : Type 0 where
   pub few : node_count (mesh_of command d) ≤ MOST_NODES
-  pub run : IsRun d (mesh_of command d) (run_of command) routed.board routed.facts
+  pub run : IsSomeRun d (mesh_of command d) (run_of command) routed.board routed.facts
   pub leaves : Leaves command routed.board routed.facts desk later sink after status
 
 abbrev pub RoutesDesign : Command → Design → DeskState → DeskState → SinkState → SinkState → Outcome → Type 0

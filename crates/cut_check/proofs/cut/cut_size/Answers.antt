@@ -87,7 +87,8 @@ returns-clause-sized g c =
     subst (λ (s : GroundOf). Gains (IsOfSome s.lat c.args.runs.now) [] c.mark_all.new.nodes.items) c.on.view_is
     (subst (λ (xs : List ℕ). Gains (IsOfSome c.on.inside.lat.now c.args.runs.now) xs c.mark_all.new.nodes.items)
     c.new-nodes.ensures.items c.in_ok-mark_all.ensures.gains) in
-    sized_from on.d on.lat on.items c.args.own.now c.args.k c.args.runs.now c.deref-2.result.now c.size_of-size.result
+    sized_from on.d on.lat on.items c.args.own.now.islands.now c.args.k c.args.runs.now c.deref-2.result.now
+    c.size_of-size.result
     (subst (AreNodesOf on.lat c.args.runs.now) (sym c.deref-2.ensures.value)
     (nodes_from on.lat c.args.runs.now c.mark_all.new.nodes.items nodes laid gains c.ascending-nodes.ensures))
     c.size_of-size.ensures

@@ -31,10 +31,12 @@ holds_legal-requires-clause-net g c = c.requires.nets c.args.k c.index-own-k.res
 pub holds_legal-requires-clause-starts : goal.holds_legal-requires-clause-starts
 holds_legal-requires-clause-starts g c =
     let on = c.args.on.now in
-    let within : c.args.k < length c.args.anchors.now = omega (arith, c.requires.place, c.requires.anchored.all) in
+    let own = c.args.own.now.islands.now in
+    let anchors = c.args.own.now.anchors.now in
+    let within : c.args.k < length anchors = omega (arith, c.requires.place, c.requires.anchored.all) in
     subst (All (λ v. v < node_count on.lat)) (sym c.as_slice.ensures)
     (subst (All (λ v. v < node_count on.lat)) (sym c.index-anchors-k.is)
-    (anchors_within on.d on.lat on.items c.args.own.now c.args.anchors.now c.requires.anchored c.args.k
+    (anchors_within on.d on.lat on.items own anchors c.requires.anchored c.args.k
     c.index-anchors-k.result within))
 
 pub holds_legal-requires-clause-same : goal.holds_legal-requires-clause-same
@@ -42,70 +44,80 @@ holds_legal-requires-clause-same g c = ap node_count c.moves-moves.ensures.lat
 
 pub holds_no_other-requires : goal.holds_no_other-requires
 holds_no_other-requires g c =
-    let on = c.args.on.now in record {
-      anchors = subst (λ (m : Mesh). All (All (λ v. v < node_count m)) c.args.anchors.now)
+    let on = c.args.on.now in
+    let own = c.args.own.now.islands.now in
+    let anchors = c.args.own.now.anchors.now in record {
+      anchors = subst (λ (m : Mesh). All (All (λ v. v < node_count m)) anchors)
           (sym c.moves-moves.ensures.lat)
-          (anchors_within on.d on.lat on.items c.args.own.now c.args.anchors.now c.requires.anchored);
+          (anchors_within on.d on.lat on.items own anchors c.requires.anchored);
     }
 
 pub returns-then-not-holds_legal : goal.returns-then-not-holds_legal
 returns-then-not-holds_legal g c = λ island e set.
     let on = c.args.on.now in
+    let own = c.args.own.now.islands.now in
+    let anchors = c.args.own.now.anchors.now in
     let starts = c.index-anchors-k.result in
-    let within : c.args.k < length c.args.anchors.now = omega (arith, c.requires.place, c.requires.anchored.all) in
-    let starts_at = slice_get_read c.args.anchors.now (length c.args.anchors.now) c.args.k starts refl within
+    let within : c.args.k < length anchors = omega (arith, c.requires.place, c.requires.anchored.all) in
+    let starts_at = slice_get_read anchors (length anchors) c.args.k starts refl within
     c.index-anchors-k.is in
-    let net = (get_or c.args.own.now c.args.k c.index-own-k.result).net in
+    let net = (get_or own c.args.k c.index-own-k.result).net in
     let same : net ≡ island.net =
-    ap (λ (s : Island). s.net) (get_or_from_slice_get c.args.own.now c.args.k island c.index-own-k.result e) in
+    ap (λ (s : Island). s.net) (get_or_from_slice_get own c.args.k island c.index-own-k.result e) in
     unless c.holds_legal.result (All (HoldsLegal on.d on.lat on.items net c.args.nodes.now) c.as_slice.result.now)
     c.holds_legal.ensures c.if-not-holds_legal.true
     (subst (All (HoldsLegal on.d on.lat on.items net c.args.nodes.now)) (sym c.as_slice.ensures)
-    (not_held on.d on.lat on.items c.args.own.now c.args.anchors.now c.args.k island e c.requires.anchored starts
+    (not_held on.d on.lat on.items own anchors c.args.k island e c.requires.anchored starts
     starts_at c.args.nodes.now net same set))
 
 pub returns-then-not-holds_no_other : goal.returns-then-not-holds_no_other
 returns-then-not-holds_no_other g c = λ island e set.
     let on = c.args.on.now in
+    let own = c.args.own.now.islands.now in
+    let anchors = c.args.own.now.anchors.now in
     let starts = c.index-anchors-k.result in
-    let within : c.args.k < length c.args.anchors.now = omega (arith, c.requires.place, c.requires.anchored.all) in
-    let starts_at = slice_get_read c.args.anchors.now (length c.args.anchors.now) c.args.k starts refl within
+    let within : c.args.k < length anchors = omega (arith, c.requires.place, c.requires.anchored.all) in
+    let starts_at = slice_get_read anchors (length anchors) c.args.k starts refl within
     c.index-anchors-k.is in
-    unless c.holds_no_other.result ((j : ℕ) → IsBeside c.args.nodes.now c.args.anchors.now c.args.k j)
+    unless c.holds_no_other.result ((j : ℕ) → IsBeside c.args.nodes.now anchors c.args.k j)
     c.holds_no_other.ensures c.if-not-holds_no_other.true
-    (set_none on.d on.lat on.items c.args.own.now c.args.anchors.now c.args.k island e c.requires.anchored starts
+    (set_none on.d on.lat on.items own anchors c.args.k island e c.requires.anchored starts
     starts_at c.args.nodes.now set)
 
 pub returns-in-None : goal.returns-in-None
 returns-in-None g c = λ island e set.
     let on = c.args.on.now in
+    let own = c.args.own.now.islands.now in
+    let anchors = c.args.own.now.anchors.now in
     let starts = c.index-anchors-k.result in
-    let within : c.args.k < length c.args.anchors.now = omega (arith, c.requires.place, c.requires.anchored.all) in
-    let starts_at = slice_get_read c.args.anchors.now (length c.args.anchors.now) c.args.k starts refl within
+    let within : c.args.k < length anchors = omega (arith, c.requires.place, c.requires.anchored.all) in
+    let starts_at = slice_get_read anchors (length anchors) c.args.k starts refl within
     c.index-anchors-k.is in
     let m = c.moves-moves.ensures in
-    let net = (get_or c.args.own.now c.args.k c.index-own-k.result).net in
+    let net = (get_or own c.args.k c.index-own-k.result).net in
     let same : net ≡ island.net =
-    ap (λ (s : Island). s.net) (get_or_from_slice_get c.args.own.now c.args.k island c.index-own-k.result e) in
+    ap (λ (s : Island). s.net) (get_or_from_slice_get own c.args.k island c.index-own-k.result e) in
     let away : Any (Escapes (legal_graph on.d on.lat on.items net 0) c.args.nodes.now) c.args.nodes.now =
     rw (m.d, m.lat, m.items, m.net, m.via_cost) at c.in-None.ensures in
-    not_shut on.d on.lat on.items c.args.own.now c.args.anchors.now c.args.k island e c.requires.anchored starts
+    not_shut on.d on.lat on.items own anchors c.args.k island e c.requires.anchored starts
     starts_at c.args.nodes.now net same set away
 
 pub returns-in-Some : goal.returns-in-Some
 returns-in-Some g c = λ island e.
     let on = c.args.on.now in
+    let own = c.args.own.now.islands.now in
+    let anchors = c.args.own.now.anchors.now in
     let starts = c.index-anchors-k.result in
-    let within : c.args.k < length c.args.anchors.now = omega (arith, c.requires.place, c.requires.anchored.all) in
-    let starts_at = slice_get_read c.args.anchors.now (length c.args.anchors.now) c.args.k starts refl within
+    let within : c.args.k < length anchors = omega (arith, c.requires.place, c.requires.anchored.all) in
+    let starts_at = slice_get_read anchors (length anchors) c.args.k starts refl within
     c.index-anchors-k.is in
     let m = c.moves-moves.ensures in
-    let net = (get_or c.args.own.now c.args.k c.index-own-k.result).net in
+    let net = (get_or own c.args.k c.index-own-k.result).net in
     let same : net ≡ island.net =
-    ap (λ (s : Island). s.net) (get_or_from_slice_get c.args.own.now c.args.k island c.index-own-k.result e) in
+    ap (λ (s : Island). s.net) (get_or_from_slice_get own c.args.k island c.index-own-k.result e) in
     let outs : AreOuts (legal_graph on.d on.lat on.items net 0) c.args.nodes.now c.in-Some.blocked =
     rw (m.d, m.lat, m.items, m.net, m.via_cost) at c.in-Some.ensures in
-    sized_by on.d on.lat on.items c.args.own.now c.args.anchors.now c.args.k island e c.requires.anchored starts
+    sized_by on.d on.lat on.items own anchors c.args.k island e c.requires.anchored starts
     starts_at c.args.nodes.now net c.in-Some.blocked same c.requires.ascend c.requires.marked.there
     (subst (All (HoldsLegal on.d on.lat on.items net c.args.nodes.now)) c.as_slice.ensures
     (c.holds_legal.ensures.0 c.if-not-holds_legal.false))

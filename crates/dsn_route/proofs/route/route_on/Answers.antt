@@ -8,5 +8,5 @@ write_out-status-requires g c =
     record {
       routes = c.requires.order.routes;
       lattice = c.requires.lattice
-          ∙ ap (λ (d : Design). mesh_of c.args.command.now d) (sym c.in-Ok.ensures.design_is);
+          ∙ ap (λ (d : Design). mesh_of c.args.command.now d) (sym c.in-Ok.ensures.run.design_is);
     }

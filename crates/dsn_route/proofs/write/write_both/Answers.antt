@@ -9,8 +9,8 @@ use Rattle.dsn_route.proofs.write.write_both.Goals as goal
 pub returns-in-Ok-write : goal.returns-in-Ok-write
 returns-in-Ok-write g c = λ input from.
     let command : Command = Route input c.args.output.now from c.args.knobs in
-    let board = c.args.routed.now.board in
-    let facts = c.args.routed.now.facts in
+    let board = c.args.run.now.routed.now.board in
+    let facts = c.args.run.now.routed.now.facts in
     let has : HasWritten command board (g.D.Desk.state c.args.desk.now) (g.D.Desk.state c.write.new.self) =
     cc (c.in-Ok-write.ensures.gives, c.as_str.ensures, c.deref.ensures.value, c.in-Ok.ensures, c.design.ensures) in
     let page : c.deref-in-Ok-write.result.now ≡ report_for command board facts =

@@ -14,7 +14,7 @@ returns-then-not-cut-clause-blank g c = c.requires.blank
 pub returns-then-not-cut-clause-no : goal.returns-then-not-cut-clause-no
 returns-then-not-cut-clause-no g c =
     let on = c.args.on.now in
-    not_named on.d on.lat on.items c.args.own.now c.args.k c.args.cut.now c.if-not-cut.true
+    not_named on.d on.lat on.items c.args.own.now.islands.now c.args.k c.args.cut.now c.if-not-cut.true
 
 pub cut_size-requires-clause-anchored : goal.cut_size-requires-clause-anchored
 cut_size-requires-clause-anchored g c = c.requires.anchored
@@ -34,7 +34,7 @@ returns-in-None-clause-blank g c = c.in_ok-cut_size.ensures.blank
 pub returns-in-None-clause-no : goal.returns-in-None-clause-no
 returns-in-None-clause-no g c =
     let on = c.args.on.now in
-    let own = c.args.own.now in
+    let own = c.args.own.now.islands.now in
     let k = c.args.k in
     let cut = c.args.cut.now in
     let fits = c.keeps.ensures.fits in
@@ -52,7 +52,7 @@ returns-clause-blank g c = c.in_ok-cut_size.ensures.blank
 pub returns-clause-yes : goal.returns-clause-yes
 returns-clause-yes g c =
     let on = c.args.on.now in
-    let own = c.args.own.now in
+    let own = c.args.own.now.islands.now in
     let k = c.args.k in
     let cut = c.args.cut.now in
     let size = c.in-Some.size in
@@ -69,7 +69,7 @@ returns-clause-yes g c =
 pub returns-clause-no : goal.returns-clause-no
 returns-clause-no g c =
     let on = c.args.on.now in
-    let own = c.args.own.now in
+    let own = c.args.own.now.islands.now in
     let k = c.args.k in
     let cut = c.args.cut.now in
     let size = c.in-Some.size in

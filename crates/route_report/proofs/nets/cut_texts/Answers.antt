@@ -5,7 +5,8 @@ use Rattle.route_report.proofs.nets.cut_texts.Goals as goal
 
 pub loop-cut-init : goal.loop-cut-init
 loop-cut-init c =
-    let lines = cut_lines c.args.d.now c.args.lat.now c.args.board.now.items c.args.short in
+    let input = c.args.input.now in
+    let lines = cut_lines input.d.now input.lat.now input.board.now.items input.short in
     let made = c.in_ok-texts.ensures in
     record {
       count_is = made.count_is ∙ c.len.ensures;
@@ -17,7 +18,8 @@ loop-cut-init c =
 
 pub loop-cut-preserved : goal.loop-cut-preserved
 loop-cut-preserved c =
-    let lines = cut_lines c.args.d.now c.args.lat.now c.args.board.now.items c.args.short in
+    let input = c.args.input.now in
+    let lines = cut_lines input.d.now input.lat.now input.board.now.items input.short in
     let before = c.loop-cut.invariant in
     let adds = c.in_ok-add_cut.ensures in
     record {
@@ -29,7 +31,8 @@ loop-cut-preserved c =
 
 pub returns : goal.returns
 returns c =
-    let lines = cut_lines c.args.d.now c.args.lat.now c.args.board.now.items c.args.short in
+    let input = c.args.input.now in
+    let lines = cut_lines input.d.now input.lat.now input.board.now.items input.short in
     let before = c.loop-cut.invariant in
     record {
       count_is = before.count_is;

@@ -6,10 +6,10 @@ use Rattle.route_report.proofs.nets.cut_texts.Given as goal
 -- the lines of a net so far, and those of its cuts that are left
 abbrev pub invariant-loop-cut : goal.invariant-loop-cut
 invariant-loop-cut l =
-    let lines = cut_lines l.d l.lat l.board.items l.short in
+    let lines = cut_lines l.input.d.now l.input.lat.now l.input.board.now.items l.input.short in
     record {
-      count_is : length l.texts.items ≡ length l.d.nets;
-      texts_are : (k : ℕ) (e : Vec ℕ Global) → k < length l.d.nets
+      count_is : length l.texts.items ≡ length l.input.d.now.nets;
+      texts_are : (k : ℕ) (e : Vec ℕ Global) → k < length l.input.d.now.nets
           → Leads (get_or l.texts.items k e).items (flat_map lines (filter (is_of_net k) (drop l.cut-index l.cuts)))
           (flat_map lines (filter (is_of_net k) l.cuts));
     }

@@ -25,9 +25,10 @@ put_told-requires-clause-texts c =
 
 pub returns : goal.returns
 returns c =
-    let lines = net_lines c.args.d.now c.args.lat.now c.args.board.now.items c.args.facts.now c.args.short in
-    let told = cut_lines c.args.d.now c.args.lat.now c.args.board.now.items c.args.short in
-    let nets = c.args.d.now.nets in
+    let input = c.args.input.now in
+    let lines = net_lines input.d.now input.lat.now input.board.now.items input.facts.now input.short in
+    let told = cut_lines input.d.now input.lat.now input.board.now.items input.short in
+    let nets = input.d.now.nets in
     let counts = c.in_ok-counts.counts.items in
     let texts = c.in_ok-texts.texts.items in
     let e : Vec ℕ Global = c.args.out.now in

@@ -7,7 +7,8 @@ use Rattle.route_run.proofs.state.PassState.make_pass.Goals as goal
 pub one_pass-passed-requires-clause-tasks : goal.one_pass-passed-requires-clause-tasks
 one_pass-passed-requires-clause-tasks g c = λ κs apart.
     can_work c.self.inside.input c.self.inside.board c.self.inside.open_nets c.self.inside.maps c.as_slice.result
-    c.args.penalty _ c.self.invariant c.keeps.ensures c.requires c.as_slice.ensures.value c.as_slice.ensures.len refl
+    c.args.penalty c.self.inside.pattern _ c.self.invariant c.keeps.ensures c.requires
+    c.as_slice.ensures.value c.as_slice.ensures.len refl
 
 pub invariant_of-state : goal.invariant_of-state
 invariant_of-state g c =

@@ -1,0 +1,3 @@
+-- What private functions give: a reader of the public contracts needs none of it.
+pub mod Landings
+pub mod Sites

@@ -1,0 +1,4 @@
+pub mod Anchoring
+pub mod Places
+pub mod Routing
+pub mod Offering

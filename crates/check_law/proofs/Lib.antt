@@ -13,3 +13,4 @@ pub mod Routed
 pub mod Sourced
 pub mod Whole
 pub mod Judging
+pub mod Numbered

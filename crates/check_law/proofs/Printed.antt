@@ -1,9 +1,10 @@
 -- A report that was printed is of the form.
 use Rattle.std.proofs.Common.{◌≡◌, ℕ, ◌+◌, Bool, true, false, not, ◌==◌, List, [], ◌∷◌, ◌++◌}
-use Rattle.std.proofs.Common.{length, map}
+use Rattle.std.proofs.Common.{length, map, Option, Some, None}
 use Rattle.std.proofs.Common.{refl, sym, ap, ap₂, ◌∙◌, arith, filter, flat_map, cond}
 use Rattle.std.specs.Prelude.{decimal, codes, if◌then◌else◌}
 use Rattle.std.specs.List.{enumerate_from}
+use Rattle.std.specs.Option.{option_map}
 use Rattle.std.proofs.lemmas.List.{append_assoc, append-nil, length-map}
 use Rattle.pcb_model.specs.declared.item.Kind.{Kind}
 use Rattle.pcb_model.specs.declared.item.Kind.TheVariants as kind
@@ -20,7 +21,7 @@ use Rattle.route_report.specs.Report as report
 use Rattle.told_words.specs.PinNames.{pin_name}
 use Rattle.report_form.proofs.Joining.{joined-append}
 use Rattle.report_form.specs.Form.{Told, NetTold, CutTold, RunTold, PassTold, lines, joined, line, by_line}
-use Rattle.report_form.specs.Form.{by_lines, outside_lines}
+use Rattle.report_form.specs.Form.{by_lines, outside_lines, wide_lines}
 use Rattle.report_form.specs.Form.{run_line, run_lines, cut_line, cut_lines, net_lines}
 use Rattle.report_form.specs.Form.{nets_lines, pass_lines}
 use Rattle.report_form.specs.Form.{place_lines, is_complete, is_open, size_line, total_line, head_lines, pass_part}
@@ -47,20 +48,25 @@ runs_of m (node ∷ nodes) = runs_from m node node nodes
 abbrev pub item_told : Item → Kind × List ℕ
 item_told a = (a.kind, decimal a.id)
 
-abbrev pub cut_told : Design → Mesh → List Item → Cut → CutTold
-cut_told d m items cut = record {
+abbrev pub cut_told : Design → Mesh → List Item → Option ℕ → Cut → CutTold
+cut_told d m items wide cut = record {
   pin = pin_name d cut.pin;
   reached = decimal (length cut.reach.nodes);
   blocked = decimal (length cut.blocked);
   by_items = map item_told (filter (λ (a : Item). report.is_named cut.blocked a.id) items);
   by_outside = report.has_outside cut.blocked;
   runs = runs_of m cut.reach.nodes;
+  wide = option_map decimal wide;
 }
+
+-- that of a cut with its number among all
+abbrev pub numbered_told : Design → Mesh → List Item → Facts → (ℕ × Cut) → CutTold
+numbered_told d m items facts numbered = cut_told d m items (report.wide_at facts.wide numbered.0) numbered.1
 
 abbrev pub net_told : Design → Mesh → List Item → Facts → ℕ → NetTold
 net_told d m items facts net = record {
   islands = decimal (length (report.cuts_of facts net));
-  cuts = map (cut_told d m items) (report.cuts_of facts net);
+  cuts = map (numbered_told d m items facts) (report.numbered_cuts facts net);
 }
 
 abbrev pub nets_from : Design → Mesh → List Item → Facts → ℕ → List Net → List NetTold
@@ -156,6 +162,14 @@ left_four w v u t n k j i =
     ∙ append_assoc (report.counted w n) (report.counted v k) (report.counted u j ++ report.count_line t i)
     ∙ told_four w v u t n k j i
 
+-- ---- lists that grow alike
+as_many : {X Y : Type 0} (b c : Bool) (x : X) (xs : List X) (y : Y) (ys : List Y) → b ≡ c → length xs ≡ length ys
+    → length (cond b (x ∷ xs) xs) ≡ length (cond c (y ∷ ys) ys)
+as_many true true x xs y ys e h = omega (arith, h)
+as_many true false x xs y ys e h = absurd (cc)
+as_many false true x xs y ys e h = absurd (cc)
+as_many false false x xs y ys e h = h
+
 -- ---- the lines of a cut
 one_run : (m : Mesh) (first last : ℕ) → run_line (run_told m first last) ≡ report.stretch_line m first last
 unfolding report.stretch_line
@@ -208,10 +222,10 @@ outside_text blocked = by (report.has_outside blocked)
     by true = refl
     by false = refl
 
-one_cut : (d : Design) (m : Mesh) (items : List Item) (cut : Cut)
-    → cut_line (cut_told d m items cut) ≡ report.cut_line d cut
+one_cut : (d : Design) (m : Mesh) (items : List Item) (wide : Option ℕ) (cut : Cut)
+    → cut_line (cut_told d m items wide cut) ≡ report.cut_line d cut
 unfolding report.cut_line
-one_cut d m items cut =
+one_cut d m items wide cut =
     three_numbers (codes "cut ") (spelled (pin_name d cut.pin)) (codes " reached ")
     (decimal (length cut.reach.nodes)) (codes " blocked ") (decimal (length cut.blocked))
     ∙ sym (ap (λ (x : List ℕ). codes "cut " ++ x ++ report.counted (codes " reached ") (length cut.reach.nodes)
@@ -225,31 +239,57 @@ one_cut d m items cut =
     ∙ ap (λ (x : List ℕ). codes "cut " ++ (spelled (pin_name d cut.pin) ++ x))
     (told_two (codes " reached ") (codes " blocked ") (length cut.reach.nodes) (length cut.blocked)))
 
-cut_text : (d : Design) (m : Mesh) (items : List Item) (cut : Cut)
-    → joined (cut_lines (cut_told d m items cut)) ≡ report.cut_lines d m items false cut
+wide_text : (wide : Option ℕ) → joined (wide_lines (option_map decimal wide)) ≡ report.wide_line wide
+wide_text None = refl
+wide_text (Some size) =
+    append-nil (line (codes "wide " ++ decimal size)) ∙ one_number (codes "wide ") (decimal size)
+    ∙ sym (told_one (codes "wide ") size)
+
+cut_text : (d : Design) (m : Mesh) (items : List Item) (wide : Option ℕ) (cut : Cut)
+    → joined (cut_lines (cut_told d m items wide cut)) ≡ report.cut_lines d m items false wide cut
 unfolding report.cut_lines
-cut_text d m items cut =
+cut_text d m items wide cut =
     let named = filter (λ (a : Item). report.is_named cut.blocked a.id) items in
-    ap₂ (λ (x y : List ℕ). x ++ y) (one_cut d m items cut)
-    (joined-append (by_lines (map item_told named))
-    (outside_lines (report.has_outside cut.blocked) ++ run_lines (runs_of m cut.reach.nodes))
-    ∙ ap₂ (λ (x y : List ℕ). x ++ y) (all_by named)
-    (joined-append (outside_lines (report.has_outside cut.blocked)) (run_lines (runs_of m cut.reach.nodes))
-    ∙ ap₂ (λ (x y : List ℕ). x ++ y) (outside_text cut.blocked) (all_runs m cut.reach.nodes))
-    ∙ sym (append_assoc (flat_map report.by_line named) (report.outside_line cut.blocked)
-    (report.stretch_lines m cut.reach.nodes)))
+    let outside = outside_lines (report.has_outside cut.blocked) in
+    let runs = run_lines (runs_of m cut.reach.nodes) in
+    let last = wide_lines (option_map decimal wide) in
+    let bys = flat_map report.by_line named in
+    let stretches = report.stretch_lines m cut.reach.nodes in
+    ap₂ (λ (x y : List ℕ). x ++ y) (one_cut d m items wide cut)
+    (joined-append (by_lines (map item_told named)) (outside ++ (runs ++ last))
+    ∙ (ap₂ (λ (x y : List ℕ). x ++ y) (all_by named)
+    (joined-append outside (runs ++ last)
+    ∙ ap₂ (λ (x y : List ℕ). x ++ y) (outside_text cut.blocked)
+    (joined-append runs last
+    ∙ ap₂ (λ (x y : List ℕ). x ++ y) (all_runs m cut.reach.nodes) (wide_text wide)))
+    ∙ (sym (append_assoc bys (report.outside_line cut.blocked) (stretches ++ report.wide_line wide))
+    ∙ sym (append_assoc (bys ++ report.outside_line cut.blocked) stretches (report.wide_line wide)))))
 
 -- ---- the lines of a net
-cuts_text : (d : Design) (m : Mesh) (items : List Item) (cuts : List Cut)
-    → joined (flat_map cut_lines (map (cut_told d m items) cuts)) ≡ flat_map (report.cut_lines d m items false) cuts
-cuts_text d m items [] = refl
-cuts_text d m items (cut ∷ cuts) =
-    joined-append (cut_lines (cut_told d m items cut)) (flat_map cut_lines (map (cut_told d m items) cuts))
-    ∙ ap₂ (λ (x y : List ℕ). x ++ y) (cut_text d m items cut) (cuts_text d m items cuts)
+cuts_text : (d : Design) (m : Mesh) (items : List Item) (facts : Facts) (cuts : List (ℕ × Cut))
+    → joined (flat_map cut_lines (map (numbered_told d m items facts) cuts))
+    ≡ flat_map (report.told_cut d m items facts false) cuts
+cuts_text d m items facts [] = refl
+cuts_text d m items facts (cut ∷ cuts) =
+    joined-append (cut_lines (numbered_told d m items facts cut))
+    (flat_map cut_lines (map (numbered_told d m items facts) cuts))
+    ∙ ap₂ (λ (x y : List ℕ). x ++ y) (cut_text d m items (report.wide_at facts.wide cut.0) cut.1)
+    (cuts_text d m items facts cuts)
 
-no_more : (d : Design) (m : Mesh) (items : List Item) (cuts : List Cut)
-    → length (map (cut_told d m items) cuts) == 0 ≡ length cuts == 0
-no_more d m items cuts = ap (λ (n : ℕ). n == 0) (length-map cuts (cut_told d m items))
+-- as many cuts as the net has
+unnumbered : (net i : ℕ) (cuts : List Cut)
+    → length (filter (report.is_at_net net) (enumerate_from i cuts)) ≡ length (filter (report.is_of_net net) cuts)
+unnumbered net i [] = refl
+unnumbered net i (cut ∷ cuts) =
+    as_many (report.is_of_net net cut) (report.is_of_net net cut) (i, cut)
+    (filter (report.is_at_net net) (enumerate_from (i + 1) cuts)) cut (filter (report.is_of_net net) cuts) refl
+    (unnumbered net (i + 1) cuts)
+
+no_more : (d : Design) (m : Mesh) (items : List Item) (facts : Facts) (net : ℕ)
+    → length (map (numbered_told d m items facts) (report.numbered_cuts facts net)) == 0
+    ≡ length (report.cuts_of facts net) == 0
+no_more d m items facts net = ap (λ (n : ℕ). n == 0)
+    (length-map (report.numbered_cuts facts net) (numbered_told d m items facts) ∙ unnumbered net 0 facts.cuts)
 
 verdict_text : (name : List ℕ) (count : ℕ) (b : Bool) →
     line (codes "net " ++ spelled name ++ (if b then codes " complete" else codes " open " ++ decimal count))
@@ -266,9 +306,9 @@ unfolding report.net_line
 net_text d m items facts i net =
     ap₂ (λ (x y : List ℕ). x ++ y)
     (ap (λ (b : Bool). line (codes "net " ++ spelled net.name ++ (if b then codes " complete"
-    else codes " open " ++ decimal (length (report.cuts_of facts i))))) (no_more d m items (report.cuts_of facts i))
+    else codes " open " ++ decimal (length (report.cuts_of facts i))))) (no_more d m items facts i)
     ∙ verdict_text net.name (length (report.cuts_of facts i)) (length (report.cuts_of facts i) == 0))
-    (cuts_text d m items (report.cuts_of facts i))
+    (cuts_text d m items facts (report.numbered_cuts facts i))
 
 nets_text : (d : Design) (m : Mesh) (items : List Item) (facts : Facts) (i : ℕ) (nets : List Net)
     → joined (nets_lines nets (nets_from d m items facts i nets))
@@ -280,13 +320,6 @@ nets_text d m items facts i (net ∷ nets) =
     ∙ ap₂ (λ (x y : List ℕ). x ++ y) (net_text d m items facts i net) (nets_text d m items facts (i + 1) nets)
 
 -- ---- how many nets are complete, and how many open
-as_many : {X Y : Type 0} (b c : Bool) (x : X) (xs : List X) (y : Y) (ys : List Y) → b ≡ c → length xs ≡ length ys
-    → length (cond b (x ∷ xs) xs) ≡ length (cond c (y ∷ ys) ys)
-as_many true true x xs y ys e h = omega (arith, h)
-as_many true false x xs y ys e h = absurd (cc)
-as_many false true x xs y ys e h = absurd (cc)
-as_many false false x xs y ys e h = h
-
 complete_many : (d : Design) (m : Mesh) (items : List Item) (facts : Facts) (i : ℕ) (nets : List Net)
     → length (filter is_complete (nets_from d m items facts i nets))
     ≡ length (filter (report.is_complete facts) (enumerate_from i nets))
@@ -294,7 +327,7 @@ complete_many d m items facts i [] = refl
 complete_many d m items facts i (net ∷ nets) =
     as_many (is_complete (net_told d m items facts i)) (report.is_complete facts (i, net))
     (net_told d m items facts i) (filter is_complete (nets_from d m items facts (i + 1) nets)) (i, net)
-    (filter (report.is_complete facts) (enumerate_from (i + 1) nets)) (no_more d m items (report.cuts_of facts i))
+    (filter (report.is_complete facts) (enumerate_from (i + 1) nets)) (no_more d m items facts i)
     (complete_many d m items facts (i + 1) nets)
 
 open_many : (d : Design) (m : Mesh) (items : List Item) (facts : Facts) (i : ℕ) (nets : List Net)
@@ -305,7 +338,7 @@ open_many d m items facts i (net ∷ nets) =
     as_many (is_open (net_told d m items facts i)) (report.is_open facts (i, net))
     (net_told d m items facts i) (filter is_open (nets_from d m items facts (i + 1) nets)) (i, net)
     (filter (report.is_open facts) (enumerate_from (i + 1) nets))
-    (ap not (no_more d m items (report.cuts_of facts i)))
+    (ap not (no_more d m items facts i))
     (open_many d m items facts (i + 1) nets)
 
 total_text : (d : Design) (m : Mesh) (items : List Item) (facts : Facts)

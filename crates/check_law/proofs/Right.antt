@@ -1,9 +1,9 @@
 -- The whole: a session and a report that were written are judged right.
 use Rattle.std.proofs.Common.{◌≡◌, ◌⊎◌, inl, inr, ℕ, suc, ◌+◌, ◌<◌, ◌≤◌, ◌^◌, Bool, true, false, cond}
-use Rattle.std.proofs.Common.{List, [], ◌∷◌}
+use Rattle.std.proofs.Common.{List, [], ◌∷◌, Option}
 use Rattle.std.proofs.Common.{Some, refl, sym, ap, ◌∙◌, subst, arith, All, length, map, filter}
 use Rattle.std.proofs.Common.{get_or}
-use Rattle.std.specs.Prelude.{Contains, decimal, slice_get}
+use Rattle.std.specs.Prelude.{Contains, IfSome, decimal, is_some, slice_get}
 use Rattle.std.specs.List.{AllZip}
 use Rattle.std.proofs.lemmas.List.{length-map}
 use Rattle.std.proofs.lemmas.List.Elements.{All-nil, All-cons, All-head, All-tail}
@@ -29,7 +29,7 @@ use Rattle.route_run.specs.declared.facts.Facts.{Facts}
 use Rattle.route_run.specs.declared.facts.PassLine.{PassLine}
 use Rattle.ses_reader.specs.declared.item.SesItem.{SesItem}
 use Rattle.told_words.specs.PinNames.{pin_name}
-use Rattle.route_report.specs.Report.{cuts_of, report_of, is_named, is_of_net, goes_on}
+use Rattle.route_report.specs.Report.{cuts_of, numbered_cuts, report_of, is_named, is_of_net, goes_on, wide_at}
 use Rattle.route_check.specs.Board.{board_of}
 use Rattle.report_form.specs.Form.{NetTold, IsNetTold, IsCutTold, AreCutsTold}
 use Rattle.report_form.specs.Form.{IsNumber, IsRun, IsPassTold}
@@ -37,9 +37,12 @@ use Rattle.report_form.specs.Form.{IsTold, value}
 use Rattle.copper_check.specs.Checks.{AreAllIslands}
 use Rattle.route_check.specs.Judged.{first_name, first_names, IsLineTrue, AreCutsTrue}
 use Rattle.route_check.specs.Judged.{IsRight, IsRead}
-use Rattle.check_law.specs.Written.{IsSmallCut, IsWritten}
+use Rattle.check_law.specs.Written.{AreFewEach, IsSmallCut, IsWritten}
 use Rattle.report_form.proofs.Numbers.{number_of, value_of}
-use Rattle.check_law.proofs.Printed.{cut_told, net_told, nets_from, item_told, run_told, runs_from, runs_of}
+use Rattle.check_law.proofs.Numbered.{own_cut, own_cuts_are, tell_alike, wide_number, wide_small}
+use Rattle.check_law.proofs.Numbered.{as_many as numbered_many}
+use Rattle.check_law.proofs.Printed.{cut_told, net_told, nets_from, item_told, numbered_told, run_told, runs_from}
+use Rattle.check_law.proofs.Printed.{runs_of}
 use Rattle.check_law.proofs.Printed.{pass_told, told_of, report_text}
 use Rattle.check_law.proofs.Stretching.{below_all}
 use Rattle.route_check.proofs.Boards.{fixed_stay}
@@ -88,27 +91,36 @@ by_numbers (a ∷ items) h =
     (by_numbers items (All-tail (λ (x : Item). x.id < 2 ^ 64) a items h))
 
 module _ (d : Design) (m : Mesh) (items : List Item) (ids : All (λ (a : Item). a.id < 2 ^ 64) items) where
-  one_cut : (t : Island) (cut : Cut) → IsSmallCut cut → pin_name d cut.pin ≡ first_name d t
-      → IsCutTold (Some (first_name d t)) (cut_told d m items cut)
-  one_cut t cut small named = record {
+  one_cut : (t : Island) (wide : Option ℕ) (cut : Cut) → IfSome wide (λ n. n < 2 ^ 64) → IsSmallCut cut
+      → pin_name d cut.pin ≡ first_name d t → IsCutTold (Some (first_name d t)) (cut_told d m items wide cut)
+  one_cut t wide cut few small named = record {
     pin = own_name (first_name d t) (pin_name d cut.pin) named;
     reached = number_of (length cut.reach.nodes) small.reached;
     blocked = number_of (length cut.blocked) small.blocked;
     by_items = by_numbers (filter (λ (a : Item). is_named cut.blocked a.id) items)
         (All-filter (λ (a : Item). is_named cut.blocked a.id) (λ (a : Item). a.id < 2 ^ 64) items ids);
     runs = cut_numbers m cut.reach.nodes small.nodes;
+    wide = wide_number wide few;
   }
 
-  all_cuts : (own : List Island) (cuts : List Cut) → length cuts ≤ length own → All IsSmallCut cuts
-      → ((k : ℕ) (t : Island) (cut : Cut) → slice_get own k ≡ Some t → slice_get cuts k ≡ Some cut
+  all_cuts : (facts : Facts) → AreFewEach facts.wide → (own : List Island) (cuts : List (ℕ × Cut))
+      → length cuts ≤ length own → All IsSmallCut (map own_cut cuts)
+      → ((k : ℕ) (t : Island) (cut : Cut) → slice_get own k ≡ Some t → slice_get (map own_cut cuts) k ≡ Some cut
       → pin_name d cut.pin ≡ first_name d t)
-      → AreCutsTold (map (first_name d) own) (map (cut_told d m items) cuts)
-  all_cuts own [] few small named = tt
-  all_cuts [] (cut ∷ cuts) few small named = absurd (omega arith)
-  all_cuts (t ∷ own) (cut ∷ cuts) few small named = (
-    one_cut t cut (All-head IsSmallCut cut cuts small) (named 0 t cut refl refl),
-    all_cuts own cuts (omega arith) (All-tail IsSmallCut cut cuts small) (λ k s c p q. named (suc k) s c p q),
+      → AreCutsTold (map (first_name d) own) (map (numbered_told d m items facts) cuts)
+  all_cuts facts wide own [] few small named = tt
+  all_cuts facts wide [] (cut ∷ cuts) few small named = absurd (omega arith)
+  all_cuts facts wide (t ∷ own) (cut ∷ cuts) few small named = (
+    one_cut t (wide_at facts.wide cut.0) cut.1 (wide_small facts.wide cut.0 wide)
+        (All-head IsSmallCut cut.1 (map own_cut cuts) small) (named 0 t cut.1 refl refl),
+    all_cuts facts wide own cuts (omega arith) (All-tail IsSmallCut cut.1 (map own_cut cuts) small)
+        (λ k s c p q. named (suc k) s c p q),
   )
+
+-- no element, no list
+none_left : {X : Type 0} (xs : List X) → length xs ≡ 0 → xs ≡ []
+none_left [] e = refl
+none_left (x ∷ xs) e = absurd (omega (arith, e))
 
 filtered_fewer : (p : Cut → Bool) (xs : List Cut) → length (filter p xs) ≤ length xs
 filtered_fewer p [] = omega arith
@@ -182,21 +194,35 @@ module _ (touch_back : (a b : Item) → AreTouching a b → AreTouching b a)
       named touch_back agree_back d m net w.sound few items ys w.rise rise w.serve serve same facts e own is in
       record {
         counts = counts e.ends;
-        cuts = all_cuts d m items w.small.ids own (cuts_of facts net) (length_fits e.old own e.ends one)
+        cuts = subst (λ (cs : List Cut). length (numbered_cuts facts net) ≤ length own → All IsSmallCut cs
+            → ((k : ℕ) (t : Island) (cut : Cut) → slice_get own k ≡ Some t → slice_get cs k ≡ Some cut
+            → pin_name d cut.pin ≡ first_name d t)
+            → AreCutsTold (map (first_name d) own)
+            (map (numbered_told d m items facts) (numbered_cuts facts net)))
+            (own_cuts_are facts net) (all_cuts d m items w.small.ids facts w.small.wide own (numbered_cuts facts net))
+            (let fits = length_fits e.old own e.ends one in
+            let many = numbered_many facts net in omega (arith, fits, many))
             (All-filter (is_of_net net) IsSmallCut facts.cuts w.small.cuts) names;
       }
     where
+      many : length (map (numbered_told d m items facts) (numbered_cuts facts net)) ≡ length (cuts_of facts net)
+      many = length-map (numbered_cuts facts net) (numbered_told d m items facts) ∙ numbered_many facts net
+
       counts : {n : ℕ} → (((cuts_of facts net ≡ []) × (n ≤ 1)) ⊎ ((2 ≤ n) × (length (cuts_of facts net) ≡ n)))
-          → ((map (cut_told d m items) (cuts_of facts net) ≡ []) × (decimal (length (cuts_of facts net)) ≡ decimal 0))
-          ⊎ ((2 ≤ length (map (cut_told d m items) (cuts_of facts net)))
+          → ((map (numbered_told d m items facts) (numbered_cuts facts net) ≡ [])
+          × (decimal (length (cuts_of facts net)) ≡ decimal 0))
+          ⊎ ((2 ≤ length (map (numbered_told d m items facts) (numbered_cuts facts net)))
           × IsNumber (decimal (length (cuts_of facts net)))
-          × (value (decimal (length (cuts_of facts net))) ≡ length (map (cut_told d m items) (cuts_of facts net))))
-      counts (inl h) = inl (ap (map (cut_told d m items)) h.0, ap (λ (cs : List Cut). decimal (length cs)) h.0)
+          × (value (decimal (length (cuts_of facts net)))
+          ≡ length (map (numbered_told d m items facts) (numbered_cuts facts net))))
+      counts (inl h) = inl (
+        none_left (map (numbered_told d m items facts) (numbered_cuts facts net)) (many ∙ ap length h.0),
+        ap (λ (cs : List Cut). decimal (length cs)) h.0,
+      )
       counts (inr h) = inr (
-        omega (arith, h.0, h.1, length-map (cuts_of facts net) (cut_told d m items)),
+        omega (arith, h.0, h.1, many),
         number_of (length (cuts_of facts net)) (cuts_few net),
-        value_of (length (cuts_of facts net)) (cuts_few net)
-            ∙ sym (length-map (cuts_of facts net) (cut_told d m items)),
+        value_of (length (cuts_of facts net)) (cuts_few net) ∙ sym many,
       )
 
       length_fits : (old own : List Island)
@@ -286,6 +312,7 @@ module _ (touch_back : (a b : Item) → AreTouching a b → AreTouching b a)
     all_nets = nets_many 0 d.nets;
     nets = zip_map (map (first_name d)) IsNetTold found (nets_from d m items facts 0 d.nets)
         (all_nets (λ (own : List Island) (n : NetTold). IsNetTold (map (first_name d) own) n) net_told_well);
+    alike = record { wide = is_some facts.wide; each = tell_alike d m items facts w.sizes 0 d.nets };
   }
 
   same_mesh : lattice_of d (value (decimal facts.grid)) ≡ m

@@ -1,6 +1,7 @@
 -- A run of a design that was read, its session read back, and its report.
 use Rattle.std.proofs.Common.{◌≡◌, ◌⊎◌, ◌∙◌, inl, inr, ℕ, suc, ◌+◌, ◌-◌, ◌<◌, ◌≤◌, Bool, List, [], ◌∷◌, All}
-use Rattle.std.proofs.Common.{Some}
+use Rattle.std.proofs.Common.{Option, Some, None, true, false}
+use Rattle.std.specs.List.{AllZip}
 use Rattle.std.proofs.Common.{ap, arith, filter, get_or, length, map, refl, subst, sym}
 use Rattle.std.specs.Prelude.{slice_get}
 use Rattle.std.proofs.lemmas.List.Elements.{All-nil}
@@ -23,14 +24,15 @@ use Rattle.pcb_board.specs.Keeping.{IsBoard}
 use Rattle.closing_pass.specs.Closing.{Ends}
 use Rattle.route_run.specs.declared.facts.Facts.{Facts}
 use Rattle.route_run.specs.declared.facts.PassLine.{PassLine}
-use Rattle.route_run.specs.Runs.{IsRun, RunOf}
+use Rattle.wide_pass.specs.Rounds.{IsWideSize}
+use Rattle.route_run.specs.Runs.{AreWide, IsRun, RunOf}
 use Rattle.route_report.specs.Report.{cuts_of, is_of_net}
 use Rattle.dsn_design.specs.Reading.{HasDesign}
 use Rattle.ses_reader.specs.declared.item.SesItem.{SesItem}
 use Rattle.session_law.specs.Back.{printed_wiring, told}
 use Rattle.session_law.specs.Wired.{HasWiring}
 use Rattle.session_law.proofs.ToldBoards.{is_routed}
-use Rattle.check_law.specs.Written.{AreSmall, IsWritten, NetEnds}
+use Rattle.check_law.specs.Written.{AreSmall, HaveSizes, IsWritten, NetEnds}
 use Rattle.check_law.proofs.Edges.{edges_of_read}
 use Rattle.check_law.proofs.Ends.{AreEndsFrom, AreOf, all_of, own_cuts}
 use Rattle.check_law.proofs.Lists.{there}
@@ -121,6 +123,19 @@ module _ (touch_back : (a b : Item) → AreTouching a b → AreTouching b a) (te
   one_count : facts.nodes ≡ node_count m
   one_count = run.facts_are.nodes_are
 
+  sized : (diagonal : Bool) (wide : Option (List ℕ)) → AreWide diagonal m r.via_cost b facts.cuts wide
+      → HaveSizes wide (length facts.cuts)
+  sized false wide none = subst (λ (w : Option (List ℕ)). HaveSizes w (length facts.cuts)) (sym none) tt
+  sized true None h = absurd h
+  sized true (Some sizes) h = as_long facts.cuts sizes h
+    where
+      as_long : (cuts : List Cut) (sizes : List ℕ)
+          → AllZip (IsWideSize b.design m b.items r.via_cost) cuts sizes → length sizes ≡ length cuts
+      as_long [] [] h = refl
+      as_long [] (n ∷ sizes) h = absurd h
+      as_long (cut ∷ cuts) [] h = absurd h
+      as_long (cut ∷ cuts) (n ∷ sizes) h = let rest = as_long cuts sizes h.1 in omega (arith, rest)
+
   pub run_written : (omit : Bool) (xs : List SesItem) → 1000 ≤ grid → grid ≤ 409600000 → node_count m ≤ MOST_NODES
       → AreSmall d b.items facts → map told xs ≡ printed_wiring d b.items omit
       → IsWritten d b.items (filter is_routed b.items) omit xs facts
@@ -137,6 +152,7 @@ module _ (touch_back : (a b : Item) → AreTouching a b → AreTouching b a) (te
     few = subst (λ (n : ℕ). n ≤ MOST_NODES) (sym one_count) few;
     some_pass = some_last facts.passes run.ended.last run.ended.last_is;
     small = small;
+    sizes = sized r.diagonal facts.wide run.facts_are.wide_is;
     ends = subst (λ (g : ℕ). (net : ℕ) → net < length d.nets → NetEnds d (lattice_of d g) b.items facts net)
         (sym one_grid) net_ends;
   }

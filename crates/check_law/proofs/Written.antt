@@ -31,13 +31,14 @@ use Rattle.copper_alike.proofs.Places.{set_at}
 use Rattle.copper_alike.proofs.Sets.{cut_set}
 use Rattle.route_run.specs.declared.facts.Facts.{Facts}
 use Rattle.told_words.specs.PinNames.{pin_name}
-use Rattle.route_report.specs.Report.{cuts_of}
+use Rattle.route_report.specs.Report.{cuts_of, numbered_cuts, wide_at}
 use Rattle.report_form.specs.Form.{CutTold, IsName, IsNameBeside}
 use Rattle.report_form.specs.Form.{has_mark}
 use Rattle.route_check.specs.Judged.{first_of, first_name, IsLineTrue, islands_told, IsCutTrue}
 use Rattle.route_check.specs.Judged.{AreCutsTrue}
 use Rattle.check_law.specs.Written.{NetEnds}
-use Rattle.check_law.proofs.Printed.{cut_told, net_told}
+use Rattle.check_law.proofs.Printed.{cut_told, net_told, numbered_told}
+use Rattle.check_law.proofs.Numbered.{as_many, numbered_at}
 use Rattle.check_law.proofs.Stretching.{runs_back}
 
 -- ---- names
@@ -86,7 +87,7 @@ module _ (touch_back : (a b : Item) → AreTouching a b → AreTouching b a)
 
   -- the line
   pub line_true : IsLineTrue own (net_told d m xs facts net)
-  line_true = length-map (cuts_of facts net) (cut_told d m xs) ∙ by e.ends
+  line_true = length-map (numbered_cuts facts net) (numbered_told d m xs facts) ∙ (as_many facts net ∙ by e.ends)
     where
       one : (ss : List Island) → length ss ≤ 1 → 0 ≡ islands_told ss
       one [] h = refl
@@ -149,8 +150,8 @@ module _ (touch_back : (a b : Item) → AreTouching a b → AreTouching b a)
         complete = h.complete;
       }
 
-      cut_true : IsCutTrue d m ys t (remove own k) (cut_told d m xs cut)
-      cut_true = record {
+      cut_true : (wide : Option ℕ) → IsCutTrue d m ys t (remove own k) (cut_told d m xs wide cut)
+      cut_true wide = record {
         names = named;
         nodes = cut.reach.nodes;
         nodes_are = runs_back m few cut.reach.nodes is_cut.ascends is_cut.there;
@@ -170,19 +171,23 @@ module _ (touch_back : (a b : Item) → AreTouching a b → AreTouching b a)
       }
 
   -- ---- all cuts of the net
-  cut_of : (k : ℕ) (c : CutTold) → slice_get (map (cut_told d m xs) (cuts_of facts net)) k ≡ Some c
-      → (cut : Cut) × (slice_get (cuts_of facts net) k ≡ Some cut) × (cut_told d m xs cut ≡ c)
-  cut_of k c h = by (slice_get (cuts_of facts net) k) refl
-      (sym (slice_get-map (cut_told d m xs) (cuts_of facts net) k) ∙ h)
+  cut_of : (k : ℕ) (c : CutTold)
+      → slice_get (map (numbered_told d m xs facts) (numbered_cuts facts net)) k ≡ Some c
+      → (cut : ℕ × Cut) × (slice_get (cuts_of facts net) k ≡ Some cut.1) × (numbered_told d m xs facts cut ≡ c)
+  cut_of k c h = by (slice_get (numbered_cuts facts net) k) refl
+      (sym (slice_get-map (numbered_told d m xs facts) (numbered_cuts facts net) k) ∙ h)
     where
-      by : (o : Option Cut) → slice_get (cuts_of facts net) k ≡ o → option_map (cut_told d m xs) o ≡ Some c
-          → (cut : Cut) × (slice_get (cuts_of facts net) k ≡ Some cut) × (cut_told d m xs cut ≡ c)
+      by : (o : Option (ℕ × Cut)) → slice_get (numbered_cuts facts net) k ≡ o
+          → option_map (numbered_told d m xs facts) o ≡ Some c
+          → (cut : ℕ × Cut) × (slice_get (cuts_of facts net) k ≡ Some cut.1) × (numbered_told d m xs facts cut ≡ c)
       by None p q = absurd (cc)
-      by (Some cut) p q = (cut, p, same_Some (cut_told d m xs cut) c q)
+      by (Some cut) p q =
+          (cut, numbered_at facts net k cut p, same_Some (numbered_told d m xs facts cut) c q)
 
   pub cuts_true : AreCutsTrue d m ys own (net_told d m xs facts net)
   cuts_true = record {
     each = λ k t c t_at c_at.
         let f = cut_of k c c_at in
-        subst (IsCutTrue d m ys t (remove own k)) f.2 (cut_true k t f.0 t_at f.1);
+        subst (IsCutTrue d m ys t (remove own k)) f.2
+        (cut_true k t f.0.1 t_at f.1 (wide_at facts.wide f.0.0));
   }

@@ -1,6 +1,6 @@
 -- What a run has written: a session that was read back, and facts.
 use Rattle.std.specs.Prelude.{◌≡◌, ◌⊎◌, ◌≤◌, ◌<◌, ◌^◌, ℕ, Bool, true, List, [], ◌++◌, length, map, All, Some}
-use Rattle.std.specs.Prelude.{slice_get, remove}
+use Rattle.std.specs.Prelude.{IfSome, Option, slice_get, remove}
 use Rattle.pcb_model.specs.declared.item.Item.{Item}
 use Rattle.pcb_model.specs.declared.design.Design.{Design}
 use Rattle.pcb_model.specs.Pieces.{kind_of, pieces_of}
@@ -63,6 +63,13 @@ pub record IsSmallCut (cut : Cut) : Type 0 where
   pub blocked : IsSmall (length cut.blocked)
   pub nodes : All (λ n. n < 2 ^ 64) cut.reach.nodes
 
+abbrev pub AreFewEach : Option (List ℕ) → Type 0
+AreFewEach wide = IfSome wide (All (λ n. n < 2 ^ 64))
+
+-- one for each of so many cuts
+abbrev pub HaveSizes : Option (List ℕ) → ℕ → Type 0
+HaveSizes wide count = IfSome wide (λ sizes. length sizes ≡ count)
+
 -- all numbers that a report tells
 pub record AreSmall (d : Design) (items : List Item) (facts : Facts) : Type 0 where
   pub dropped : IsSmall (length facts.dropped)
@@ -73,6 +80,7 @@ pub record AreSmall (d : Design) (items : List Item) (facts : Facts) : Type 0 wh
   pub joins : IsSmall facts.joins
   pub cuts : All IsSmallCut facts.cuts
   pub few_cuts : IsSmall (length facts.cuts)
+  pub wide : AreFewEach facts.wide
   pub ids : All (λ (a : Item). a.id < 2 ^ 64) items
 
 -- ---- what was written
@@ -91,4 +99,5 @@ pub record IsWritten (d : Design) (items routed : List Item) (omit : Bool) (xs :
     pub few : facts.nodes ≤ MOST_NODES
     pub some_pass : 1 ≤ length facts.passes
     pub small : AreSmall d items facts
+    pub sizes : HaveSizes facts.wide (length facts.cuts)
     pub ends : (net : ℕ) → net < length d.nets → NetEnds d (lattice_of d facts.grid) items facts net

@@ -59,10 +59,10 @@ impl<'a> Model for ShutIsland<'a> {
 }
 
 // How many runs a wire has; other metals have none.
-fn run_count(m: &Metal) -> usize
-    ensures { result ≡ length (chain_of m.now) - 1 }
+fn run_count(metal: &Metal) -> usize
+    ensures { result ≡ length (chain_of metal.now) - 1 }
 {
-    match m {
+    match metal {
         Metal::Wire { chain, .. } => chain.len().saturating_sub(1),
         _ => 0,
     }

@@ -1,13 +1,14 @@
 -- What is reached is closed, and a walk doesn't leave a cut.
-use Rattle.std.proofs.Common.{ℕ, ◌<◌, List, [], ◌∷◌, ◌++◌, get_or, sym, subst, All}
+use Rattle.std.proofs.Common.{ℕ, ◌<◌, List, [], ◌∷◌, ◌++◌, get_or, Option, Some, None, sym, subst, All}
 use Rattle.std.specs.Prelude.{Contains}
 use Rattle.std.proofs.lemmas.List.Elements.{All-contains, All-contains_itself}
 use Rattle.route_lattice.specs.Walks.{MoveGraph, IsSound, Hop, Leads, Reaches, IsReach}
-use Rattle.cut_certificate.proofs.Flooding.{leads_on}
+use Rattle.cut_certificate.proofs.Flooding.{leads_on, reach_tells}
 use Rattle.cut_certificate.specs.declared.cut.Blocker.{Blocker}
 use Rattle.cut_certificate.specs.declared.cut.Block.{Block}
 use Rattle.cut_certificate.specs.Border.{IsListed, IsBlock, AreBlocks}
-use Rattle.cut_certificate.specs.inner.Listing.{IsClosed}
+use Rattle.cut_certificate.specs.declared.border.Border.{Border}
+use Rattle.cut_certificate.specs.inner.Listing.{IsClosed, IsBorder, Closes}
 
 module _ (graph : MoveGraph) where
   -- a walk stays among the nodes of the graph
@@ -57,3 +58,13 @@ module _ (graph : MoveGraph) where
         subst (IsBlock graph.at graph.arity ShutBy nodes) listed.3 (blocks.only listed.0 listed.1 listed.2) in
         shut listed.1.node listed.1.index listed.1.by b.shut
         (subst (λ (y : ℕ × ℕ). graph.open_at y.0 y.1) (λ i. (sym listed.4.0 i, sym listed.4.1 i)) p.0.is_open)
+
+  -- the border of all that is reached
+  pub border_closes : (ShutBy : ℕ → ℕ → Blocker → Type 0) (starts goals nodes : List ℕ) → IsReach graph starts nodes
+      → (o : Option Border) → IsBorder graph ShutBy nodes goals o → Closes graph ShutBy starts goals o
+  border_closes ShutBy starts goals nodes r None m = (reach_tells graph starts goals nodes r).met m
+  border_closes ShutBy starts goals nodes r (Some b) w = (
+    (reach_tells graph starts goals nodes r).missed w.0,
+    subst (IsReach graph starts) (sym w.1) r,
+    subst (λ xs. AreBlocks graph.at graph.arity ShutBy xs b.blocked) (sym w.1) w.2,
+  )

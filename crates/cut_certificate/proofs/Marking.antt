@@ -1,7 +1,8 @@
 -- What a mark more changes, and how the marked nodes are listed.
 use Rattle.std.proofs.Common.{◌≡◌, ℕ, zero, suc, ◌+◌, ◌<◌, List, [], ◌∷◌, ◌++◌, length, get_or, replicate, Bool, true}
-use Rattle.std.proofs.Common.{false, not, cond, Some, ap, sym, refl, subst, inl, inr, arith}
-use Rattle.std.specs.Prelude.{◌⊎◌, Contains, slice_get}
+use Rattle.std.proofs.Common.{false, not, cond, Some, ap, sym, refl, subst, inl, inr, arith, true≢false}
+use Rattle.std.specs.Prelude.{◌⊎◌, ◌↔◌, All, Contains, IsTrue, slice_get}
+use Rattle.std.specs.List.Sorted.{IsStrictlyIncreasing}
 use Rattle.std.specs.List.{count_by}
 use Rattle.std.proofs.Math.ListN.{set}
 use Rattle.std.proofs.lemmas.Bool.{cases_lt}
@@ -89,3 +90,29 @@ listed_same marks i nodes a n = record {
     | inr e ↦ absurd (n (subst (IsMarked marks) (sym e) m))
   ];
 }
+
+-- a node isn't among the nodes exactly where its mark isn't set
+pub outside : (marks : List Bool) (nodes : List ℕ) (v : ℕ) (b : Bool) → (IsTrue b ↔ IsMarked marks v)
+    → ((u : ℕ) → Contains nodes u → IsMarked marks u) → ((u : ℕ) → (Contains nodes u → ⊥) → IsMarked marks u → ⊥)
+    → IsTrue (not b) ↔ (Contains nodes v → ⊥)
+outside marks nodes v true is marked unmarked = (
+  λ e. absurd (true≢false (sym e)),
+  λ out. absurd (unmarked v out (is.0 refl)),
+)
+outside marks nodes v false is marked unmarked = (
+  λ e. λ there. true≢false (sym (is.1 (marked v there))),
+  λ out. refl,
+)
+
+-- the marked nodes ascend
+pub listed_ascend : (marks : List Bool) (n : ℕ) (nodes : List ℕ) → AreListed marks n nodes → IsStrictlyIncreasing nodes
+listed_ascend marks n nodes a = λ k h. a.ascends k (k + 1) 0 (omega arith) h
+
+-- and are nodes
+pub listed_there : (marks : List Bool) (n : ℕ) (nodes : List ℕ) → AreListed marks n nodes → All (λ v. v < n) nodes
+listed_there marks n nodes a = λ k d h. (a.marked (get_or nodes k d) (Contains-get_or nodes k d h)).1
+
+-- what isn't among them isn't marked
+pub listed_unmarked : (marks : List Bool) (n : ℕ) (nodes : List ℕ) → length marks ≡ n → AreListed marks n nodes
+    → (v : ℕ) → (Contains nodes v → ⊥) → IsMarked marks v → ⊥
+listed_unmarked marks n nodes size a v out m = out (a.complete v (omega (arith, in_range marks v m, size)) m)

@@ -13,7 +13,7 @@ use route_lattice::{Move, Moves};
 /// The moves of another set of moves, turned round.
 #[derive(Drop)]
 pub struct Backwards<'a, M: Moves> {
-    pub m: &'a M,
+    pub moves: &'a M,
 }
 
 impl<M: Moves> SoundMoves<'_, M> {
@@ -53,25 +53,25 @@ impl<M: Moves> SoundMoves<'_, M> {
 }
 
 impl<M: Moves> Moves for Backwards<'_, M> {
-    ghost graph = { λ s. backwards (M.graph s.m.now) };
+    ghost graph = { λ s. backwards (M.graph s.moves.now) };
 
-    ghost ready = { λ s. M.ready s.m.now × IsSound (M.graph s.m.now) };
+    ghost ready = { λ s. M.ready s.moves.now × IsSound (M.graph s.moves.now) };
 
     fn count(&self) -> u32 {
-        self.m.count()
+        self.moves.count()
     }
 
     fn arity(&self) -> u32 {
-        self.m.arity()
+        self.moves.arity()
     }
 
     fn at(&self, node: u32, i: u32) -> Option<(Move, u32)> {
-        self.m.at(node, i)
+        self.moves.at(node, i)
     }
 
     fn is_open(&self, node: u32, i: u32) -> bool {
-        match self.m.at(node, i) {
-            Some((_, from)) => SoundMoves { moves: self.m }.leads(from, node),
+        match self.moves.at(node, i) {
+            Some((_, from)) => SoundMoves { moves: self.moves }.leads(from, node),
             None => false,
         }
     }

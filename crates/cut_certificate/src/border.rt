@@ -1,16 +1,19 @@
 //! The moves that lead out of a set of nodes, listed and checked.
-//! All look-ups are binary searches in ascending lists.
+//! Look-ups are binary searches in ascending lists, but by marks where a flood has left them.
 
-ghost use Rattle.std.specs.Prelude.{◌≡◌, ℕ, ◌<◌, ◌↔◌, All, Contains, IsTrue, IfOk, OnOk, IsSome, IfNone, Some};
+ghost use Rattle.std.specs.Prelude.{◌≡◌, ℕ, ◌<◌, ◌↔◌, All, Contains, length, IsTrue, IfOk, OnOk, IsSome, IfNone, Some};
 ghost use Rattle.std.specs.List.Sorted.{IsStrictlyIncreasing};
 ghost use Rattle.cut_certificate.specs.declared.cut.Blocker.{Blocker as OneBlocker};
 ghost use Rattle.cut_certificate.specs.Border.{LeadsOut, IsBefore, AreInOrder, IsListed, IsBlock, AreBlocks};
-ghost use Rattle.cut_certificate.specs.inner.Listing.{AllListed, AreEarlier, Extends, IsClosed, Closes};
+ghost use Rattle.cut_certificate.specs.inner.Listing.{AllListed, AreEarlier, Extends, IsClosed, IsBorder, Closes};
+ghost use Rattle.cut_certificate.specs.inner.Marks.{AreListed, IsMarked};
 ghost use Rattle.cut_certificate.specs.Same.{SameMoves};
 ghost use Rattle.cut_certificate.specs.Goals.{Meets};
 
 use crate::cut::{Block, Blocker};
+use crate::marks::Marks;
 use crate::sound::SoundMoves;
+use crate::spread::Flooded;
 use geo_kernel::List;
 use route_lattice::{Moves, Reach};
 use std::alloc::{AllocError, Global};
@@ -236,6 +239,69 @@ impl<M: Shuts> MoveNodes<'_, M> {
         let list = BlockList { blocks: blocked };
         self.nodes_listed(&list)
     }
+}
+
+/// Whether the blocks are, in order, exactly the moves of the nodes that lead out, each with what shuts it.
+pub(crate) fn are_blocks<'a, M: Shuts>(
+    on: SoundMoves<'a, M>,
+    nodes: &'a [u32],
+    blocked: &[Block],
+) -> bool
+    requires ascend { IsStrictlyIncreasing nodes.now }
+    requires there { All (λ v. v < (M.graph on).count) nodes.now }
+    ensures { IsTrue result ↔ AreBlocks (M.graph on.entry).at (M.graph on.entry).arity (M.shut_by on.entry) nodes.now
+        blocked.now }
+{
+    let held = MoveNodes { on, nodes };
+    held.are_blocks(blocked)
+}
+
+/// Whether one of the nodes, which ascend, is a goal.
+pub fn meets(nodes: &[u32], goals: &[u32]) -> bool
+    requires { IsStrictlyIncreasing nodes.now }
+    ensures { IsTrue result ↔ Meets nodes.now goals.now }
+{
+    for goal in goals {
+        if has(nodes, *goal) {
+            return true;
+        }
+    }
+    false
+}
+
+/// Nodes of some moves, ascending, and the marks on them.
+#[derive(Drop)]
+struct MarkedNodes<'a, M: Shuts> {
+    on: SoundMoves<'a, M>,
+    nodes: &'a [u32],
+    marks: &'a Marks,
+    ghost ascend: { IsStrictlyIncreasing nodes.now },
+    ghost there: { All (λ v. v < (M.graph on).count) nodes.now },
+    ghost size: { length marks.now ≡ (M.graph on).count },
+    ghost marked: { (v : ℕ) → Contains nodes.now v → IsMarked marks.now v },
+    ghost unmarked: { (v : ℕ) → (Contains nodes.now v → ⊥) → IsMarked marks.now v → ⊥ },
+}
+
+impl<M: Shuts> MarkedNodes<'_, M> {
+    /// Whether the node isn't among the nodes.
+    fn is_outside(&self, node: u32) -> bool
+        requires { node < (M.graph self.now.on).count }
+        ensures { IsTrue result ↔ (Contains self.now.nodes.now node → ⊥) }
+    {
+        !self.marks.has(node)
+    }
+
+    fn leads_out(&self, node: u32, index: u32) -> bool
+        requires node { node < (M.graph self.now.on).count }
+        requires index { index < (M.graph self.now.on).arity }
+        ensures { IsTrue result ↔ LeadsOut (M.graph self.now.on).at self.now.nodes.now node index }
+    {
+        self.on.are_sound();
+        match self.on.moves.at(node, index) {
+            None => false,
+            Some((_, to)) => self.is_outside(to),
+        }
+    }
 
     /// Appends the moves of a node that lead out.
     fn push_blocks(&self, node: u32, blocked: &mut Vec<Block>) -> Result<(), AllocError>
@@ -273,32 +339,41 @@ impl<M: Shuts> MoveNodes<'_, M> {
     }
 }
 
-/// Whether the blocks are, in order, exactly the moves of the nodes that lead out, each with what shuts it.
-pub(crate) fn are_blocks<'a, M: Shuts>(
-    on: SoundMoves<'a, M>,
-    nodes: &'a [u32],
-    blocked: &[Block],
-) -> bool
-    requires ascend { IsStrictlyIncreasing nodes.now }
-    requires there { All (λ v. v < (M.graph on).count) nodes.now }
-    ensures { IsTrue result ↔ AreBlocks (M.graph on.entry).at (M.graph on.entry).arity (M.shut_by on.entry) nodes.now
-        blocked.now }
+/// The border of the nodes of a flood, or None where a goal is among them.
+fn border_of<M: Shuts>(
+    alloc: Global,
+    shuts: SoundMoves<'_, M>,
+    flooded: Flooded,
+    goals: &List<u32>,
+) -> Result<Option<Border>, AllocError>
+    requires size { length flooded.marks ≡ (M.graph shuts).count }
+    requires listed { AreListed flooded.marks (M.graph shuts).count flooded.reach.nodes }
+    requires closed { IsClosed (M.graph shuts).at (M.graph shuts).arity (M.graph shuts).open_at flooded.reach.nodes }
+    ensures { IfOk result (IsBorder (M.graph shuts.entry) (M.shut_by shuts.entry) flooded.reach.nodes goals.now) }
 {
-    let held = MoveNodes { on, nodes };
-    held.are_blocks(blocked)
-}
-
-/// Whether one of the nodes is a goal.
-pub(crate) fn meets(nodes: &[u32], goals: &[u32]) -> bool
-    requires { IsStrictlyIncreasing nodes.now }
-    ensures { IsTrue result ↔ Meets nodes.now goals.now }
-{
-    for goal in goals {
-        if has(nodes, *goal) {
-            return true;
+    if meets(flooded.reach.nodes.as_slice(), goals.as_slice()) {
+        drop(flooded);
+        return Ok(None);
+    }
+    let held = MarkedNodes {
+        on: shuts,
+        nodes: flooded.reach.nodes.as_slice(),
+        marks: &flooded.marks,
+    };
+    let blocked = held.blocks_of(alloc);
+    drop(held);
+    let Flooded { reach, marks } = flooded;
+    drop(marks);
+    match blocked {
+        Ok(blocked) => Ok(Some(Border {
+            reach,
+            blocked: List::from_vec(blocked),
+        })),
+        Err(error) => {
+            drop(reach);
+            Err(error)
         }
     }
-    false
 }
 
 /// The border of all that open moves reach from the starts, or None where they reach a goal. The flood goes over
@@ -316,25 +391,6 @@ pub(crate) fn close<M: Shuts, L: Moves>(
 {
     shuts.are_sound();
     shuts.have_prices();
-    let reach = legal.flood(alloc, starts)?;
-    if meets(reach.nodes.as_slice(), goals.as_slice()) {
-        drop(reach);
-        return Ok(None);
-    }
-    let held = MoveNodes {
-        on: shuts,
-        nodes: reach.nodes.as_slice(),
-    };
-    let blocked = held.blocks_of(alloc);
-    drop(held);
-    match blocked {
-        Ok(blocked) => Ok(Some(Border {
-            reach,
-            blocked: List::from_vec(blocked),
-        })),
-        Err(error) => {
-            drop(reach);
-            Err(error)
-        }
-    }
+    let flooded = legal.flood_marked(alloc, starts)?;
+    border_of(alloc, shuts, flooded, goals)
 }

@@ -17,6 +17,7 @@ mod sound;
 mod spread;
 
 pub use backwards::Backwards;
+pub use border::meets;
 pub use check::{check_cut, cut_closes};
 pub use cut::{Block, Blocker, Cut};
 pub use laws::legal_moves_lead_back;

@@ -19,39 +19,39 @@ use std::alloc::{AllocError, Global};
 /// The moves to nodes beyond some others, which ascend.
 #[derive(Drop)]
 struct Beyond<'a, M: Moves> {
-    m: &'a M,
+    moves: &'a M,
     nodes: &'a [u32],
 }
 
 impl<M: Moves> Moves for Beyond<'_, M> {
-    ghost graph = { λ s. beyond (M.graph s.m.now) s.nodes.now };
+    ghost graph = { λ s. beyond (M.graph s.moves.now) s.nodes.now };
 
-    ghost ready = { λ s. M.ready s.m.now × IsStrictlyIncreasing s.nodes.now };
+    ghost ready = { λ s. M.ready s.moves.now × IsStrictlyIncreasing s.nodes.now };
 
     fn count(&self) -> u32 {
-        self.m.count()
+        self.moves.count()
     }
 
     fn arity(&self) -> u32 {
-        self.m.arity()
+        self.moves.arity()
     }
 
     fn at(&self, node: u32, i: u32) -> Option<(Move, u32)> {
-        self.m.at(node, i)
+        self.moves.at(node, i)
     }
 
     fn is_open(&self, node: u32, i: u32) -> bool {
-        let Some((_, to)) = self.m.at(node, i) else {
+        let Some((_, to)) = self.moves.at(node, i) else {
             return false;
         };
         if has(self.nodes, to) {
             return false;
         }
-        self.m.is_open(node, i)
+        self.moves.is_open(node, i)
     }
 
     fn price(&self, node: u32, i: u32) -> u64 {
-        self.m.price(node, i)
+        self.moves.price(node, i)
     }
 }
 
@@ -125,7 +125,7 @@ impl<M: Moves> SoundMoves<'_, M> {
         let mut ends = List::from_slice(alloc, starts.as_slice())?;
         self.push_ends(&mut ends, cut.blocked.as_slice(), id)?;
         let moves = Beyond {
-            m: self.moves,
+            moves: self.moves,
             nodes,
         };
         let reach = flood(alloc, &moves, &ends)?;
@@ -138,17 +138,17 @@ impl<M: Moves> SoundMoves<'_, M> {
 /// moved. `AllocError` comes only for want of memory.
 pub fn may_lead_past<M: Moves>(
     alloc: Global,
-    m: &M,
+    moves: &M,
     cut: &Cut,
     id: u64,
     starts: &List<u32>,
     goals: &List<u32>,
 ) -> Result<bool, AllocError>
-    requires ready { M.ready m.now }
-    requires sound { IsSound (M.graph m.now) }
-    requires cut { IsCutPast (M.graph m.now) cut.now id }
-    requires starts { All (λ s. s < (M.graph m.now).count) starts.now }
-    ensures { IfOk result (λ led. OnFalse led (NoneLeads (M.graph m.now) starts.now goals.now)) }
+    requires ready { M.ready moves.now }
+    requires sound { IsSound (M.graph moves.now) }
+    requires cut { IsCutPast (M.graph moves.now) cut.now id }
+    requires starts { All (λ s. s < (M.graph moves.now).count) starts.now }
+    ensures { IfOk result (λ led. OnFalse led (NoneLeads (M.graph moves.now) starts.now goals.now)) }
 {
-    SoundMoves { moves: m }.may_lead_past(alloc, cut, id, starts, goals.as_slice())
+    SoundMoves { moves }.may_lead_past(alloc, cut, id, starts, goals.as_slice())
 }

@@ -5,15 +5,24 @@ ghost use Rattle.std.specs.Prelude.{◌≡◌, ◌<◌, ◌+◌, ℕ, length, Al
 ghost use Rattle.std.specs.Bool.{OnTrue, OnFalse};
 ghost use Rattle.route_lattice.specs.Walks.{IsSound, IsReach, NoneLeads};
 ghost use Rattle.cut_certificate.specs.Backwards.{IsMutual};
-ghost use Rattle.cut_certificate.specs.inner.Marks.{IsMarked, Gains, IsLedTo, IsNext, IsBlank, IsFlood, fill_of};
+ghost use Rattle.cut_certificate.specs.inner.Marks.{IsMarked, Gains, IsLedTo, IsNext, IsBlank, IsFlood, AreListed};
+ghost use Rattle.cut_certificate.specs.inner.Marks.{fill_of};
 
 use crate::backwards::Backwards;
 use crate::check::all_below;
 use crate::front::Front;
+use crate::marks::Marks;
 use crate::sound::SoundMoves;
 use geo_kernel::List;
 use route_lattice::{Moves, Reach};
 use std::alloc::{AllocError, Global};
+
+/// Nodes, ascending, and the marks on them.
+#[derive(Drop)]
+pub(crate) struct Flooded {
+    pub reach: Reach,
+    pub marks: Marks,
+}
 
 /// Marks the starts.
 fn seed(front: &mut Front, starts: &[u32]) -> Result<(), AllocError>
@@ -74,16 +83,37 @@ impl<M: Moves> SoundMoves<'_, M> {
         Ok(())
     }
 
-    /// All nodes that open moves reach from the starts.
-    pub(crate) fn flood(&self, alloc: Global, starts: &List<u32>) -> Result<Reach, AllocError>
+    /// All nodes that open moves reach from the starts, and the marks on them.
+    pub(crate) fn flood_marked(
+        &self,
+        alloc: Global,
+        starts: &List<u32>,
+    ) -> Result<Flooded, AllocError>
         requires { All (λ s. s < (M.graph self.now).count) starts.now }
-        ensures { IfOk result (λ r. IsReach (M.graph self.now) starts.now r.nodes) }
+        ensures reach { IfOk result (λ f. IsReach (M.graph self.now) starts.now f.reach.nodes) }
+        ensures marks { IfOk result (λ f. AreListed f.marks (M.graph self.now).count f.reach.nodes) }
+        ensures size { IfOk result (λ f. length f.marks ≡ (M.graph self.now).count) }
     {
         let count = self.count();
         let mut front = Front::new(alloc, count)?;
         self.mark_reached(&mut front, starts)?;
         let nodes = front.marked(alloc)?;
-        Ok(Reach { nodes })
+        let Front { marks, waiting } = front;
+        drop(waiting);
+        Ok(Flooded {
+            reach: Reach { nodes },
+            marks,
+        })
+    }
+
+    /// All nodes that open moves reach from the starts.
+    pub(crate) fn flood(&self, alloc: Global, starts: &List<u32>) -> Result<Reach, AllocError>
+        requires { All (λ s. s < (M.graph self.now).count) starts.now }
+        ensures { IfOk result (λ r. IsReach (M.graph self.now) starts.now r.nodes) }
+    {
+        let Flooded { reach, marks } = self.flood_marked(alloc, starts)?;
+        drop(marks);
+        Ok(reach)
     }
 
     /// Marks all nodes that open moves reach from the starts, or stops once more than `most` nodes have been followed.
@@ -112,13 +142,13 @@ impl<M: Moves> SoundMoves<'_, M> {
 }
 
 /// All nodes that open moves reach from the starts.
-pub fn flood<M: Moves>(alloc: Global, m: &M, starts: &List<u32>) -> Result<Reach, AllocError>
-    requires ready { M.ready m.now }
-    requires sound { IsSound (M.graph m.now) }
-    requires starts { All (λ s. s < (M.graph m.now).count) starts.now }
-    ensures { IfOk result (λ r. IsReach (M.graph m.now) starts.now r.nodes) }
+pub fn flood<M: Moves>(alloc: Global, moves: &M, starts: &List<u32>) -> Result<Reach, AllocError>
+    requires ready { M.ready moves.now }
+    requires sound { IsSound (M.graph moves.now) }
+    requires starts { All (λ s. s < (M.graph moves.now).count) starts.now }
+    ensures { IfOk result (λ r. IsReach (M.graph moves.now) starts.now r.nodes) }
 {
-    SoundMoves { moves: m }.flood(alloc, starts)
+    SoundMoves { moves }.flood(alloc, starts)
 }
 
 /// Whether one of the nodes is marked.
@@ -138,22 +168,22 @@ fn any_marked(front: &Front, nodes: &[u32]) -> bool
 /// among these.
 pub fn are_shut_in<M: Moves>(
     alloc: Global,
-    m: &M,
+    moves: &M,
     starts: &List<u32>,
     goals: &List<u32>,
     most: u32,
 ) -> Result<bool, AllocError>
-    requires ready { M.ready m.now }
-    requires sound { IsSound (M.graph m.now) }
-    requires turns { IsMutual (M.graph m.now) }
-    requires starts { All (λ s. s < (M.graph m.now).count) starts.now }
-    ensures { IfOk result (λ shut. OnTrue shut (NoneLeads (M.graph m.now) starts.now goals.now)) }
+    requires ready { M.ready moves.now }
+    requires sound { IsSound (M.graph moves.now) }
+    requires turns { IsMutual (M.graph moves.now) }
+    requires starts { All (λ s. s < (M.graph moves.now).count) starts.now }
+    ensures { IfOk result (λ shut. OnTrue shut (NoneLeads (M.graph moves.now) starts.now goals.now)) }
 {
-    let count = m.count();
+    let count = moves.count();
     if goals.len() > most as usize || !all_below(goals.as_slice(), count) {
         return Ok(false);
     }
-    let turned = Backwards { m };
+    let turned = Backwards { moves };
     let mut front = Front::new(alloc, count)?;
     let turned = SoundMoves { moves: &turned };
     if !turned.mark_within(&mut front, goals, most)? {

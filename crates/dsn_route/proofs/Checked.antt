@@ -38,7 +38,7 @@ use Rattle.dsn_route.proofs.Wording.{one_input, one_name, text_input}
 pub started_from : (command : Command) (session : List ℕ) (desk : DeskState) (read e : Design) → AsksToRoute command
     → IsSessionOf command session → IsStartedBy (from_of command) desk read e
     → (items : List SesItem) × IsSessionIn session desk read items
-started_from (Route input output from knobs) session desk read e routes named starts =
+started_from (Route input output from diagonal knobs) session desk read e routes named starts =
     let held = subst (λ (f : Option (List ℕ)). IsStartedBy f desk read e) named starts in
     (held.0, held.1)
 started_from (Check input told report) session desk read e routes named starts = absurd routes
@@ -52,11 +52,12 @@ BothRead input session desk =
 which_long : (command : Command) (input session : List ℕ) (desk : DeskState) (line : List ℕ) → IsInputOf command input
     → IsSessionOf command session → IsOverlong command desk line
     → IsTooLong desk.files input max_bytes ⊎ (IsTooLong desk.files session max_bytes ⊎ BothRead input session desk)
-which_long (Route name output from knobs) input session desk line is named (inl long, l) =
+which_long (Route name output from diagonal knobs) input session desk line is named (inl long, l) =
     inl (subst (λ (n : List ℕ). IsTooLong desk.files n max_bytes) (sym is) long)
-which_long (Route name output from knobs) input session desk line is named (inr (old, given, d, first, long), l) =
+which_long (Route name output from diagonal knobs) input session desk line is named
+    (inr (old, given, d, first, long), l) =
     inr (inl (subst (λ (n : List ℕ). IsTooLong desk.files n max_bytes)
-    (one_name (Route name output from knobs) old session given named) long))
+    (one_name (Route name output from diagonal knobs) old session given named) long))
 which_long (Check name told report) input session desk line is named (inl long, l) =
     inl (subst (λ (n : List ℕ). IsTooLong desk.files n max_bytes) (sym is) long)
 which_long (Check name told report) input session desk line is named (inr (d, first, inl long), l) =

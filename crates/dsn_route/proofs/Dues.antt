@@ -53,7 +53,8 @@ one_text (Some m) name text other held is = ap (λ (o : Option (List ℕ)). unwr
 -- a text that is told at entry is the one that is read
 same_of : (command : Command) (desk : DeskState) (text other : List ℕ) → IsToldText command desk text
     → IsText command desk other → other ≡ text
-same_of (Route input output from knobs) desk text other held is = one_text desk.files input text other held is.file
+same_of (Route input output from diagonal knobs) desk text other held is =
+    one_text desk.files input text other held is.file
 same_of (Check input session report) desk text other held is = one_text desk.files input text other held is.file
 same_of (Gen n) desk text other told is = is ∙ sym told
 
@@ -104,9 +105,10 @@ not_long (Some m) name text held fits long =
 unfit_not_long : (command : Command) (desk : DeskState) (text line : List ℕ) → IsToldText command desk text
     → length text ≤ max_bytes → ((other : List ℕ) (d : Design) → IsText command desk other → HasDesign other d → ⊥)
     → IsOverlong command desk line → ⊥
-unfit_not_long (Route input output from knobs) desk text line held fits none (inl long, is) =
+unfit_not_long (Route input output from diagonal knobs) desk text line held fits none (inl long, is) =
     not_long desk.files input text held fits long
-unfit_not_long (Route input output from knobs) desk text line held fits none (inr (old, named, d, first, rest), is) =
+unfit_not_long (Route input output from diagonal knobs) desk text line held fits none
+    (inr (old, named, d, first, rest), is) =
     none first.text d first.is_text first.reads
 unfit_not_long (Check input session report) desk text line held fits none (inl long, is) =
     not_long desk.files input text held fits long
@@ -117,9 +119,9 @@ unfit_not_long (Gen n) desk text line told fits none why = absurd why.0
 not_overlong : (command : Command) (desk : DeskState) (text line : List ℕ) (read d : Design) → AsksToRoute command
     → IsToldText command desk text → length text ≤ max_bytes → IsStartHeld (from_of command) desk read d
     → IsOverlong command desk line → ⊥
-not_overlong (Route input output from knobs) desk text line read d routes held fits starts (inl long, is) =
+not_overlong (Route input output from diagonal knobs) desk text line read d routes held fits starts (inl long, is) =
     not_long desk.files input text held fits long
-not_overlong (Route input output from knobs) desk text line read d routes held fits starts
+not_overlong (Route input output from diagonal knobs) desk text line read d routes held fits starts
     (inr (old, named, e, first, long), is) =
     let h : IsOldHeld old desk read d = subst (λ (f : Option (List ℕ)). IsStartHeld f desk read d) named starts in
     not_long desk.files old h.told h.held h.fits long
@@ -134,7 +136,7 @@ not_routed command desk answer j routes = subst AsksToRoute j.command_is routes
 not_misread : OneOutcome → OneSession → (command : Command) (desk : DeskState) (text : List ℕ) (read d : Design)
     (place : ℕ) → HasMisread command desk place → IsToldText command desk text → HasDesign text read
     → IsStartHeld (from_of command) desk read d → AsksToRoute command → ⊥
-not_misread single one (Route input output from knobs) desk text read d place m told reads starts routes =
+not_misread single one (Route input output from diagonal knobs) desk text read d place m told reads starts routes =
     let h : IsOldHeld m.session desk read d =
     subst (λ (f : Option (List ℕ)). IsStartHeld f desk read d) m.is_session starts in
     let first : m.of_input.text ≡ text = one_text desk.files input text m.of_input.text told
@@ -348,10 +350,10 @@ not_unread : (command : Command) (desk later : DeskState) (sink after : SinkStat
     (read d : Design) → AsksToRoute command → IsToldText command desk text
     → IsStartHeld (from_of command) desk read d → HasNoFault desk later sink after
     → IsUnread command desk later line → ⊥
-not_unread (Route input output from knobs) desk later sink after text line read d routes held starts calm
+not_unread (Route input output from diagonal knobs) desk later sink after text line read d routes held starts calm
     (inl fault, is) =
     no_desk_fault desk later sink after calm fault (not_absent desk.files input text held)
-not_unread (Route input output from knobs) desk later sink after text line read d routes held starts calm
+not_unread (Route input output from diagonal knobs) desk later sink after text line read d routes held starts calm
     (inr (old, named, e, first, fault), is) =
     let h : IsOldHeld old desk read d = subst (λ (f : Option (List ℕ)). IsStartHeld f desk read d) named starts in
     no_desk_fault desk later sink after calm fault (not_absent desk.files old h.told h.held)
@@ -361,7 +363,7 @@ not_unread (Gen n) desk later sink after text line read d routes _ starts calm w
 
 not_cut_short : (command : Command) (b : BoardOf) (desk later : DeskState) (sink after : SinkState)
     → HasNoFault desk later sink after → SessionFaulted command b desk later sink after → ⊥
-not_cut_short (Route input output from knobs) b desk later sink after calm s =
+not_cut_short (Route input output from diagonal knobs) b desk later sink after calm s =
     no_desk_fault desk later sink after calm s.fault (λ no. no)
 not_cut_short (Check input session report) b desk later sink after calm s = absurd s
 not_cut_short (Gen n) b desk later sink after calm s = absurd s

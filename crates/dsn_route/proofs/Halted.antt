@@ -75,15 +75,16 @@ not_long_read desk name text told is long =
 -- no file is too long where the one that is come to is absent
 not_both : (desk : DeskState) (command : Command) → OfFiles (λ name. IsAbsent desk.files name) command desk
     → OfFiles (λ name. IsTooLong desk.files name max_bytes) command desk → ⊥
-not_both desk (Route input output from knobs) (inl gone) (inl long) = none_long desk.files input gone long
-not_both desk (Route input output from knobs) (inl gone) (inr (old, named, d, first, long)) =
+not_both desk (Route input output from diagonal knobs) (inl gone) (inl long) = none_long desk.files input gone long
+not_both desk (Route input output from diagonal knobs) (inl gone) (inr (old, named, d, first, long)) =
     not_read desk.files input first.text gone first.is_text.file
-not_both desk (Route input output from knobs) (inr (old, named, d, first, gone)) (inl long) =
+not_both desk (Route input output from diagonal knobs) (inr (old, named, d, first, gone)) (inl long) =
     not_long_read desk input first.text (told_absent desk.files old gone) first.is_text long
-not_both desk (Route input output from knobs) (inr (old, named, d, first, gone)) (inr (other, again, e, more, long)) =
+not_both desk (Route input output from diagonal knobs) (inr (old, named, d, first, gone))
+    (inr (other, again, e, more, long)) =
     none_long desk.files old gone
     (subst (λ (n : List ℕ). IsTooLong desk.files n max_bytes)
-    (one_name (Route input output from knobs) other old again named) long)
+    (one_name (Route input output from diagonal knobs) other old again named) long)
 not_both desk (Check input session report) (inl gone) (inl long) = none_long desk.files input gone long
 not_both desk (Check input session report) (inl gone) (inr (d, first, rest)) =
     not_read desk.files input first.text gone first.is_text.file
@@ -193,10 +194,10 @@ module _ (single : OneOutcome) (one : OneSession) (desk : DeskState) (P : List �
     (told : (name : List ℕ) → P name → IsTold desk.files)
     (none : (name text : List ℕ) → P name → IsInput name desk text → ⊥) where
   halted : (command : Command) → OfFiles P command desk → IsHalted command desk
-  halted (Route input output from knobs) (inl p) =
-      textless (Route input output from knobs) desk (λ text is. none input text p is)
-  halted (Route input output from knobs) (inr (old, named, d, first, p)) =
-      sessionless single one desk (told old p) (Route input output from knobs) input old refl named d first
+  halted (Route input output from diagonal knobs) (inl p) =
+      textless (Route input output from diagonal knobs) desk (λ text is. none input text p is)
+  halted (Route input output from diagonal knobs) (inr (old, named, d, first, p)) =
+      sessionless single one desk (told old p) (Route input output from diagonal knobs) input old refl named d first
       (λ text is. none old text p is)
   halted (Check input session report) (inl p) =
       textless (Check input session report) desk (λ text is. none input text p is)

@@ -81,7 +81,7 @@ placed text tree_fault.Empty place has is = (has, λ no. no)
 module _ (text : List ℕ) (d : Design) (reads : HasDesign text d) (told page : List ℕ) (w : AreOfRun d told page) where
   -- the run as it was made
   abbrev ran : RunOf
-  ran = record (run_at w.knobs) { workers = w.run.workers }
+  ran = record (run_at w.knobs w.diagonal) { workers = w.run.workers }
 
   few_workers : ran.workers ≤ CLOSER
   few_workers =

@@ -58,8 +58,8 @@ module _ (desk later : DeskState) (faults : ℕ) (calm : Bool) (le : desk.faults
   -- one of the files of a command
   of_files : (P Q : List ℕ → Type 0) → ((name : List ℕ) → P name → Q name) → (command : Command)
       → OfFiles P command (at desk.files faults calm) → OfFiles Q command desk
-  of_files P Q to (Route input output from knobs) (inl first) = inl (to input first)
-  of_files P Q to (Route input output from knobs) (inr (old, named, d, first, second)) =
+  of_files P Q to (Route input output from diagonal knobs) (inl first) = inl (to input first)
+  of_files P Q to (Route input output from diagonal knobs) (inr (old, named, d, first, second)) =
       inr (old, named, d, design_in input d first, to old second)
   of_files P Q to (Check input session report) one = one_file P Q to input session report one
   of_files P Q to (Gen n) one = absurd one
@@ -98,7 +98,7 @@ module _ (desk later : DeskState) (faults : ℕ) (calm : Bool) (le : desk.faults
 
   is_text : (command : Command) (text : List ℕ) → IsText command (at desk.files faults calm) text
       → IsText command desk text
-  is_text (Route input output from knobs) text is = input_in input text is
+  is_text (Route input output from diagonal knobs) text is = input_in input text is
   is_text (Check input session report) text is = input_in input text is
   is_text (Gen n) text is = is
 
@@ -135,14 +135,14 @@ module _ (desk later : DeskState) (faults : ℕ) (calm : Bool) (le : desk.faults
 
   written : (command : Command) (b : BoardOf) → HasWritten command b (at desk.files faults calm) later
       → HasWritten command b desk later
-  written (Route input output from knobs) b has = has
+  written (Route input output from diagonal knobs) b has = has
   written (Check input session report) b has = absurd has
   written (Gen n) b has = has
 
   cut_short : (command : Command) (b : BoardOf) (sink after : SinkState)
       → SessionFaulted command b (at desk.files faults calm) later sink after
       → SessionFaulted command b desk later sink after
-  cut_short (Route input output from knobs) b sink after s =
+  cut_short (Route input output from diagonal knobs) b sink after s =
       record { fault = faulted s.fault; kept = s.kept; files = s.files; bytes = s.bytes }
   cut_short (Check input session report) b sink after s = absurd s
   cut_short (Gen n) b sink after s = absurd s
@@ -286,7 +286,8 @@ session_stays name desk middle d items same is =
 
 pub text_stays : (command : Command) (text : List ℕ) (desk middle : DeskState) → middle.files ≡ desk.files
     → IsText command desk text → IsText command middle text
-text_stays (Route input output from knobs) text desk middle same is = input_stays input text desk middle same is
+text_stays (Route input output from diagonal knobs) text desk middle same is =
+    input_stays input text desk middle same is
 text_stays (Check input session report) text desk middle same is = input_stays input text desk middle same is
 text_stays (Gen n) text desk middle same is = is
 

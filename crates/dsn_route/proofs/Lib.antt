@@ -13,3 +13,4 @@ mod Vouching
 mod Written
 mod Wording
 mod Joined
+mod Shutting

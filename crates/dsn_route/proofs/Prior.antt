@@ -20,7 +20,7 @@ pub record AreFiles (command : Command) (old : List ℕ) (desk : DeskState) (rea
 
 pub files_of : (command : Command) (old : List ℕ) (desk : DeskState) (read : Design) → from_of command ≡ Some old
     → IsReadFor command desk read → AreFiles command old desk read
-files_of (Route input output from knobs) old desk read named is = record {
+files_of (Route input output from diagonal knobs) old desk read named is = record {
   input = input;
   is_input = refl;
   is_session = named;

@@ -34,7 +34,7 @@ SessionsComeBack = (text : List ℕ) (b : BoardOf) (old : List SesItem) (dropped
 module _ (law : SessionsComeBack) (single : OneOutcome) (found : Result Command WordFault) (desk : DeskState)
     (b : BoardOf) (given : IsFromBoard found desk b) where
   abbrev asked : Command
-  asked = Route given.input given.output (Some given.from) given.knobs
+  asked = Route given.input given.output (Some given.from) given.diagonal given.knobs
 
   -- a run of a design that starts from that session
   run_back : (made : Routed) (d : Design) → IsDesignOf asked desk d

@@ -155,7 +155,7 @@ pub record IsOutcome (command : Command) (desk : DeskState) (routed : Routed) : 
 
 -- the files are those where all went well: the output is the session, whole, or nothing is written of a generated board
 abbrev pub HasWritten : Command → BoardOf → DeskState → DeskState → Type 0
-HasWritten (Route input output from knobs) b desk later =
+HasWritten (Route input output from diagonal knobs) b desk later =
     later.files ≡ written desk.files output (session_of b.design b.items knobs.omit_fixed)
 HasWritten (Check input session report) b desk later = ⊥
 HasWritten (Gen n) b desk later = later.files ≡ desk.files
@@ -177,7 +177,7 @@ pub record IsCutShort (output session : List ℕ) (desk later : DeskState) (sink
   pub bytes : after.bytes ≡ sink.bytes
 
 abbrev pub SessionFaulted : Command → BoardOf → DeskState → DeskState → SinkState → SinkState → Type 0
-SessionFaulted (Route input output from knobs) b desk later sink after =
+SessionFaulted (Route input output from diagonal knobs) b desk later sink after =
     IsCutShort output (session_of b.design b.items knobs.omit_fixed) desk later sink after
 SessionFaulted (Check input session report) b desk later sink after = ⊥
 SessionFaulted (Gen n) b desk later sink after = ⊥

@@ -1,5 +1,6 @@
 -- Which answer is due: the causes of the answers, from the words, the files at entry and the text.
-use Rattle.std.specs.Prelude.{◌≡◌, ◌≤◌, ◌<◌, ◌⊎◌, ℕ, List, [], false, length, IsTrue, Result, Ok, Option, Some, None}
+use Rattle.std.specs.Prelude.{◌≡◌, ◌≤◌, ◌<◌, ◌⊎◌, ℕ, Bool, List, [], false, length, All, IsTrue, Result, Ok}
+use Rattle.std.specs.Prelude.{Option, Some, None}
 use Rattle.desk_io.specs.States.{DeskState, SinkState, Rose}
 use Rattle.desk_io.specs.Answers.{IsAbsent, IsHeld}
 use Rattle.pcb_model.specs.declared.design.Design.{Design}
@@ -22,7 +23,7 @@ use Rattle.pcb_board.specs.Keeping.{IsBoard}
 use Rattle.pcb_model.specs.Scale.{scale_of}
 use Rattle.pcb_islands.specs.declared.net.Island.{Island}
 use Rattle.route_run.specs.declared.facts.Facts.{Facts}
-use Rattle.route_run.specs.Runs.{IsSomeRun}
+use Rattle.route_run.specs.Runs.{IsSomeRun, IsWideShut}
 use Rattle.route_run.specs.declared.run.Routed.{Routed}
 use Rattle.route_report.specs.Report.{report_of}
 use Rattle.route_words.specs.Words.{AreWithin}
@@ -171,8 +172,9 @@ pub record IsFromBoard (command : Result Command WordFault) (desk : DeskState) (
   pub input : List ℕ
   pub output : List ℕ
   pub from : List ℕ
+  pub diagonal : Bool
   pub knobs : Knobs
-  pub accepted : command ≡ Ok (Route input output (Some from) knobs)
+  pub accepted : command ≡ Ok (Route input output (Some from) diagonal knobs)
   pub text : List ℕ
   pub held : IsHeld desk.files input text
   pub reads : HasDesign text b.design
@@ -185,6 +187,13 @@ pub record ComesBack (b : BoardOf) (routed : Routed) : Type 0 where
   pub none_dropped : routed.facts.dropped ≡ []
   pub copper : HaveSameCopper b.design b.items routed.board.start
 
+-- ---- moves at 45 degrees
+-- no walk over the net's moves, those at 45 degrees among them, leads from the island of a cut to another of its net
+pub record AreWideShut (knobs : Knobs) (routed : Routed) : Type 0 where
+  pub each : All
+      (IsWideShut routed.board.design (mesh_at knobs routed.board.design) routed.board.items knobs.via_cost)
+      routed.facts.cuts
+
 -- ---- check
 -- the lattice of the report's grid has at most 2^24 nodes
 abbrev pub HasFewNodes : Design → List ℕ → List ℕ → Type 0
@@ -194,11 +203,12 @@ HasFewNodes d told page = (items : List SesItem) (found : List (List Island)) (c
 -- the texts are the session and the report of a run of the design that a `route` asks for
 pub record AreOfRun (d : Design) (told page : List ℕ) : Type 0 where
   pub knobs : Knobs
+  pub diagonal : Bool
   pub within : AreWithin knobs
   pub board : BoardOf
   pub facts : Facts
   pub few : node_count (mesh_at knobs d) ≤ MOST_NODES
-  pub run : IsSomeRun d (mesh_at knobs d) (run_at knobs) board facts
+  pub run : IsSomeRun d (mesh_at knobs d) (run_at knobs diagonal) board facts
   pub small : AreSmall d board.items facts
   pub session_is : told ≡ session_of d board.items knobs.omit_fixed
   pub report_is : page ≡ report_of d (mesh_at knobs d) board.items facts false

@@ -92,7 +92,7 @@ OfOneFile P input session report desk =
 
 -- P holds of one of the files that the command reads, and those before it were read; a generated board has none
 abbrev pub OfFiles : (List ℕ → Type 0) → Command → DeskState → Type 0
-OfFiles P (Route input output from knobs) desk = OfInputs P input from desk
+OfFiles P (Route input output from diagonal knobs) desk = OfInputs P input from desk
 OfFiles P (Check input session report) desk = OfOneFile P input session report desk
 OfFiles P (Gen n) desk = ⊥
 

@@ -2,23 +2,26 @@
 //! one is named; the lattice, routing, write of the output, report; or words, and what `check` does.
 //! Each step that fails ends the call with the line of its cause.
 
-ghost use Rattle.std.specs.Prelude.{◌≡◌, ◌≤◌, ◌^◌, ℕ, List as Seq, Ok, IsErr, IfSome, length, option_map};
+ghost use Rattle.std.specs.Prelude.{◌≡◌, ◌≤◌, ◌^◌, ℕ, List as Seq, Ok, IsErr, IfSome, Option as Maybe, length};
+ghost use Rattle.std.specs.Prelude.{option_map, true};
 ghost use Rattle.pcb_model.specs.declared.design.Design.{Design as TheDesign};
 ghost use Rattle.pcb_model.specs.Sound.{IsSound};
 ghost use Rattle.pcb_model.specs.Plain.{IsPlainCopper};
 ghost use Rattle.route_lattice.specs.Mesh.{node_count};
 ghost use Rattle.route_words.specs.Words.{texts, command_of, IsWithin};
-ghost use Rattle.route_words.specs.declared.command.Command.TheVariants.{Check};
+ghost use Rattle.route_words.specs.declared.command.Command.TheVariants.{Check, Route};
+ghost use Rattle.route_words.specs.declared.command.Knobs.{Knobs as TheKnobs};
 ghost use Rattle.route_run.specs.Runs.{IsTask};
 ghost use Rattle.pcb_board.specs.Boards.{BoardOf};
 ghost use Rattle.dsn_route.specs.Lines.{number_of as number_told};
-ghost use Rattle.dsn_route.specs.Commands.{from_of, knobs_of as knobs_told, mesh_of, IsText, IsInputOf};
+ghost use Rattle.dsn_route.specs.Commands.{from_of, is_diagonal as is_slanted, knobs_of as knobs_told, mesh_of};
+ghost use Rattle.dsn_route.specs.Commands.{IsText, IsInputOf};
 ghost use Rattle.dsn_route.specs.Answers.{Answers};
 ghost use Rattle.dsn_route.specs.Judging.{IsDesignOf, IsNoSession, IsVouchedFor};
 ghost use Rattle.dsn_route.specs.inner.Said.{RoutesDesign, IsOrder, IsReadFor};
 ghost use Rattle.dsn_route.specs.Due.{IsMissing, IsLong, IsRead, IsUnfit, IsOver, IsTooFine, IsRoutable};
 ghost use Rattle.dsn_route.specs.Due.{IsDue, IsDueAfterRead, HasNoFault, IsDone};
-ghost use Rattle.dsn_route.specs.Due.{IsFromBoard, ComesBack};
+ghost use Rattle.dsn_route.specs.Due.{AreWideShut, IsFromBoard, ComesBack};
 ghost use Rattle.dsn_route.specs.Due.{IsSessionHeld, AreHeld, HasFewNodes, AreOfRun, IsJudgedDone, IsClean};
 
 use crate::Status;
@@ -39,7 +42,7 @@ use pcb_model::Design;
 use pcb_model::limits::MOST_BYTES;
 use route_check::right_is_vouched;
 use route_lattice::{Lattice, LatticeFault};
-use route_run::{RunInput, run_best};
+use route_run::{RunInput, cuts_are_shut, run_best};
 use route_words::{Command, Knobs, Text, WordFault, read_words};
 use ses_reader::one_session;
 use session_law::runs_read_back;
@@ -82,6 +85,7 @@ fn knobs_of(command: &Command) -> Knobs
             input: _,
             output: _,
             from: _,
+            diagonal: _,
             knobs,
         } => *knobs,
         Command::Check {
@@ -102,6 +106,7 @@ fn earlier_of(command: &Command) -> Option<&Text>
             input: _,
             output: _,
             from,
+            diagonal: _,
             knobs: _,
         } => match from {
             Some(name) => Some(name),
@@ -113,6 +118,27 @@ fn earlier_of(command: &Command) -> Option<&Text>
             report: _,
         }
         | Command::Gen { n: _ } => None,
+    }
+}
+
+// Whether a command asks for joins by moves at 45 degrees.
+fn is_diagonal(command: &Command) -> bool
+    ensures { result ≡ is_slanted command.now }
+{
+    match command {
+        Command::Route {
+            input: _,
+            output: _,
+            from: _,
+            diagonal,
+            knobs: _,
+        } => *diagonal,
+        Command::Check {
+            input: _,
+            session: _,
+            report: _,
+        }
+        | Command::Gen { n: _ } => false,
     }
 }
 
@@ -140,6 +166,7 @@ fn route_on<T: Threads + Wait + Sync, D: Desk, R: Sink, G: Gate + Sync>(
         workers: knobs.workers,
         passes: knobs.passes,
         tries: knobs.tries,
+        diagonal: is_diagonal(command),
     };
     match run_best(context.rt, context.alloc, input, design, context.gate) {
         Ok(routed) => {
@@ -268,6 +295,7 @@ fn route<T: Threads + Wait + Sync, D: Desk, R: Sink, G: Gate + Sync>(
             input,
             output: _,
             from: _,
+            diagonal: _,
             knobs: _,
         } => route_file(context, input, command, desk, report),
         Command::Check {
@@ -284,7 +312,8 @@ fn route<T: Threads + Wait + Sync, D: Desk, R: Sink, G: Gate + Sync>(
 
 /// With `route`, reads the design in the file that the words name first, routes it on the lattice at the grid that they
 /// give (or at the design's default grid), writes its session into the file that they name second, and puts the report;
-/// where they name an earlier session, that is the wiring from which the design starts, in the place of its own;
+/// where they name an earlier session, that is the wiring from which the design starts, in the place of its own; where
+/// they ask for it, the closing pass joins by moves at 45 degrees too;
 /// with `gen` routes the generated board of a number and puts its short report. With `check` it judges the session and
 /// the report in the files that the words name second and third by the design in the first, writes no file, and puts a
 /// line. A call that stops before it routes or judges puts the line of the cause instead. Each worker works in a thread
@@ -321,6 +350,9 @@ pub fn dsn_route<T: Threads + Wait + Sync, D: Desk, R: Sink, G: Gate + Sync>(
         → IsDueAfterRead Status.Rejected result.status }
     ensures comes_back { (b : BoardOf) → IsFromBoard (command_of (texts words.now)) (D.state desk.old) b
         → IfSome result.routed (ComesBack b) }
+    ensures wide_shut { (input output : Seq ℕ) (from : Maybe (Seq ℕ)) (knobs : TheKnobs)
+        → command_of (texts words.now) ≡ Ok (Route input output from true knobs)
+        → IfSome result.routed (AreWideShut knobs) }
     ensures judged { (d : TheDesign) (told page : Seq ℕ)
         → AreHeld (command_of (texts words.now)) (D.state desk.old) d told page → HasFewNodes d told page
         → HasNoFault (D.state desk.old) (D.state desk.new) (R.state report.old) (R.state report.new)
@@ -335,6 +367,7 @@ pub fn dsn_route<T: Threads + Wait + Sync, D: Desk, R: Sink, G: Gate + Sync>(
 {
     one_outcome();
     one_session();
+    cuts_are_shut();
     right_is_vouched();
     runs_are_right();
     runs_read_back();

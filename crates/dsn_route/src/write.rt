@@ -1,7 +1,7 @@
 //! What a call leaves that routed: the session in its file and the report, or the short report alone.
 //! Both texts are made before anything is written.
 
-ghost use Rattle.std.specs.Prelude.{◌≡◌, ℕ, List as Seq, Option};
+ghost use Rattle.std.specs.Prelude.{◌≡◌, ℕ, Bool, List as Seq, Option};
 ghost use Rattle.desk_io.specs.States.{DeskState};
 ghost use Rattle.route_words.specs.declared.command.Command.TheVariants.{Route, Gen};
 ghost use Rattle.dsn_route.specs.Commands.{mesh_at, mesh_of, default_knobs, AsksToRoute};
@@ -47,8 +47,8 @@ fn write_both<D: Desk, R: Sink>(
     report: &mut R,
 ) -> Status
     requires lattice { run.now.lat.now ≡ mesh_at knobs run.now.routed.now.board.design }
-    ensures { (input : Seq ℕ) (from : Option (Seq ℕ))
-        → Leaves (Route input output.now from knobs) run.now.routed.now.board run.now.routed.now.facts
+    ensures { (input : Seq ℕ) (from : Option (Seq ℕ)) (diagonal : Bool)
+        → Leaves (Route input output.now from diagonal knobs) run.now.routed.now.board run.now.routed.now.facts
         (D.state desk.old) (D.state desk.new) (R.state report.old) (R.state report.new) result }
 {
     let routed = run.routed;
@@ -99,6 +99,7 @@ pub(crate) fn write_out<D: Desk, R: Sink>(
             input: _,
             output,
             from: _,
+            diagonal: _,
             knobs,
         } => write_both(alloc, run, output, *knobs, desk, report),
         Command::Check {

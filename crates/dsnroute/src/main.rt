@@ -209,6 +209,7 @@ fn note_of<R: Files + AllocGlobal, D: Desk>(
                 input,
                 output,
                 from,
+                diagonal: _,
                 knobs: _,
             },
         ) => route_note(

@@ -60,6 +60,7 @@ pub(crate) fn refused<R: Files + Print + Eprint + AllocGlobal>(
                 input,
                 output,
                 from: _,
+                diagonal: _,
                 knobs: _,
             },
         ) => refused_names(rt, &input, &output),

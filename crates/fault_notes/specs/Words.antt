@@ -10,7 +10,7 @@ use Rattle.route_words.specs.declared.limits.TheConstants.{LAST_BOARD, LONGEST_G
 use Rattle.route_words.specs.declared.limits.TheConstants.{MOST_TRIES, MOST_WORKERS}
 use Rattle.fault_notes.specs.declared.trouble.Choice.{Choice}
 use Rattle.fault_notes.specs.declared.trouble.Choice.TheVariants.{Grid, Workers, Passes, ViaCost, Tries, OmitFixed}
-use Rattle.fault_notes.specs.declared.trouble.Choice.TheVariants.{From}
+use Rattle.fault_notes.specs.declared.trouble.Choice.TheVariants.{Diagonal, From}
 use Rattle.fault_notes.specs.declared.trouble.Range.{Range}
 use Rattle.fault_notes.specs.declared.trouble.Trouble.{Trouble}
 use Rattle.fault_notes.specs.declared.trouble.Trouble.TheVariants.{NoCommand, NotACommand, Strange, Again, NoValue}
@@ -28,6 +28,7 @@ name_of ViaCost = codes "--via-cost"
 name_of Tries = codes "--tries"
 name_of OmitFixed = codes "--omit-fixed"
 name_of From = codes "--from"
+name_of Diagonal = codes "--diagonal"
 
 -- the numbers that an option takes, if it takes one
 abbrev pub range_of : Choice → Option Range
@@ -38,6 +39,7 @@ range_of ViaCost = Some (record { least = 0; most = MOST_VIA_COST })
 range_of Tries = Some (record { least = 0; most = MOST_TRIES })
 range_of OmitFixed = None
 range_of From = None
+range_of Diagonal = None
 
 abbrev pub board_range : Range
 board_range = record { least = 1; most = LAST_BOARD }

@@ -8,7 +8,7 @@ ghost use Rattle.fault_notes.specs.inner.Looks.{IsLook, IsSpelled};
 use crate::trouble::{Choice, name};
 
 /// All options.
-const ALL_CHOICES: [Choice; 7] = [
+const ALL_CHOICES: [Choice; 8] = [
     Choice::Grid,
     Choice::Workers,
     Choice::Passes,
@@ -16,6 +16,7 @@ const ALL_CHOICES: [Choice; 7] = [
     Choice::Tries,
     Choice::OmitFixed,
     Choice::From,
+    Choice::Diagonal,
 ];
 
 /// What a word looks like.

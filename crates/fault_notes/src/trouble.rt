@@ -18,6 +18,7 @@ pub enum Choice {
     Tries,
     OmitFixed,
     From,
+    Diagonal,
 }
 
 /// The numbers from `least` to `most`.
@@ -70,6 +71,7 @@ pub(crate) fn name(choice: Choice) -> &'static str
         Choice::Tries => "--tries",
         Choice::OmitFixed => "--omit-fixed",
         Choice::From => "--from",
+        Choice::Diagonal => "--diagonal",
     }
 }
 
@@ -98,7 +100,7 @@ pub(crate) fn range_for(choice: Choice) -> Option<Range>
             least: 0,
             most: MOST_TRIES,
         }),
-        Choice::OmitFixed | Choice::From => None,
+        Choice::OmitFixed | Choice::From | Choice::Diagonal => None,
     }
 }
 

@@ -18,19 +18,19 @@ use route_lattice::Lattice;
 // The greatest absolute value of a coordinate.
 const EDGE: i64 = FURTHEST as i64;
 
-fn begins_at_origin(q: &Piece) -> bool
-    requires { IsFit q.now }
-    ensures { result ≡ true → IsFirst q.now.spine origin }
+fn begins_at_origin(piece: &Piece) -> bool
+    requires { IsFit piece.now }
+    ensures { result ≡ true → IsFirst piece.now.spine origin }
 {
-    first_point(&q.spine) == Point { x: 0, y: 0 }
+    first_point(&piece.spine) == Point { x: 0, y: 0 }
 }
 
-fn begin_at_origin(qs: &[Piece]) -> bool
-    requires { All IsFit qs.now }
-    ensures { result ≡ true → All (λ q. IsFirst q.spine origin) qs.now }
+fn begin_at_origin(pieces: &[Piece]) -> bool
+    requires { All IsFit pieces.now }
+    ensures { result ≡ true → All (λ piece. IsFirst piece.spine origin) pieces.now }
 {
-    for q in qs {
-        if !begins_at_origin(q) {
+    for piece in pieces {
+        if !begins_at_origin(piece) {
             return false;
         }
     }

@@ -37,6 +37,13 @@ impl Counts {
         Ok(())
     }
 
+    /// Appends some counts.
+    pub(crate) fn push_all(&mut self, counts: &[u8]) -> Result<(), AllocError>
+        ensures { OnOk result (self.new ≡ self.old ++ counts.now) }
+    {
+        self.bytes.extend_from_slice(counts)
+    }
+
     /// A table of the same counts.
     pub(crate) fn copy(&self, alloc: Global) -> Result<Counts, AllocError>
         ensures { IfOk result (λ s. s ≡ self.now) }

@@ -14,22 +14,22 @@ pub(crate) struct Span {
 }
 
 // The columns of the span and, where it holds the row, of the window.
-fn spread(span: Span, w: &Window, columns: usize, row: usize) -> Span
+fn spread(span: Span, window: &Window, columns: usize, row: usize) -> Span
     requires { span.right ≤ columns }
     ensures left { result.left ≤ span.left }
     ensures right { span.right ≤ result.right }
     ensures within { result.right ≤ columns }
-    ensures outs { (c : ℕ) → c < columns → c < result.left ⊎ result.right ≤ c → IsPlaceOut w.now c row }
+    ensures outs { (c : ℕ) → c < columns → c < result.left ⊎ result.right ≤ c → IsPlaceOut window.now c row }
 {
-    if row < w.bottom {
+    if row < window.bottom {
         return span;
     }
-    if w.top <= row {
+    if window.top <= row {
         return span;
     }
     Span {
-        left: span.left.min(w.left),
-        right: span.right.max(w.right).min(columns),
+        left: span.left.min(window.left),
+        right: span.right.max(window.right).min(columns),
     }
 }
 
@@ -42,8 +42,8 @@ pub(crate) fn row_span(windows: &[Window], columns: usize, row: usize) -> Span
         left: columns,
         right: 0,
     };
-    for w in windows {
-        span = spread(span, w, columns, row);
+    for window in windows {
+        span = spread(span, window, columns, row);
     }
     Span {
         left: span.left.min(span.right),

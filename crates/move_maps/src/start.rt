@@ -73,6 +73,9 @@ fn start_of(plain: bool, n: u8) -> u8
 fn push_node(counts: &mut Counts, starts: &[u8], plain: bool) -> Result<(), AllocError>
     ensures { OnOk result (counts.new ≡ counts.old ++ map (started plain) starts.now) }
 {
+    if plain {
+        return counts.push_all(starts);
+    }
     for n in starts {
         counts.push(start_of(plain, *n))?;
     }

@@ -3,7 +3,7 @@ use Rattle.std.proofs.Common.{◌≡◌, ◌⊎◌, inl, inr, ℕ, ◌+◌, ◌�
 use Rattle.std.proofs.Common.{List, [], ◌∷◌, ◌++◌, Option, Some, None, length, get_or, refl, sym, ap, ap₂}
 use Rattle.std.proofs.Common.{◌∙◌, arith, All}
 use Rattle.std.proofs.Common.{flat_map, eqb-true}
-use Rattle.std.specs.Prelude.{codes, decimal, if◌then◌else◌}
+use Rattle.std.specs.Prelude.{IfSome, codes, decimal, if◌then◌else◌}
 use Rattle.std.specs.List.{AllZip}
 use Rattle.std.proofs.lemmas.List.{append_assoc, append_cancel_left}
 use Rattle.std.proofs.lemmas.List.Elements.{All-head, All-tail}
@@ -14,7 +14,7 @@ use Rattle.ses_writer.specs.Words.{spelled}
 use Rattle.report_form.specs.Form.{Told, NetTold, CutTold, RunTold, PassTold, IsNumber, IsRun, IsCutTold}
 use Rattle.report_form.specs.Form.{AreCutsTold, IsNetTold}
 use Rattle.report_form.specs.Form.{IsPassTold, IsTold, Says, lines, joined, line, by_line, by_lines, outside_lines}
-use Rattle.report_form.specs.Form.{run_line}
+use Rattle.report_form.specs.Form.{run_line, wide_line, wide_lines}
 use Rattle.report_form.specs.Form.{run_lines, cut_line, cut_lines, net_words, net_line, net_lines, nets_lines}
 use Rattle.report_form.specs.Form.{pass_lines, place_lines}
 use Rattle.report_form.specs.Form.{size_line, total_line, head_lines, pass_part, value}
@@ -37,12 +37,43 @@ pub not_by : (r : List ℕ) → Follows r → head r ≡ 98 → ⊥
 not_by r (inl e) h = omega (arith, e, h)
 not_by r (inr e) h = omega (arith, e, h)
 
+-- what may follow the lines of stretches: so may the last line of the cut
+abbrev pub FollowsRuns : List ℕ → Type 0
+FollowsRuns r = Follows r ⊎ (head r ≡ 119)
+
+pub runs_not_run : (r : List ℕ) → FollowsRuns r → head r ≡ 114 → ⊥
+runs_not_run r (inl f) h = not_run r f h
+runs_not_run r (inr e) h = omega (arith, e, h)
+
+pub runs_not_by : (r : List ℕ) → FollowsRuns r → head r ≡ 98 → ⊥
+runs_not_by r (inl f) h = not_by r f h
+runs_not_by r (inr e) h = omega (arith, e, h)
+
+pub not_wide : (r : List ℕ) → Follows r → head r ≡ 119 → ⊥
+not_wide r (inl e) h = omega (arith, e, h)
+not_wide r (inr e) h = omega (arith, e, h)
+
+-- ---- the last line of a cut
+wide_follows : (w : Option (List ℕ)) (r : List ℕ) → Follows r → FollowsRuns (joined (wide_lines w) ++ r)
+wide_follows None r f = inl f
+wide_follows (Some size) r f = inr refl
+
+wide_peel : (w v : Option (List ℕ)) (r s : List ℕ) → IfSome w IsNumber → IfSome v IsNumber → Follows r → Follows s
+    → joined (wide_lines w) ++ r ≡ joined (wide_lines v) ++ s → (w ≡ v) × (r ≡ s)
+wide_peel None None r s p q f g e = (refl, e)
+wide_peel None (Some y) r s p q f g e = absurd (not_wide r f (ap head e))
+wide_peel (Some x) None r s p q f g e = absurd (not_wide s g (ap head (sym e)))
+wide_peel (Some x) (Some y) r s p q f g e =
+    let one = one_peel (codes "wide ") x y r s p q
+    (sym (append_assoc (wide_line x) [] r) ∙ e ∙ append_assoc (wide_line y) [] s) in
+    (ap (λ (z : List ℕ). Some z) one.0, one.1)
+
 -- ---- the runs
-runs_peel : (rs qs : List RunTold) (r s : List ℕ) → All IsRun rs → All IsRun qs → Follows r → Follows s
+runs_peel : (rs qs : List RunTold) (r s : List ℕ) → All IsRun rs → All IsRun qs → FollowsRuns r → FollowsRuns s
     → joined (run_lines rs) ++ r ≡ joined (run_lines qs) ++ s → (rs ≡ qs) × (r ≡ s)
 runs_peel [] [] r s p q f g e = (refl, e)
-runs_peel [] (x ∷ qs) r s p q f g e = absurd (not_run r f (ap head e))
-runs_peel (x ∷ rs) [] r s p q f g e = absurd (not_run s g (ap head (sym e)))
+runs_peel [] (x ∷ qs) r s p q f g e = absurd (runs_not_run r f (ap head e))
+runs_peel (x ∷ rs) [] r s p q f g e = absurd (runs_not_run s g (ap head (sym e)))
 runs_peel (x ∷ rs) (y ∷ qs) r s p q f g e =
     let hx = All-head IsRun x rs p in
     let hy = All-head IsRun y qs q in
@@ -59,8 +90,8 @@ runs_peel (x ∷ rs) (y ∷ qs) r s p q f g e =
     )
 
 -- ---- a boundary's line, and the items' lines
-runs_head : (rs : List RunTold) (r : List ℕ) → Follows r → head (joined (run_lines rs) ++ r) ≡ 98 → ⊥
-runs_head [] r f e = not_by r f e
+runs_head : (rs : List RunTold) (r : List ℕ) → FollowsRuns r → head (joined (run_lines rs) ++ r) ≡ 98 → ⊥
+runs_head [] r f e = runs_not_by r f e
 runs_head (x ∷ rs) r f e = omega (arith, e)
 
 -- what follows the items' lines
@@ -110,30 +141,39 @@ by_all (i ∷ bs) (j ∷ cs) b c x y p q f g e =
 -- ---- a cut
 cut_text : (c : CutTold) (r : List ℕ) → joined (cut_lines c) ++ r
     ≡ cut_line c ++ (joined (by_lines c.by_items)
-    ++ (joined (outside_lines c.by_outside) ++ (joined (run_lines c.runs) ++ r)))
+    ++ (joined (outside_lines c.by_outside) ++ (joined (run_lines c.runs) ++ (joined (wide_lines c.wide) ++ r))))
 cut_text c r =
-    append_assoc (cut_line c) (joined (by_lines c.by_items ++ (outside_lines c.by_outside ++ run_lines c.runs))) r
+    let last = run_lines c.runs ++ wide_lines c.wide in
+    append_assoc (cut_line c) (joined (by_lines c.by_items ++ (outside_lines c.by_outside ++ last))) r
     ∙ ap (λ (x : List ℕ). cut_line c ++ x)
-    (ap (λ (x : List ℕ). x ++ r) (joined-append (by_lines c.by_items) (outside_lines c.by_outside ++ run_lines c.runs)
+    (ap (λ (x : List ℕ). x ++ r) (joined-append (by_lines c.by_items) (outside_lines c.by_outside ++ last)
     ∙ ap (λ (x : List ℕ). joined (by_lines c.by_items) ++ x)
-    (joined-append (outside_lines c.by_outside) (run_lines c.runs)))
-    ∙ append_assoc (joined (by_lines c.by_items)) (joined (outside_lines c.by_outside) ++ joined (run_lines c.runs)) r
+    (joined-append (outside_lines c.by_outside) last))
+    ∙ append_assoc (joined (by_lines c.by_items)) (joined (outside_lines c.by_outside) ++ joined last) r
     ∙ ap (λ (x : List ℕ). joined (by_lines c.by_items) ++ x)
-    (append_assoc (joined (outside_lines c.by_outside)) (joined (run_lines c.runs)) r))
+    (append_assoc (joined (outside_lines c.by_outside)) (joined last) r
+    ∙ ap (λ (x : List ℕ). joined (outside_lines c.by_outside) ++ x)
+    (ap (λ (x : List ℕ). x ++ r) (joined-append (run_lines c.runs) (wide_lines c.wide))
+    ∙ append_assoc (joined (run_lines c.runs)) (joined (wide_lines c.wide)) r)))
 
 one_cut : (first : Option (List ℕ)) (c e : CutTold) (r s : List ℕ) → IsCutTold first c → IsCutTold first e → Follows r
     → Follows s → joined (cut_lines c) ++ r ≡ joined (cut_lines e) ++ s → (c ≡ e) × (r ≡ s)
 one_cut first c e r s p q f g h =
-    let x = joined (run_lines c.runs) ++ r in
-    let y = joined (run_lines e.runs) ++ s in
+    let last = joined (wide_lines c.wide) ++ r in
+    let other = joined (wide_lines e.wide) ++ s in
+    let x = joined (run_lines c.runs) ++ last in
+    let y = joined (run_lines e.runs) ++ other in
     let one = cut_peel first c.pin c.reached c.blocked e.pin e.reached e.blocked
     (joined (by_lines c.by_items) ++ (joined (outside_lines c.by_outside) ++ x))
     (joined (by_lines e.by_items) ++ (joined (outside_lines e.by_outside)
     ++ y)) p.pin q.pin p.reached p.blocked q.reached
     q.blocked (sym (cut_text c r) ∙ h ∙ cut_text e s) in
-    let two = by_all c.by_items e.by_items c.by_outside e.by_outside x y p.by_items q.by_items (runs_head c.runs r f)
-    (runs_head e.runs s g) one.rest in
-    let three = runs_peel c.runs e.runs r s p.runs q.runs f g two.2 in (
+    let two = by_all c.by_items e.by_items c.by_outside e.by_outside x y p.by_items q.by_items
+    (runs_head c.runs last (wide_follows c.wide r f))
+    (runs_head e.runs other (wide_follows e.wide s g)) one.rest in
+    let three = runs_peel c.runs e.runs last other p.runs q.runs (wide_follows c.wide r f) (wide_follows e.wide s g)
+    two.2 in
+    let four = wide_peel c.wide e.wide r s p.wide q.wide f g three.1 in (
       λ i. record {
         pin = one.name i;
         reached = one.reached i;
@@ -141,8 +181,9 @@ one_cut first c e r s p q f g h =
         by_items = two.0 i;
         by_outside = two.1 i;
         runs = three.0 i;
+        wide = four.0 i;
       },
-      three.1,
+      four.1,
     )
 
 cuts_follow : (cs : List CutTold) (r : List ℕ) → Follows r → Follows (joined (flat_map cut_lines cs) ++ r)

@@ -5,13 +5,14 @@ use Rattle.std.specs.Prelude.{codes, slice_get}
 use Rattle.std.proofs.lemmas.List.{length_push}
 use Rattle.std.proofs.lemmas.List.Elements.{All-nil}
 use Rattle.report_form.specs.Form.{Told, NetTold, CutTold, PassTold, IsNumber, IsName, IsNameBeside, has_mark, value}
-use Rattle.report_form.specs.Form.{line, cut_line, size_line, total_line}
+use Rattle.report_form.specs.Form.{line, cut_line, size_line, tells_wide, total_line, wide_line}
 use Rattle.report_form.specs.inner.State.{Page, State, Start, Named, Sized, Gridded, Dropping, Passing, Joining}
 use Rattle.report_form.specs.inner.State.{Netting}
 use Rattle.report_form.specs.inner.State.{Opened, Parts, Ended, CutStep, Next, Path, IsGood, gridded, whole, opened}
-use Rattle.report_form.specs.inner.State.{bare}
+use Rattle.report_form.specs.inner.State.{bare, IsParts, MayTell}
 use Rattle.report_form.specs.inner.State.{name_after, firsts_after, board_line, grid_line, pass_line, complete_line}
 use Rattle.report_form.proofs.Tours.{LeadsNets}
+use Rattle.report_form.proofs.Alike.{like_cut, no_cuts_yet, none_told, tell_more}
 
 pub record Finished (p : Page) (s : State) : Type 0 where
   pub lines : List (List ℕ)
@@ -67,6 +68,15 @@ filler (Some first) = let x = filler_beside (has_mark first) first in record { p
 pub filled : List ℕ → CutTold
 filled pin = bare pin (codes "0") (codes "0")
 
+-- it has no last line
+no_last : (pin : List ℕ) → (filled pin).wide ≡ None
+unfolding filled
+no_last pin = refl
+
+plain : (pin : List ℕ) → tells_wide (filled pin) ≡ false
+unfolding filled
+plain pin = refl
+
 fill : (p : Page) (h : Told) (ns : List NetTold) (islands : List ℕ) (cs : List CutTold) (pin : List ℕ)
     → length cs < value islands → IsName (slice_get (firsts_after p.firsts ns) (length cs)) pin
     → CutStep p h ns islands cs (cut_line (filled pin)) (Parts h ns islands cs (filled pin))
@@ -83,21 +93,78 @@ fill p h ns islands cs pin less name = record {
   to = refl;
 }
 
-finish_cuts : (p : Page) (h : Told) (ns : List NetTold) (islands : List ℕ) (cs : List CutTold) (c : CutTold) (k : ℕ)
-    → length ns < length p.design.nets → length (cs ++ c ∷ []) + k ≡ value islands
+-- with its last line
+abbrev ended : CutTold → CutTold
+ended c = record c { wide = Some (codes "0") }
+
+end_cut : (p : Page) (h : Told) (ns : List NetTold) (islands : List ℕ) (cs : List CutTold) (c : CutTold)
+    → c.wide ≡ None → MayTell true ns cs → Finished p (Parts h ns islands cs (ended c))
     → Finished p (Parts h ns islands cs c)
-finish_cuts p h ns islands cs c zero less e =
+end_cut p h ns islands cs c none may f =
+    behind p (Parts h ns islands cs c) (Parts h ns islands cs (ended c)) (wide_line (codes "0"))
+    (inl (inr (inr (inr (record {
+      no_wide = none;
+      may = may;
+      size = codes "0";
+      number = zero_number;
+      is = refl;
+      to = refl;
+    }))))) f
+
+finish_cuts : (p : Page) (h : Told) (ns : List NetTold) (islands : List ℕ) (cs : List CutTold) (c : CutTold)
+    (wide : Bool) (k : ℕ) → length ns < length p.design.nets → MayTell wide ns cs → tells_wide c ≡ wide
+    → length (cs ++ c ∷ []) + k ≡ value islands → Finished p (Parts h ns islands cs c)
+finish_cuts p h ns islands cs c wide zero less may own e =
     let n = opened islands (cs ++ c ∷ []) in
     let full : length (cs ++ c ∷ []) ≡ value islands = omega (arith, e) in
     finish_nets p h (ns ++ n ∷ []) (Parts h ns islands cs c) (length p.design.nets - length (ns ++ n ∷ []))
-    (record { all = λ l t step. inr (inr (record { full = full; step = step })) })
+    (record { all = λ l t step. inr (inr (record { may = like_cut wide ns cs c own may; full = full; step = step })) })
     (omega (arith, length_push ns n, less))
-finish_cuts p h ns islands cs c (suc k) less e =
+finish_cuts p h ns islands cs c false (suc k) less may own e =
     let done = cs ++ c ∷ [] in
     let x = filler (slice_get (firsts_after p.firsts ns) (length done)) in
     behind p (Parts h ns islands cs c) (Parts h ns islands done (filled x.pin)) (cut_line (filled x.pin))
-    (inr (inl (fill p h ns islands done x.pin (omega (arith, e)) x.is)))
-    (finish_cuts p h ns islands done (filled x.pin) k less (omega (arith, e, length_push done (filled x.pin))))
+    (inr (inl (record {
+      may = like_cut false ns cs c own may;
+      step = fill p h ns islands done x.pin (omega (arith, e)) x.is;
+    })))
+    (finish_cuts p h ns islands done (filled x.pin) false k less (tell_more false ns cs c may own) (plain x.pin)
+    (omega (arith, e, length_push done (filled x.pin))))
+finish_cuts p h ns islands cs c true (suc k) less may own e =
+    let done = cs ++ c ∷ [] in
+    let x = filler (slice_get (firsts_after p.firsts ns) (length done)) in
+    let more = tell_more true ns cs c may own in
+    behind p (Parts h ns islands cs c) (Parts h ns islands done (filled x.pin)) (cut_line (filled x.pin))
+    (inr (inl (record {
+      may = like_cut true ns cs c own may;
+      step = fill p h ns islands done x.pin (omega (arith, e)) x.is;
+    })))
+    (end_cut p h ns islands done (filled x.pin) (no_last x.pin) more
+    (finish_cuts p h ns islands done (ended (filled x.pin)) true k less more refl
+    (omega (arith, e, length_push done (ended (filled x.pin))))))
+
+-- a cut that is begun, and those behind it
+finish_begun : (p : Page) (h : Told) (ns : List NetTold) (islands : List ℕ) (cs : List CutTold) (c : CutTold)
+    (wide : Bool) (k : ℕ) → length ns < length p.design.nets → MayTell wide ns cs → tells_wide c ≡ false
+    → length (cs ++ c ∷ []) + k ≡ value islands → Finished p (Parts h ns islands cs c)
+finish_begun p h ns islands cs c false k less may own e = finish_cuts p h ns islands cs c false k less may own e
+finish_begun p h ns islands cs c true k less may own e =
+    end_cut p h ns islands cs c (none_told c.wide own) may
+    (finish_cuts p h ns islands cs (ended c) true k less may refl
+    (omega (arith, e, length_push cs c, length_push cs (ended c))))
+
+finish_parts : (p : Page) (h : Told) (ns : List NetTold) (islands : List ℕ) (cs : List CutTold) (c : CutTold)
+    → IsParts p h ns islands cs c → Finished p (Parts h ns islands cs c)
+finish_parts p h ns islands cs c good = by (tells_wide c) refl
+  where
+    left : length (cs ++ c ∷ []) + (value islands - length (cs ++ c ∷ [])) ≡ value islands
+    left = let within = good.opened.within in omega (arith, within)
+
+    by : (b : Bool) → tells_wide c ≡ b → Finished p (Parts h ns islands cs c)
+    by true own = finish_cuts p h ns islands cs c true (value islands - length (cs ++ c ∷ [])) good.opened.below
+        (good.may own) own left
+    by false own = finish_begun p h ns islands cs c good.alike.wide (value islands - length (cs ++ c ∷ []))
+        good.opened.below good.alike.each own left
 
 -- ---- places
 finish_places : (p : Page) (h : Told) (ps : List (List ℕ)) (k : ℕ) → length ps + k ≡ value h.dropped
@@ -190,7 +257,7 @@ finish p (Opened h ns islands) good =
     let x = filler (slice_get (firsts_after p.firsts ns) 0) in
     behind p (Opened h ns islands) (Parts h ns islands [] (filled x.pin)) (cut_line (filled x.pin))
     (fill p h ns islands [] x.pin (omega (arith, good.many)) x.is)
-    (finish_cuts p h ns islands [] (filled x.pin) (value islands - 1) good.below (omega (arith, good.many)))
-finish p (Parts h ns islands cs c) good =
-    finish_cuts p h ns islands cs c (value islands - length (cs ++ c ∷ [])) good.below (omega (arith, good.within))
+    (finish_begun p h ns islands [] (filled x.pin) good.before.alike.wide (value islands - 1) good.below
+    (no_cuts_yet good.before.alike.wide ns good.before.alike.each) (plain x.pin) (omega (arith, good.many)))
+finish p (Parts h ns islands cs c) good = finish_parts p h ns islands cs c good
 finish p (Ended t) good = record { lines = []; told = t; path = refl }

@@ -3,7 +3,7 @@ use Rattle.std.proofs.Common.{◌≡◌, ◌⊎◌, inl, inr, ℕ, zero, suc, �
 use Rattle.std.proofs.Common.{List, [], ◌∷◌, ◌++◌, Option, Some, None, length, get_or, take, refl, sym, ap, ap₂}
 use Rattle.std.proofs.Common.{◌∙◌, subst, arith, All}
 use Rattle.std.proofs.Common.{flat_map, filter}
-use Rattle.std.specs.Prelude.{codes, decimal}
+use Rattle.std.specs.Prelude.{IfSome, codes, decimal}
 use Rattle.std.specs.List.{AllZip}
 use Rattle.std.proofs.lemmas.List.{append_assoc, append_cancel_left}
 use Rattle.std.proofs.lemmas.List.Elements.{All-head, All-tail}
@@ -14,14 +14,15 @@ use Rattle.ses_writer.specs.Words.{spelled}
 use Rattle.report_form.specs.Form.{Told, NetTold, CutTold, RunTold, PassTold, IsNumber, IsRun, IsCutTold}
 use Rattle.report_form.specs.Form.{AreCutsTold, IsNetTold}
 use Rattle.report_form.specs.Form.{BeginsAs, IsPassTold, IsTold, lines, joined, line, by_line, by_lines}
-use Rattle.report_form.specs.Form.{outside_lines, run_line}
+use Rattle.report_form.specs.Form.{outside_lines, run_line, wide_lines}
 use Rattle.report_form.specs.Form.{run_lines, cut_line, cut_lines, net_words, net_line, net_lines, nets_lines}
 use Rattle.report_form.specs.Form.{pass_lines, place_lines}
 use Rattle.report_form.specs.Form.{size_line, total_line, value, is_complete, is_open}
 use Rattle.report_form.proofs.Numbers.{number_of}
 use Rattle.report_form.proofs.Peels.{one_peel, two_peel, four_peel, cut_peel, by_peel, letter_of, no_boundary}
 use Rattle.report_form.proofs.Peels.{ended, ended_is, ended_cut}
-use Rattle.report_form.proofs.Agree.{Follows, head, not_run, not_by, complete_words, open_words}
+use Rattle.report_form.proofs.Agree.{Follows, FollowsRuns, head, not_wide, runs_not_by, runs_not_run}
+use Rattle.report_form.proofs.Agree.{complete_words, open_words}
 
 -- line by line: where both stand in one text they are one, and so on
 abbrev pub Agrees : List (List ℕ) → List (List ℕ) → Type 0
@@ -89,18 +90,40 @@ passes_agree i (x ∷ ps) (y ∷ qs) l k L K p q f g h = λ r s e.
 abbrev FollowsAll : List ℕ → Type 0
 FollowsAll l = (r : List ℕ) → Follows (l ++ r)
 
-runs_agree : (rs qs : List RunTold) (l k : List ℕ) (L K : List (List ℕ)) → All IsRun rs → All IsRun qs → FollowsAll l
-    → FollowsAll k → Agrees (l ∷ L) (k ∷ K) → Agrees (run_lines rs ++ l ∷ L) (run_lines qs ++ k ∷ K)
-runs_agree [] [] l k L K p q f g h = h
-runs_agree [] (y ∷ qs) l k L K p q f g h = λ r s e. absurd (not_run (l ++ r) (f r) (ap head e))
-runs_agree (x ∷ rs) [] l k L K p q f g h = λ r s e. absurd (not_run (k ++ s) (g s) (ap head (sym e)))
-runs_agree (x ∷ rs) (y ∷ qs) l k L K p q f g h = λ r s e.
+-- lines of which the first may follow stretches
+abbrev FollowRuns : List (List ℕ) → Type 0
+FollowRuns [] = ⊥
+FollowRuns (l ∷ L) = (r : List ℕ) → FollowsRuns (l ++ r)
+
+-- the last line of a cut, or the line behind it
+last_follows : (w : Option (List ℕ)) (l : List ℕ) (L : List (List ℕ)) → FollowsAll l
+    → FollowRuns (wide_lines w ++ l ∷ L)
+last_follows None l L f = λ r. inl (f r)
+last_follows (Some size) l L f = λ r. inr refl
+
+wide_agree : (w v : Option (List ℕ)) (l k : List ℕ) (L K : List (List ℕ)) → IfSome w IsNumber → IfSome v IsNumber
+    → FollowsAll l → FollowsAll k → Agrees (l ∷ L) (k ∷ K)
+    → Agrees (wide_lines w ++ l ∷ L) (wide_lines v ++ k ∷ K)
+wide_agree None None l k L K p q f g h = h
+wide_agree None (Some y) l k L K p q f g h = λ r s e. absurd (not_wide (l ++ r) (f r) (ap head e))
+wide_agree (Some x) None l k L K p q f g h = λ r s e. absurd (not_wide (k ++ s) (g s) (ap head (sym e)))
+wide_agree (Some x) (Some y) l k L K p q f g h =
+    number_line (codes "wide ") x y (l ∷ L) (k ∷ K) p q (λ same. h)
+
+runs_agree : (rs qs : List RunTold) (X Y : List (List ℕ)) → All IsRun rs → All IsRun qs → FollowRuns X
+    → FollowRuns Y → Agrees X Y → Agrees (run_lines rs ++ X) (run_lines qs ++ Y)
+runs_agree [] [] X Y p q f g h = h
+runs_agree [] (y ∷ qs) [] Y p q f g h = absurd f
+runs_agree [] (y ∷ qs) (l ∷ L) Y p q f g h = λ r s e. absurd (runs_not_run (l ++ r) (f r) (ap head e))
+runs_agree (x ∷ rs) [] X [] p q f g h = absurd g
+runs_agree (x ∷ rs) [] X (k ∷ K) p q f g h = λ r s e. absurd (runs_not_run (k ++ s) (g s) (ap head (sym e)))
+runs_agree (x ∷ rs) (y ∷ qs) X Y p q f g h = λ r s e.
     let hx = All-head IsRun x rs p in
     let hy = All-head IsRun y qs q in
     let one = four_peel (codes "run ") (codes " ") x.level x.row x.first x.last y.level y.row y.first y.last r s
     (λ z. refl) hx.level hx.row hx.first hx.last hy.level hy.row hy.first hy.last e in (
       ap run_line (λ i. record { level = one.one i; row = one.two i; first = one.three i; last = one.four i }),
-      runs_agree rs qs l k L K (All-tail IsRun x rs p) (All-tail IsRun y qs q) f g h,
+      runs_agree rs qs X Y (All-tail IsRun x rs p) (All-tail IsRun y qs q) f g h,
     )
 
 -- ---- a boundary's line and the items' lines
@@ -111,34 +134,37 @@ NoItem (x ∷ X) = (r : List ℕ) (k : Kind) (id s : List ℕ) → x ++ r ≡ by
 by_head : (k : Kind) (id r : List ℕ) → head (by_line (k, id) ++ r) ≡ 98
 by_head k id r = refl
 
-runs_no_item : (rs : List RunTold) (l : List ℕ) (L : List (List ℕ)) → FollowsAll l → NoItem (run_lines rs ++ l ∷ L)
-runs_no_item [] l L f = λ r k id s e. not_by (l ++ r) (f r) (ap head e ∙ by_head k id s)
-runs_no_item (x ∷ rs) l L f = λ r k id s e. let z : 114 ≡ 98 = ap head e ∙ by_head k id s in absurd (omega (arith, z))
+runs_no_item : (rs : List RunTold) (X : List (List ℕ)) → FollowRuns X → NoItem (run_lines rs ++ X)
+runs_no_item [] [] f = tt
+runs_no_item [] (l ∷ L) f = λ r k id s e. runs_not_by (l ++ r) (f r) (ap head e ∙ by_head k id s)
+runs_no_item (x ∷ rs) X f = λ r k id s e. let z : 114 ≡ 98 = ap head e ∙ by_head k id s in absurd (omega (arith, z))
 
-tail_no_item : (b : Bool) (rs : List RunTold) (l : List ℕ) (L : List (List ℕ)) → FollowsAll l
-    → NoItem (outside_lines b ++ (run_lines rs ++ l ∷ L))
-tail_no_item true rs l L f = λ r k id s e.
+tail_no_item : (b : Bool) (rs : List RunTold) (X : List (List ℕ)) → FollowRuns X
+    → NoItem (outside_lines b ++ (run_lines rs ++ X))
+tail_no_item true rs X f = λ r k id s e.
     no_boundary k (sym (letter_of k id s) ∙ sym (ap (λ (xs : List ℕ). get_or xs 3 0) e))
-tail_no_item false rs l L f = runs_no_item rs l L f
+tail_no_item false rs X f = runs_no_item rs X f
 
-not_outside : (rs : List RunTold) (l : List ℕ) (L : List (List ℕ)) → FollowsAll l → (K : List (List ℕ))
-    → Agrees (run_lines rs ++ l ∷ L) (codes "by outside\n" ∷ K)
-not_outside [] l L f K = λ r s e. absurd (not_by (l ++ r) (f r) (ap head e))
-not_outside (x ∷ rs) l L f K = λ r s e. let z : 114 ≡ 98 = ap head e in absurd (omega (arith, z))
+not_outside : (rs : List RunTold) (X : List (List ℕ)) → FollowRuns X → (K : List (List ℕ))
+    → Agrees (run_lines rs ++ X) (codes "by outside\n" ∷ K)
+not_outside [] [] f K = tt
+not_outside [] (l ∷ L) f K = λ r s e. absurd (runs_not_by (l ++ r) (f r) (ap head e))
+not_outside (x ∷ rs) X f K = λ r s e. let z : 114 ≡ 98 = ap head e in absurd (omega (arith, z))
 
-outside_not : (rs : List RunTold) (l : List ℕ) (L : List (List ℕ)) → FollowsAll l → (K : List (List ℕ))
-    → Agrees (codes "by outside\n" ∷ K) (run_lines rs ++ l ∷ L)
-outside_not [] l L f K = λ r s e. absurd (not_by (l ++ s) (f s) (ap head (sym e)))
-outside_not (x ∷ rs) l L f K = λ r s e. let z : 98 ≡ 114 = ap head e in absurd (omega (arith, z))
+outside_not : (rs : List RunTold) (X : List (List ℕ)) → FollowRuns X → (K : List (List ℕ))
+    → Agrees (codes "by outside\n" ∷ K) (run_lines rs ++ X)
+outside_not [] [] f K = tt
+outside_not [] (l ∷ L) f K = λ r s e. absurd (runs_not_by (l ++ s) (f s) (ap head (sym e)))
+outside_not (x ∷ rs) X f K = λ r s e. let z : 98 ≡ 114 = ap head e in absurd (omega (arith, z))
 
-outside_agree : (b c : Bool) (rs qs : List RunTold) (l k : List ℕ) (L K : List (List ℕ)) → FollowsAll l → FollowsAll k
-    → Agrees (run_lines rs ++ l ∷ L) (run_lines qs ++ k ∷ K)
-    → Agrees (outside_lines b ++ (run_lines rs ++ l ∷ L)) (outside_lines c ++ (run_lines qs ++ k ∷ K))
-outside_agree true true rs qs l k L K f g h =
-    same_line (codes "by outside\n") (run_lines rs ++ l ∷ L) (run_lines qs ++ k ∷ K) h
-outside_agree true false rs qs l k L K f g h = outside_not qs k K g (run_lines rs ++ l ∷ L)
-outside_agree false true rs qs l k L K f g h = not_outside rs l L f (run_lines qs ++ k ∷ K)
-outside_agree false false rs qs l k L K f g h = h
+outside_agree : (b c : Bool) (rs qs : List RunTold) (X Y : List (List ℕ)) → FollowRuns X → FollowRuns Y
+    → Agrees (run_lines rs ++ X) (run_lines qs ++ Y)
+    → Agrees (outside_lines b ++ (run_lines rs ++ X)) (outside_lines c ++ (run_lines qs ++ Y))
+outside_agree true true rs qs X Y f g h =
+    same_line (codes "by outside\n") (run_lines rs ++ X) (run_lines qs ++ Y) h
+outside_agree true false rs qs X Y f g h = outside_not qs Y g (run_lines rs ++ X)
+outside_agree false true rs qs X Y f g h = not_outside rs X f (run_lines qs ++ Y)
+outside_agree false false rs qs X Y f g h = h
 
 no_item_left : (X : List (List ℕ)) (j : Kind × List ℕ) (K : List (List ℕ)) → NoItem X → Agrees X (by_line j ∷ K)
 no_item_left [] j K h = tt
@@ -162,6 +188,10 @@ items_agree (i ∷ bs) (j ∷ cs) X Y p q f g h = λ r s e.
     )
 
 -- ---- a cut
+-- its last line, and those behind it
+abbrev ends_of : CutTold → List ℕ → List (List ℕ) → List (List ℕ)
+ends_of c l L = wide_lines c.wide ++ l ∷ L
+
 cut_agree : (first : Option (List ℕ)) (c e : CutTold) (l k : List ℕ) (L K : List (List ℕ)) → IsCutTold first c
     → IsCutTold first e → FollowsAll l → FollowsAll k → Agrees (l ∷ L) (k ∷ K)
     → Agrees (cut_lines c ++ l ∷ L) (cut_lines e ++ k ∷ K)
@@ -171,24 +201,30 @@ cut_agree first c e l k L K p q f g h r s z =
       (λ i. line (codes "cut " ++ spelled (one.name i) ++ codes " reached " ++ one.reached i ++ codes " blocked "
           ++ one.blocked i)),
       subst (λ (X : List (List ℕ)). Agrees X
-          (by_lines e.by_items ++ (outside_lines e.by_outside ++ run_lines e.runs) ++ k ∷ K))
+          (by_lines e.by_items ++ (outside_lines e.by_outside ++ (run_lines e.runs ++ wide_lines e.wide)) ++ k ∷ K))
           (nested c l L)
           (subst (λ (Y : List (List ℕ)). Agrees
-          (by_lines c.by_items ++ (outside_lines c.by_outside ++ (run_lines c.runs ++ l ∷ L))) Y) (nested e k K)
-          (items_agree c.by_items e.by_items (outside_lines c.by_outside ++ (run_lines c.runs ++ l ∷ L))
-          (outside_lines e.by_outside ++ (run_lines e.runs ++ k ∷ K)) p.by_items q.by_items
-          (tail_no_item c.by_outside c.runs l L f) (tail_no_item e.by_outside e.runs k K g)
-          (outside_agree c.by_outside e.by_outside c.runs e.runs l k L K f g
-          (runs_agree c.runs e.runs l k L K p.runs q.runs f g h)))),
+          (by_lines c.by_items ++ (outside_lines c.by_outside ++ (run_lines c.runs ++ ends_of c l L))) Y) (nested e k K)
+          (items_agree c.by_items e.by_items (outside_lines c.by_outside ++ (run_lines c.runs ++ ends_of c l L))
+          (outside_lines e.by_outside ++ (run_lines e.runs ++ ends_of e k K)) p.by_items q.by_items
+          (tail_no_item c.by_outside c.runs (ends_of c l L) (last_follows c.wide l L f))
+          (tail_no_item e.by_outside e.runs (ends_of e k K) (last_follows e.wide k K g))
+          (outside_agree c.by_outside e.by_outside c.runs e.runs (ends_of c l L) (ends_of e k K)
+          (last_follows c.wide l L f) (last_follows e.wide k K g)
+          (runs_agree c.runs e.runs (ends_of c l L) (ends_of e k K) p.runs q.runs (last_follows c.wide l L f)
+          (last_follows e.wide k K g) (wide_agree c.wide e.wide l k L K p.wide q.wide f g h))))),
     )
   where
     nested : (c : CutTold) (l : List ℕ) (L : List (List ℕ)) →
-        by_lines c.by_items ++ (outside_lines c.by_outside ++ (run_lines c.runs ++ l ∷ L))
-        ≡ by_lines c.by_items ++ (outside_lines c.by_outside ++ run_lines c.runs) ++ l ∷ L
+        by_lines c.by_items ++ (outside_lines c.by_outside ++ (run_lines c.runs ++ ends_of c l L))
+        ≡ by_lines c.by_items ++ (outside_lines c.by_outside ++ (run_lines c.runs ++ wide_lines c.wide)) ++ l ∷ L
     nested c l L =
-        ap (λ (X : List (List ℕ)). by_lines c.by_items ++ X)
-        (sym (append_assoc (outside_lines c.by_outside) (run_lines c.runs) (l ∷ L)))
-        ∙ sym (append_assoc (by_lines c.by_items) (outside_lines c.by_outside ++ run_lines c.runs) (l ∷ L))
+        let runs = run_lines c.runs ++ wide_lines c.wide in
+        ap (λ (X : List (List ℕ)). by_lines c.by_items ++ (outside_lines c.by_outside ++ X))
+        (sym (append_assoc (run_lines c.runs) (wide_lines c.wide) (l ∷ L)))
+        ∙ (ap (λ (X : List (List ℕ)). by_lines c.by_items ++ X)
+        (sym (append_assoc (outside_lines c.by_outside) runs (l ∷ L)))
+        ∙ sym (append_assoc (by_lines c.by_items) (outside_lines c.by_outside ++ runs) (l ∷ L)))
 
 -- ---- the cuts of a net
 abbrev own_first : List (List ℕ) → Option (List ℕ)
@@ -231,10 +267,10 @@ cuts_agree firsts (c ∷ cs) (e ∷ es) l k L K p q m f g h =
     with_rest (a ∷ cs) [] m pc qe h = absurd (omega arith)
     with_rest (a ∷ cs) (b ∷ es) m pc qe h =
         cut_agree (own_first firsts) c e (cut_line a) (cut_line b)
-        (((by_lines a.by_items ++ (outside_lines a.by_outside ++ run_lines a.runs)) ++ flat_map cut_lines cs) ++ l
-        ∷ L)
-        (((by_lines b.by_items ++ (outside_lines b.by_outside ++ run_lines b.runs)) ++ flat_map cut_lines es) ++ k
-        ∷ K) pc qe
+        (((by_lines a.by_items ++ (outside_lines a.by_outside ++ (run_lines a.runs ++ wide_lines a.wide)))
+        ++ flat_map cut_lines cs) ++ l ∷ L)
+        (((by_lines b.by_items ++ (outside_lines b.by_outside ++ (run_lines b.runs ++ wide_lines b.wide)))
+        ++ flat_map cut_lines es) ++ k ∷ K) pc qe
         (cut_follows a) (cut_follows b) h
 
 -- ---- a net

@@ -1,19 +1,20 @@
 -- What is told so far is told as in a report when a line more was read.
 use Rattle.std.proofs.Common.{◌≡◌, inl, inr, ℕ, ◌<◌, List, [], ◌∷◌, ◌++◌, length, refl, sym}
-use Rattle.std.proofs.Common.{◌∙◌, subst, arith, All, true}
+use Rattle.std.proofs.Common.{◌∙◌, subst, arith, All, Bool, true, false, true≢false, Some}
 use Rattle.std.specs.Prelude.{slice_get}
 use Rattle.std.specs.List.{AllZip}
 use Rattle.std.proofs.lemmas.List.{length_push}
 use Rattle.std.proofs.lemmas.List.Elements.{All-push, All-nil}
 use Rattle.pcb_model.specs.declared.item.Kind.{Kind}
 use Rattle.report_form.specs.Form.{Told, NetTold, CutTold, IsNumber, IsRun, IsCutTold, AreCutsTold}
-use Rattle.report_form.specs.Form.{IsNetTold, IsPassTold, IsTold, value}
+use Rattle.report_form.specs.Form.{IsNetTold, IsPassTold, IsTold, tells_wide, value}
 use Rattle.report_form.specs.inner.State.{Page, State, Start, Named, Sized, Gridded, Dropping, Passing, Joining}
 use Rattle.report_form.specs.inner.State.{Netting}
 use Rattle.report_form.specs.inner.State.{Opened, Parts, Ended, AreNetsTold}
-use Rattle.report_form.specs.inner.State.{IsNetting, IsOpened, IsGood}
+use Rattle.report_form.specs.inner.State.{IsNetting, IsOpened, IsParts, IsGood, MayTell}
 use Rattle.report_form.specs.inner.State.{NetStep, CutStep, PartStep}
 use Rattle.report_form.specs.inner.State.{Next, Path, whole, opened, bare, own_firsts, firsts_after, IsPage}
+use Rattle.report_form.proofs.Alike.{Tells, no_cuts_yet, tell_more, tell_net}
 
 -- ---- lists with one more
 all_more : {X : Type 0} (P : X → Type 0) (xs : List X) (x : X) → All P xs → P x → All P (xs ++ x ∷ [])
@@ -58,17 +59,23 @@ complete_more p h ns page good less = record {
   front = good.front;
   nets = net_more p.firsts ns whole good.nets (omega (arith, page.same, less)) (whole_told (firsts_after p.firsts ns));
   within = omega (arith, length_push ns whole, less);
+  alike = record {
+    wide = good.alike.wide;
+    each = tell_net good.alike.wide ns whole (no_cuts_yet good.alike.wide ns good.alike.each);
+  };
 }
 
-pub opened_more : (p : Page) (h : Told) (ns : List NetTold) (islands : List ℕ) (cs : List CutTold) → IsPage p
-    → IsOpened p h ns islands cs → length cs ≡ value islands → IsNetting p h (ns ++ opened islands cs ∷ [])
-opened_more p h ns islands cs page good full = record {
+pub opened_more : (p : Page) (h : Told) (ns : List NetTold) (islands : List ℕ) (cs : List CutTold) (wide : Bool)
+    → IsPage p → IsOpened p h ns islands cs → MayTell wide ns cs → length cs ≡ value islands
+    → IsNetting p h (ns ++ opened islands cs ∷ [])
+opened_more p h ns islands cs wide page good may full = record {
   front = good.before.front;
   nets = net_more p.firsts ns (opened islands cs) good.before.nets (omega (arith, page.same, good.below)) (record {
     counts = inr (omega (arith, good.many, full), good.number, sym full);
     cuts = good.cuts;
   });
   within = omega (arith, length_push ns (opened islands cs), good.below);
+  alike = record { wide = wide; each = tell_net wide ns (opened islands cs) may };
 }
 
 told_from : (p : Page) (h : Told) (ns : List NetTold) → IsPage p → IsNetting p h ns
@@ -88,6 +95,7 @@ told_from p h ns page good all = record {
   joins = good.front.joins;
   all_nets = all;
   nets = all_nets_told p.firsts ns good.nets (all ∙ sym page.same);
+  alike = good.alike;
 }
 
 -- ---- by cases on what comes
@@ -106,23 +114,29 @@ good_net p h ns l t page good (inr (inl e)) = subst (λ (s : State). IsGood p s)
 good_net p h ns l t page good (inr (inr e)) =
     subst (λ (s : State). IsGood p s) (sym e.to) (told_from p h ns page good e.all)
 
-cut_step_good : (p : Page) (h : Told) (ns : List NetTold) (islands : List ℕ) (cs : List CutTold) (l : List ℕ)
-    (t : State) → IsOpened p h ns islands cs → CutStep p h ns islands cs l t → IsGood p t
-cut_step_good p h ns islands cs l t good e =
+cut_step_good : (p : Page) (h : Told) (ns : List NetTold) (islands : List ℕ) (cs : List CutTold) (wide : Bool)
+    (l : List ℕ) (t : State) → IsOpened p h ns islands cs → MayTell wide ns cs → CutStep p h ns islands cs l t
+    → IsGood p t
+cut_step_good p h ns islands cs wide l t good may e =
     let c = bare e.pin e.reached e.blocked in
     subst (λ (s : State). IsGood p s) (sym e.to) (record {
-      before = good.before;
-      below = good.below;
-      number = good.number;
-      many = good.many;
-      within = omega (arith, length_push cs c, e.more);
-      cuts = cut_more (firsts_after p.firsts ns) cs c good.cuts (record {
-        pin = e.name;
-        reached = e.first;
-        blocked = e.second;
-        by_items = All-nil (λ (b : Kind × List ℕ). IsNumber b.1);
-        runs = All-nil IsRun;
-      });
+      opened = record {
+        before = good.before;
+        below = good.below;
+        number = good.number;
+        many = good.many;
+        within = omega (arith, length_push cs c, e.more);
+        cuts = cut_more (firsts_after p.firsts ns) cs c good.cuts (record {
+          pin = e.name;
+          reached = e.first;
+          blocked = e.second;
+          by_items = All-nil (λ (b : Kind × List ℕ). IsNumber b.1);
+          runs = All-nil IsRun;
+          wide = tt;
+        });
+      };
+      alike = record { wide = wide; each = may };
+      may = λ no. absurd (true≢false (sym no));
     })
 
 -- another last cut that is told
@@ -141,32 +155,53 @@ other_last p h ns islands cs c e good f =
       cuts = cut_more (firsts_after p.firsts ns) cs e both.0 (f both.1);
     }
 
+-- so it is with one that tells how far moves at 45 degrees reach only where those before do
+other_parts : (p : Page) (h : Told) (ns : List NetTold) (islands : List ℕ) (cs : List CutTold) (c e : CutTold)
+    → IsParts p h ns islands cs c
+    → (IsCutTold (slice_get (firsts_after p.firsts ns) (length cs)) c
+    → IsCutTold (slice_get (firsts_after p.firsts ns) (length cs)) e)
+    → (tells_wide e ≡ true → MayTell true ns cs) → IsParts p h ns islands cs e
+other_parts p h ns islands cs c e good f may =
+    record { opened = other_last p h ns islands cs c e good.opened f; alike = good.alike; may = may }
+
 good_part : (p : Page) (h : Told) (ns : List NetTold) (islands : List ℕ) (cs : List CutTold) (c : CutTold)
-    (l : List ℕ) (t : State) → IsOpened p h ns islands (cs ++ c ∷ []) → PartStep h ns islands cs c l t → IsGood p t
+    (l : List ℕ) (t : State) → IsParts p h ns islands cs c → PartStep h ns islands cs c l t → IsGood p t
 good_part p h ns islands cs c l t good (inl e) = subst (λ (s : State). IsGood p s) (sym e.to)
-    (other_last p h ns islands cs c (record c { by_items = c.by_items ++ e.item ∷ [] }) good (λ k. record {
+    (other_parts p h ns islands cs c (record c { by_items = c.by_items ++ e.item ∷ [] }) good (λ k. record {
       pin = k.pin;
       reached = k.reached;
       blocked = k.blocked;
       by_items = all_more (λ (b : Kind × List ℕ). IsNumber b.1) c.by_items e.item k.by_items e.number;
       runs = k.runs;
-    }))
+      wide = k.wide;
+    }) good.may)
 good_part p h ns islands cs c l t good (inr (inl e)) = subst (λ (s : State). IsGood p s) (sym e.to)
-    (other_last p h ns islands cs c (record c { by_outside = true }) good (λ k. record {
+    (other_parts p h ns islands cs c (record c { by_outside = true }) good (λ k. record {
       pin = k.pin;
       reached = k.reached;
       blocked = k.blocked;
       by_items = k.by_items;
       runs = k.runs;
-    }))
-good_part p h ns islands cs c l t good (inr (inr e)) = subst (λ (s : State). IsGood p s) (sym e.to)
-    (other_last p h ns islands cs c (record c { runs = c.runs ++ e.run ∷ [] }) good (λ k. record {
+      wide = k.wide;
+    }) good.may)
+good_part p h ns islands cs c l t good (inr (inr (inl e))) = subst (λ (s : State). IsGood p s) (sym e.to)
+    (other_parts p h ns islands cs c (record c { runs = c.runs ++ e.run ∷ [] }) good (λ k. record {
       pin = k.pin;
       reached = k.reached;
       blocked = k.blocked;
       by_items = k.by_items;
       runs = all_more IsRun c.runs e.run k.runs e.told;
-    }))
+      wide = k.wide;
+    }) good.may)
+good_part p h ns islands cs c l t good (inr (inr (inr e))) = subst (λ (s : State). IsGood p s) (sym e.to)
+    (other_parts p h ns islands cs c (record c { wide = Some e.size }) good (λ k. record {
+      pin = k.pin;
+      reached = k.reached;
+      blocked = k.blocked;
+      by_items = k.by_items;
+      runs = k.runs;
+      wide = e.number;
+    }) (λ _. e.may))
 
 -- what is told behind a line more is told as in a report
 pub good_next : (p : Page) (s t : State) (l : List ℕ) → IsPage p → IsGood p s → Next p s l t → IsGood p t
@@ -242,15 +277,20 @@ good_next p (Joining h) t l page good e = subst (λ (s : State). IsGood p s) (sy
   };
   nets = tt;
   within = omega arith;
+  alike = record { wide = false; each = All-nil (Tells false) };
 })
 good_next p (Netting h ns) t l page good e = good_net p h ns l t page good e
-good_next p (Opened h ns islands) t l page good e = cut_step_good p h ns islands [] l t good e
+good_next p (Opened h ns islands) t l page good e =
+    let alike = good.before.alike in
+    cut_step_good p h ns islands [] alike.wide l t good (no_cuts_yet alike.wide ns alike.each) e
 good_next p (Parts h ns islands cs c) t l page good (inl e) = good_part p h ns islands cs c l t good e
 good_next p (Parts h ns islands cs c) t l page good (inr (inl e)) =
-    cut_step_good p h ns islands (cs ++ c ∷ []) l t good e
+    cut_step_good p h ns islands (cs ++ c ∷ []) (tells_wide c) l t good.opened
+    (tell_more (tells_wide c) ns cs c e.may refl) e.step
 good_next p (Parts h ns islands cs c) t l page good (inr (inr e)) =
     good_net p h (ns ++ opened islands (cs ++ c ∷ []) ∷ []) l t page
-    (opened_more p h ns islands (cs ++ c ∷ []) page good e.full) e.step
+    (opened_more p h ns islands (cs ++ c ∷ []) (tells_wide c) page good.opened
+    (tell_more (tells_wide c) ns cs c e.may refl) e.full) e.step
 good_next p (Ended h) t l page good e = absurd e
 
 -- and so is what is told behind many

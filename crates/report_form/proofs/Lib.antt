@@ -23,3 +23,4 @@ pub mod Truth
 pub mod Whole
 pub mod Apart
 pub mod Loops
+pub mod Alike

@@ -1,7 +1,7 @@
 -- What loops over lines keep.
 use Rattle.std.proofs.Common.{◌≡◌, ℕ, ◌+◌, ◌-◌, ◌^◌, ◌<◌, ◌≤◌, true, List, [], ◌∷◌, ◌++◌, length}
 use Rattle.std.proofs.Common.{refl, sym}
-use Rattle.std.proofs.Common.{ap, ◌∙◌, subst, arith, get_or, Some, Option, Bool, false, ◌==◌, eqb-true, Bor}
+use Rattle.std.proofs.Common.{ap, ◌∙◌, subst, arith, get_or, Some, None, Option, Bool, false, ◌==◌, eqb-true}
 use Rattle.std.specs.Prelude.{codes, decimal, slice_get, Result, MatchResult}
 use Rattle.std.proofs.lemmas.Bool.{both_ways}
 use Rattle.std.proofs.lemmas.List.{length-append, length_push}
@@ -23,7 +23,10 @@ use Rattle.report_form.specs.inner.State.{IsStopped, IsEarly, IsBeforeCut, bare,
 use Rattle.report_form.specs.inner.State.{own_firsts, name_of, name_after}
 use Rattle.report_form.specs.inner.Fields.{HasOne, HasItem, PassAt, ItemAt, RunAt, IsCutAt}
 use Rattle.report_form.specs.inner.Fields.{HasWhole, OpenedAt}
-use Rattle.report_form.specs.inner.Halts.{IsHead, ItemsRead, AllItemsRead, RunsRead, RunsReadTo, CutRead}
+use Rattle.report_form.specs.inner.Halts.{IsHead, IsSoFar, ItemsRead, AllItemsRead, RunsRead, RunsReadTo, CutRead}
+use Rattle.report_form.specs.inner.Halts.{MostRead}
+use Rattle.report_form.specs.declared.nets.NetAt.{NetAt}
+use Rattle.report_form.proofs.Alike.{so_far_net, so_far_on}
 use Rattle.report_form.specs.inner.Halts.{CutsRead, OpenRead, NetsRead, PlacesFirst, PlacesRead, PassesRead}
 use Rattle.report_form.specs.inner.Halts.{AllPassesRead, HasNoNetLine, WholeRead, NetHere, PartsAt, CutsAdded, IsHalted}
 use Rattle.report_form.proofs.Fields.{one_line}
@@ -146,7 +149,7 @@ pub cut_read : (p : Page) (h : Told) (ns : List NetTold) (w : List ℕ) (cs : Li
     (reached blocked : ℕ) (left text rest : List ℕ) (k : ReadCut)
     → (line : IsCutAt (slice_get (firsts_after p.firsts ns) (length cs)) named reached blocked left text)
     → RunsReadTo p h ns w cs (bare line.pin line.a line.b) k.runs rest → k.named ≡ named → k.reached ≡ reached
-    → k.blocked ≡ blocked → CutRead p h ns w cs k rest
+    → k.blocked ≡ blocked → MostRead p h ns w cs k rest
 cut_read p h ns w cs named reached blocked left text rest k line parts a b c =
     let read = parts.read in record {
       cut = read.cut;
@@ -160,15 +163,17 @@ cut_read p h ns w cs named reached blocked left text rest k line parts a b c =
         runs = read.runs_are;
       };
       at = read.at;
+      no_wide = read.no_wide;
       no_blocker = read.head;
       no_run = parts.no_run;
     }
 
 -- ---- cuts of a net
-pub cuts_start : (p : Page) (h : Told) (ns : List NetTold) (w rest : List ℕ) → At p (Opened h ns w) rest
-    → CutsRead p h ns w 0 [] rest
-cuts_start p h ns w rest at = record {
+pub cuts_start : (p : Page) (h : Told) (ns : List NetTold) (w rest : List ℕ) (told : Option Bool)
+    → At p (Opened h ns w) rest → IsSoFar ns [] told → CutsRead p h ns w 0 [] told rest
+cuts_start p h ns w rest told at so = record {
   cuts = [];
+  told_is = so;
   count_is = refl;
   kept = kept_none (firsts_after p.firsts ns);
   before = λ less. first_cut p h ns w rest at;
@@ -179,27 +184,39 @@ cuts_start p h ns w rest at = record {
     kept_none own = tt
 
 pub cuts_on : (p : Page) (h : Told) (ns : List NetTold) (w : List ℕ) (count : ℕ) (ks : List ReadCut) (k : ReadCut)
-    (text rest : List ℕ) → (read : CutsRead p h ns w count ks text) → CutRead p h ns w read.cuts k rest
-    → CutsRead p h ns w (count + 1) (ks ++ k ∷ []) rest
-cuts_on p h ns w count ks k text rest read cut =
+    (told : Option Bool) (wide : Bool) (text rest : List ℕ) → (read : CutsRead p h ns w count ks told text)
+    → CutRead p h ns w read.cuts k wide rest → CutsRead p h ns w (count + 1) (ks ++ k ∷ []) (Some wide) rest
+cuts_on p h ns w count ks k told wide text rest read cut =
     let e = read.count_is in record {
       cuts = read.cuts ++ cut.cut ∷ [];
+      told_is = so_far_on ns read.cuts cut.cut wide cut.may cut.wide_is;
       count_is = omega (arith, e, length_push read.cuts cut.cut);
       kept = kept_more (firsts_after p.firsts ns) read.cuts ks cut.cut k read.kept cut.kept;
-      before = before_next p h ns w read.cuts cut.cut rest cut.at cut.no_blocker cut.no_run;
-      full = between_next p h ns w read.cuts cut.cut rest cut.at cut.no_blocker cut.no_run;
+      before = before_next p h ns w read.cuts k wide rest cut;
+      full = between_next p h ns w read.cuts k wide rest cut;
     }
 
-pub cuts_all : (p : Page) (h : Told) (ns : List NetTold) (w : List ℕ) (count : ℕ) (ks : List ReadCut) (rest : List ℕ)
-    → CutsRead p h ns w count ks rest → count ≡ value w → OpenRead p h ns w ks rest
-cuts_all p h ns w count ks rest read e =
-    let full = sym read.count_is ∙ e in
-    record { cuts = read.cuts; full = full; kept = read.kept; between = read.full full }
+pub cuts_all : (p : Page) (h : Told) (ns : List NetTold) (w : List ℕ) (count : ℕ) (ks : List ReadCut)
+    (told : Option Bool) (rest : List ℕ) → CutsRead p h ns w count ks told rest → count ≡ value w
+    → OpenRead p h ns w ks told rest
+cuts_all p h ns w count ks told rest read e =
+    let full = sym read.count_is ∙ e in record {
+      cuts = read.cuts;
+      told_is = read.told_is;
+      full = full;
+      kept = read.kept;
+      between = read.full full;
+    }
 
 -- ---- nets
-pub nets_start : (p : Page) (h : Told) (rest : List ℕ) → At p (Netting h []) rest → NetsRead p h 0 [] rest
-nets_start p h rest at =
-    record { nets = []; count_is = refl; kept = kept_none p.firsts; between = first_net p h [] rest at }
+pub nets_start : (p : Page) (h : Told) (rest : List ℕ) → At p (Netting h []) rest → NetsRead p h 0 [] None rest
+nets_start p h rest at = record {
+  nets = [];
+  told_is = refl;
+  count_is = refl;
+  kept = kept_none p.firsts;
+  between = first_net p h [] rest at;
+}
   where
     kept_none : (firsts : List (List (List ℕ))) → AreNetsKept firsts [] []
     kept_none firsts = tt
@@ -220,11 +237,12 @@ here_below p ns count net own e here =
     let less = slice_get_within p.design.nets count net here.net_is in omega (arith, less, e)
 
 pub net_whole : (p : Page) (h : Told) (count : ℕ) (net : Net) (own : List (List ℕ)) (ks : List (List ReadCut))
-    (text rest : List ℕ) → IsPage p → NetsRead p h count ks text → NetHere p count net own
-    → HasWhole net.name rest text → NetsRead p h (count + 1) (ks ++ [] ∷ []) rest
-net_whole p h count net own ks text rest page read here has =
+    (told : Option Bool) (text rest : List ℕ) → IsPage p → NetsRead p h count ks told text → NetHere p count net own
+    → HasWhole net.name rest text → NetsRead p h (count + 1) (ks ++ [] ∷ []) told rest
+net_whole p h count net own ks told text rest page read here has =
     let e = read.count_is in record {
       nets = read.nets ++ whole ∷ [];
+      told_is = so_far_net read.nets whole told read.told_is;
       count_is = omega (arith, e, length_push read.nets whole);
       kept = nets_kept_more p.firsts read.nets ks whole [] own read.kept
           (ap (λ (k : ℕ). slice_get p.firsts k) (sym e) ∙ here.own_is) (kept_none own);
@@ -236,20 +254,22 @@ net_whole p h count net own ks text rest page read here has =
     kept_none own = tt
 
 pub net_opened : (p : Page) (h : Told) (count islands : ℕ) (net : Net) (own : List (List ℕ))
-    (ks : List (List ReadCut)) (text rest : List ℕ) → IsPage p → (read : NetsRead p h count ks text)
-    → NetHere p count net own → (found : OpenedAt net.name islands rest text)
-    → At p (Opened h read.nets found.islands) rest
-net_opened p h count islands net own ks text rest page read here found =
+    (ks : List (List ReadCut)) (told : Option Bool) (text rest : List ℕ) → IsPage p
+    → (read : NetsRead p h count ks told text) → NetHere p count net own
+    → (found : OpenedAt net.name islands rest text) → At p (Opened h read.nets found.islands) rest
+net_opened p h count islands net own ks told text rest page read here found =
     let e = read.count_is in
     opened_on p h read.nets net.name found.islands text rest page read.between
     (here_below p read.nets count net own e here) (here_name p read.nets count net own e here) found.has
 
 pub net_filled : (p : Page) (h : Told) (count : ℕ) (net : Net) (own : List (List ℕ)) (ks : List (List ReadCut))
-    (w : List ℕ) (cuts : List ReadCut) (text rest : List ℕ) → (read : NetsRead p h count ks text)
-    → NetHere p count net own → OpenRead p h read.nets w cuts rest → NetsRead p h (count + 1) (ks ++ cuts ∷ []) rest
-net_filled p h count net own ks w cuts text rest read here open_ =
+    (w : List ℕ) (cuts : List ReadCut) (told new : Option Bool) (text rest : List ℕ)
+    → (read : NetsRead p h count ks told text) → NetHere p count net own → OpenRead p h read.nets w cuts new rest
+    → NetsRead p h (count + 1) (ks ++ cuts ∷ []) new rest
+net_filled p h count net own ks w cuts told new text rest read here open_ =
     let e = read.count_is in record {
       nets = read.nets ++ opened w open_.cuts ∷ [];
+      told_is = so_far_net read.nets (opened w open_.cuts) new open_.told_is;
       count_is = omega (arith, e, length_push read.nets (opened w open_.cuts));
       kept = nets_kept_more p.firsts read.nets ks (opened w open_.cuts) cuts own read.kept
           (ap (λ (k : ℕ). slice_get p.firsts k) (sym e) ∙ here.own_is)
@@ -259,40 +279,40 @@ net_filled p h count net own ks w cuts text rest read here open_ =
     }
 
 pub net_unreadable : (p : Page) (h : Told) (count : ℕ) (net : Net) (own : List (List ℕ)) (ks : List (List ReadCut))
-    (text : List ℕ) → NetsRead p h count ks text → NetHere p count net own → HasNoNetLine net.name text
-    → IsStopped p text
-net_unreadable p h count net own ks text read here none =
+    (told : Option Bool) (text : List ℕ) → NetsRead p h count ks told text → NetHere p count net own
+    → HasNoNetLine net.name text → IsStopped p text
+net_unreadable p h count net own ks told text read here none =
     let e = read.count_is in
     net_stop p h read.nets net.name text read.between (here_below p read.nets count net own e here)
     (here_name p read.nets count net own e here) none
 
 -- ---- the end
-end_at : (p : Page) (h : Told) (ks : List (List ReadCut)) (text left : List ℕ) → IsPage p
-    → (read : NetsRead p h (length p.design.nets) ks text) → text ≡ total_line read.nets ++ left
+end_at : (p : Page) (h : Told) (ks : List (List ReadCut)) (told : Option Bool) (text left : List ℕ) → IsPage p
+    → (read : NetsRead p h (length p.design.nets) ks told text) → text ≡ total_line read.nets ++ left
     → At p (Ended (record h { nets = read.nets })) left
-end_at p h ks text left page read e = total_on p h read.nets text left page read.between (sym read.count_is) e
+end_at p h ks told text left page read e = total_on p h read.nets text left page read.between (sym read.count_is) e
 
-pub end_read : (p : Page) (h : Told) (ks : List (List ReadCut)) (text left : List ℕ) → IsPage p
-    → (read : NetsRead p h (length p.design.nets) ks text) → text ≡ total_line read.nets ++ left
+pub end_read : (p : Page) (h : Told) (ks : List (List ReadCut)) (told : Option Bool) (text left : List ℕ) → IsPage p
+    → (read : NetsRead p h (length p.design.nets) ks told text) → text ≡ total_line read.nets ++ left
     → (length left == 0) ≡ true → WholeRead p ks
-end_read p h ks text left page read e none = record {
+end_read p h ks told text left page read e none = record {
   told = record h { nets = read.nets };
   at = subst (λ (x : List ℕ). At p (Ended (record h { nets = read.nets })) x)
-      (no_bytes left (eqb-true (length left) 0 none)) (end_at p h ks text left page read e);
+      (no_bytes left (eqb-true (length left) 0 none)) (end_at p h ks told text left page read e);
   kept = read.kept;
 }
 
-pub end_over : (p : Page) (h : Told) (ks : List (List ReadCut)) (text left : List ℕ) → IsPage p
-    → (read : NetsRead p h (length p.design.nets) ks text) → text ≡ total_line read.nets ++ left
+pub end_over : (p : Page) (h : Told) (ks : List (List ReadCut)) (told : Option Bool) (text left : List ℕ) → IsPage p
+    → (read : NetsRead p h (length p.design.nets) ks told text) → text ≡ total_line read.nets ++ left
     → (length left == 0) ≡ false → IsStopped p left
-end_over p h ks text left page read e some =
-    end_stop p (record h { nets = read.nets }) left (end_at p h ks text left page read e)
+end_over p h ks told text left page read e some =
+    end_stop p (record h { nets = read.nets }) left (end_at p h ks told text left page read e)
     (λ f. both_ways (length left == 0) some (ap (λ (x : List ℕ). length x == 0) f))
 
-pub end_none : (p : Page) (h : Told) (ks : List (List ReadCut)) (text : List ℕ)
-    → (read : NetsRead p h (length p.design.nets) ks text)
+pub end_none : (p : Page) (h : Told) (ks : List (List ReadCut)) (told : Option Bool) (text : List ℕ)
+    → (read : NetsRead p h (length p.design.nets) ks told text)
     → ((r : List ℕ) → text ≡ total_line read.nets ++ r → ⊥) → IsStopped p text
-end_none p h ks text read none = total_stop p h read.nets text read.between (sym read.count_is) none
+end_none p h ks told text read none = total_stop p h read.nets text read.between (sym read.count_is) none
 
 -- ---- bytes of a cut's line
 pub cut_shorter : (first : Option (List ℕ)) (named : Bool) (reached blocked : ℕ) (r text : List ℕ)
@@ -315,61 +335,63 @@ pub cut_says : (p : Page) (h : Told) (ns : List NetTold) (w : List ℕ) (cs : Li
     → IsCutAt first line.named line.reached line.blocked line.rest.now text
     → ((c : CutTold) → At p (Parts h ns w cs c) line.rest.now → IsEarly c
     → MatchResult o (PartsAt p h ns w cs c line) (IsHalted p))
-    → MatchResult o (λ x. CutRead p h ns w cs x.cut x.rest.now) (IsHalted p)
+    → MatchResult o (λ x. MostRead p h ns w cs x.cut x.rest.now) (IsHalted p)
 cut_says p h ns w cs first line text o page before less e found behind =
     let own = subst (λ (f : Option (List ℕ)). IsCutAt f line.named line.reached line.blocked line.rest.now text)
     e found in
     let c = bare own.pin own.a own.b in
     let at = cut_from_line p h ns w cs line.named line.reached line.blocked line.rest.now text page before less own in
-    match_both o (PartsAt p h ns w cs c line) (λ x. CutRead p h ns w cs x.cut x.rest.now) (IsHalted p)
+    match_both o (PartsAt p h ns w cs c line) (λ x. MostRead p h ns w cs x.cut x.rest.now) (IsHalted p)
     (λ x parts. cut_read p h ns w cs line.named line.reached line.blocked line.rest.now text x.rest.now x.cut own
     parts.parts parts.named parts.reached parts.blocked)
-    (behind c at (record { inside = refl; no_run = refl }))
+    (behind c at (record { inside = refl; no_run = refl; no_wide = refl }))
 
 -- a cut more
 pub cuts_step : (p : Page) (h : Told) (ns : List NetTold) (w : List ℕ) (count : ℕ) (ks new : List ReadCut)
-    (k : ReadCut) (text rest : List ℕ) (firsts : List (List ℕ)) (first : Option (List ℕ))
-    → CutsRead p h ns w count ks text → count < value w → firsts ≡ firsts_after p.firsts ns
-    → first ≡ slice_get firsts count
-    → ((cs : List CutTold) → IsBeforeCut p h ns w cs text → length cs < value w
-    → first ≡ slice_get (firsts_after p.firsts ns) (length cs) → CutRead p h ns w cs k rest) → new ≡ ks ++ k ∷ []
-    → CutsRead p h ns w (count + 1) new rest
-cuts_step p h ns w count ks new k text rest firsts first read less own e behind is =
+    (k : ReadCut) (told : Option Bool) (wide : Bool) (text rest : List ℕ) (firsts : List (List ℕ))
+    (first : Option (List ℕ)) → CutsRead p h ns w count ks told text → count < value w
+    → firsts ≡ firsts_after p.firsts ns → first ≡ slice_get firsts count
+    → ((cs : List CutTold) → IsBeforeCut p h ns w cs text → length cs < value w → IsSoFar ns cs told
+    → first ≡ slice_get (firsts_after p.firsts ns) (length cs) → CutRead p h ns w cs k wide rest) → new ≡ ks ++ k ∷ []
+    → CutsRead p h ns w (count + 1) new (Some wide) rest
+cuts_step p h ns w count ks new k told wide text rest firsts first read less own e behind is =
     let n = read.count_is in
     let below : length read.cuts < value w = omega (arith, n, less) in
-    let cut = behind read.cuts (read.before below) below
+    let cut = behind read.cuts (read.before below) below read.told_is
     (e ∙ ap (λ (f : List (List ℕ)). slice_get f count) own
     ∙ ap (λ (i : ℕ). slice_get (firsts_after p.firsts ns) i) n) in
-    subst (λ (l : List ReadCut). CutsRead p h ns w (count + 1) l rest) (sym is)
-    (cuts_on p h ns w count ks k text rest read cut)
+    subst (λ (l : List ReadCut). CutsRead p h ns w (count + 1) l (Some wide) rest) (sym is)
+    (cuts_on p h ns w count ks k told wide text rest read cut)
 
 pub cuts_halt : (p : Page) (h : Told) (ns : List NetTold) (w : List ℕ) (count : ℕ) (ks : List ReadCut)
-    (text : List ℕ) (firsts : List (List ℕ)) (first : Option (List ℕ)) (halt : Halt)
-    → CutsRead p h ns w count ks text → count < value w → firsts ≡ firsts_after p.firsts ns
+    (told : Option Bool) (text : List ℕ) (firsts : List (List ℕ)) (first : Option (List ℕ)) (halt : Halt)
+    → CutsRead p h ns w count ks told text → count < value w → firsts ≡ firsts_after p.firsts ns
     → first ≡ slice_get firsts count
-    → ((cs : List CutTold) → IsBeforeCut p h ns w cs text → length cs < value w
+    → ((cs : List CutTold) → IsBeforeCut p h ns w cs text → length cs < value w → IsSoFar ns cs told
     → first ≡ slice_get (firsts_after p.firsts ns) (length cs) → IsHalted p halt) → IsHalted p halt
-cuts_halt p h ns w count ks text firsts first halt read less own e behind =
+cuts_halt p h ns w count ks told text firsts first halt read less own e behind =
     let n = read.count_is in
     let below : length read.cuts < value w = omega (arith, n, less) in
-    behind read.cuts (read.before below) below
+    behind read.cuts (read.before below) below read.told_is
     (e ∙ ap (λ (f : List (List ℕ)). slice_get f count) own
     ∙ ap (λ (i : ℕ). slice_get (firsts_after p.firsts ns) i) n)
 
 -- a net of several islands
 pub open_says : (p : Page) (h : Told) (count islands : ℕ) (net : Net) (own : List (List ℕ))
-    (old new : List (List ReadCut)) (text next : List ℕ) (o : Result (Bor (List ℕ)) Halt) → IsPage p
-    → NetsRead p h count old text → NetHere p count net own → OpenedAt net.name islands next text
-    → ((ns : List NetTold) (w : List ℕ) → At p (Opened h ns w) next → islands ≡ capped (2 ^ 64 - 1) w
-    → own ≡ firsts_after p.firsts ns → MatchResult o (λ r. CutsAdded p h ns w old new r.now) (IsHalted p))
-    → MatchResult o (λ r. NetsRead p h (count + 1) new r.now) (IsHalted p)
-open_says p h count islands net own old new text next o page read here found behind =
-    let at = net_opened p h count islands net own old text next page read here found in
-    match_both o (λ r. CutsAdded p h read.nets found.islands old new r.now) (λ r. NetsRead p h (count + 1) new r.now)
-    (IsHalted p)
-    (λ r added. subst (λ (l : List (List ReadCut)). NetsRead p h (count + 1) l r.now) (sym added.is)
-    (net_filled p h count net own old found.islands added.cuts text r.now read here added.read))
-    (behind read.nets found.islands at found.count_is (here_firsts p read.nets count net own read.count_is here))
+    (old new : List (List ReadCut)) (told : Option Bool) (text next : List ℕ) (o : Result NetAt Halt) → IsPage p
+    → NetsRead p h count old told text → NetHere p count net own → OpenedAt net.name islands next text
+    → ((ns : List NetTold) (w : List ℕ) → At p (Opened h ns w) next → IsSoFar ns [] told
+    → islands ≡ capped (2 ^ 64 - 1) w → own ≡ firsts_after p.firsts ns
+    → MatchResult o (λ x. CutsAdded p h ns w old new x.told x.rest.now) (IsHalted p))
+    → MatchResult o (λ x. NetsRead p h (count + 1) new x.told x.rest.now) (IsHalted p)
+open_says p h count islands net own old new told text next o page read here found behind =
+    let at = net_opened p h count islands net own old told text next page read here found in
+    match_both o (λ x. CutsAdded p h read.nets found.islands old new x.told x.rest.now)
+    (λ x. NetsRead p h (count + 1) new x.told x.rest.now) (IsHalted p)
+    (λ x added. subst (λ (l : List (List ReadCut)). NetsRead p h (count + 1) l x.told x.rest.now) (sym added.is)
+    (net_filled p h count net own old found.islands added.cuts told x.told text x.rest.now read here added.read))
+    (behind read.nets found.islands at read.told_is found.count_is
+    (here_firsts p read.nets count net own read.count_is here))
 
 -- the net of a loop over nets and the names of first pins
 pub here_from : (p : Page) (d : Design) (firsts : List (List (List ℕ))) (nets : List Net) (i : ℕ) (net : Net)
@@ -384,6 +406,6 @@ here_from p d firsts nets i net own e f g less net_is same own_is =
     }
 
 pub each_start : (p : Page) (h : Told) (ks : List (List ReadCut)) (text : List ℕ) → ks ≡ [] → At p (Netting h []) text
-    → NetsRead p h 0 ks text
+    → NetsRead p h 0 ks None text
 each_start p h ks text e at =
-    subst (λ (x : List (List ReadCut)). NetsRead p h 0 x text) (sym e) (nets_start p h text at)
+    subst (λ (x : List (List ReadCut)). NetsRead p h 0 x None text) (sym e) (nets_start p h text at)

@@ -1,24 +1,28 @@
 -- A line on, or a stop: cuts and nets.
-use Rattle.std.proofs.Common.{◌≡◌, ◌⊎◌, inl, inr, ℕ, suc, ◌<◌, true, false, List, [], ◌∷◌, ◌++◌}
+use Rattle.std.proofs.Common.{◌≡◌, ◌⊎◌, inl, inr, ℕ, suc, ◌<◌, Bool, true, false, List, [], ◌∷◌, ◌++◌, Option, is_some}
 use Rattle.std.proofs.Common.{length}
 use Rattle.std.proofs.Common.{refl, sym, ap, ◌∙◌, subst, arith, Some, map}
 use Rattle.std.specs.Prelude.{codes, slice_get}
 use Rattle.std.proofs.lemmas.List.{map-append}
 use Rattle.report_form.specs.Form.{Told, NetTold, CutTold, RunTold, value, by_line, run_line, cut_line, total_line}
+use Rattle.report_form.specs.Form.{tells_wide, wide_line}
 use Rattle.report_form.specs.Reading.{run_kept, IsCutKept, AreCutsKept, AreNetsKept}
 use Rattle.report_form.specs.declared.reading.ReadRun.{ReadRun}
 use Rattle.report_form.specs.declared.reading.ReadCut.{ReadCut}
 use Rattle.report_form.specs.inner.State.{Page, State, Netting, Opened, Parts, Ended, IsPage, At, IsStuck}
 use Rattle.report_form.specs.inner.State.{IsStopped, IsBetween, IsBeforeCut, Next, NetStep, CutStep, PartStep}
+use Rattle.report_form.specs.inner.State.{RunStep, WideStep, MayTell}
 use Rattle.report_form.specs.inner.State.{bare, opened, whole, name_after, firsts_after}
 use Rattle.report_form.specs.inner.State.{complete_line, opened_line}
-use Rattle.report_form.specs.inner.Fields.{HasRun, HasCut, RunAt, ItemAt, HasWhole, HasOpened}
+use Rattle.report_form.specs.inner.Fields.{HasOne, HasRun, HasCut, RunAt, ItemAt, HasWhole, HasOpened}
 use Rattle.report_form.specs.inner.Halts.{IsHead, ItemsRead, AllItemsRead, OutsideRead, BlockersRead}
-use Rattle.report_form.specs.inner.Halts.{RunsRead}
+use Rattle.report_form.specs.inner.Halts.{CutRead, MostRead, RunsRead}
 use Rattle.report_form.specs.inner.Halts.{HasNoNetLine}
 use Rattle.report_form.proofs.Agree.{head}
 use Rattle.report_form.proofs.Standing.{line_on}
-use Rattle.report_form.proofs.Tells.{part_head, cut_head, net_head, run_head}
+use Rattle.report_form.proofs.Tells.{IsPartByte, part_head, cut_head, net_head, run_head, wide_head}
+use Rattle.report_form.proofs.Fields.{one_line, one_of_line}
+use Rattle.report_form.proofs.Alike.{like_cut, some_told}
 
 -- a line that is the beginning
 shown : (l m r rest : List ℕ) → rest ≡ l ++ r → l ≡ m → rest ≡ m ++ r
@@ -39,37 +43,51 @@ rest_head l r rest byte e h = ap head (sym e) ∙ head_of byte rest h
 
 -- no line of a net or of a cut begins with such a byte
 no_net : (p : Page) (h : Told) (ns : List NetTold) (l r rest : List ℕ) (t : State) (byte : ℕ) → rest ≡ l ++ r
-    → IsHead byte rest → NetStep p h ns l t → (byte ≡ 98) ⊎ (byte ≡ 114) → ⊥
+    → IsHead byte rest → NetStep p h ns l t → IsPartByte byte → ⊥
 no_net p h ns l r rest t byte e f step which =
     let x = rest_head l r rest byte e f in by (net_head p h ns l r t step) which
   where
-    by : (head (l ++ r) ≡ 110) ⊎ (head (l ++ r) ≡ 99) → (byte ≡ 98) ⊎ (byte ≡ 114) → ⊥
+    by : (head (l ++ r) ≡ 110) ⊎ (head (l ++ r) ≡ 99) → IsPartByte byte → ⊥
     by (inl a) (inl b) = let x = rest_head l r rest byte e f in omega (arith, a, b, x)
-    by (inl a) (inr b) = let x = rest_head l r rest byte e f in omega (arith, a, b, x)
+    by (inl a) (inr (inl b)) = let x = rest_head l r rest byte e f in omega (arith, a, b, x)
+    by (inl a) (inr (inr b)) = let x = rest_head l r rest byte e f in omega (arith, a, b, x)
     by (inr a) (inl b) = let x = rest_head l r rest byte e f in omega (arith, a, b, x)
-    by (inr a) (inr b) = let x = rest_head l r rest byte e f in omega (arith, a, b, x)
+    by (inr a) (inr (inl b)) = let x = rest_head l r rest byte e f in omega (arith, a, b, x)
+    by (inr a) (inr (inr b)) = let x = rest_head l r rest byte e f in omega (arith, a, b, x)
 
 no_cut : (p : Page) (h : Told) (ns : List NetTold) (w : List ℕ) (cs : List CutTold) (l r rest : List ℕ) (t : State)
-    (byte : ℕ) → rest ≡ l ++ r → IsHead byte rest → CutStep p h ns w cs l t → (byte ≡ 98) ⊎ (byte ≡ 114) → ⊥
+    (byte : ℕ) → rest ≡ l ++ r → IsHead byte rest → CutStep p h ns w cs l t → IsPartByte byte → ⊥
 no_cut p h ns w cs l r rest t byte e f step (inl b) =
     let x = rest_head l r rest byte e f in
     let y = cut_head p h ns w cs l r t step in omega (arith, x, y, b)
-no_cut p h ns w cs l r rest t byte e f step (inr b) =
+no_cut p h ns w cs l r rest t byte e f step (inr (inl b)) =
+    let x = rest_head l r rest byte e f in
+    let y = cut_head p h ns w cs l r t step in omega (arith, x, y, b)
+no_cut p h ns w cs l r rest t byte e f step (inr (inr b)) =
     let x = rest_head l r rest byte e f in
     let y = cut_head p h ns w cs l r t step in omega (arith, x, y, b)
 
 -- where the rest begins with such a byte and no line of a part begins it, reading is stuck
 part_stuck : (p : Page) (h : Told) (ns : List NetTold) (w : List ℕ) (cs : List CutTold) (c : CutTold) (rest : List ℕ)
-    (byte : ℕ) → IsHead byte rest → (byte ≡ 98) ⊎ (byte ≡ 114)
+    (byte : ℕ) → IsHead byte rest → IsPartByte byte
     → ((l : List ℕ) (t : State) (r : List ℕ) → PartStep h ns w cs c l t → rest ≡ l ++ r → ⊥)
     → IsStuck p (Parts h ns w cs c) rest
 part_stuck p h ns w cs c rest byte first which none = record { none = each; more = λ e f. e }
   where
     each : (l : List ℕ) (t : State) (r : List ℕ) → Next p (Parts h ns w cs c) l t → rest ≡ l ++ r → ⊥
     each l t r (inl a) e = none l t r a e
-    each l t r (inr (inl a)) e = no_cut p h ns w (cs ++ c ∷ []) l r rest t byte e first a which
+    each l t r (inr (inl a)) e = no_cut p h ns w (cs ++ c ∷ []) l r rest t byte e first a.step which
     each l t r (inr (inr a)) e =
         no_net p h (ns ++ opened w (cs ++ c ∷ []) ∷ []) l r rest t byte e first a.step which
+
+-- a line of a stretch or the last one begins with other bytes
+last_apart : (h : Told) (ns : List NetTold) (w : List ℕ) (cs : List CutTold) (c : CutTold) (l r rest : List ℕ)
+    (t : State) (byte : ℕ) → (RunStep h ns w cs c l t ⊎ WideStep h ns w cs c l t) → rest ≡ l ++ r → IsHead byte rest
+    → (114 ≡ byte → ⊥) → (119 ≡ byte → ⊥) → ⊥
+last_apart h ns w cs c l r rest t byte (inl a) e first no_run no_wide =
+    no_run (sym (run_head h ns w cs c l r t a) ∙ rest_head l r rest byte e first)
+last_apart h ns w cs c l r rest t byte (inr a) e first no_run no_wide =
+    no_wide (sym (wide_head h ns w cs c l r t a) ∙ rest_head l r rest byte e first)
 
 -- ---- a cut's own line
 pub cut_on : (p : Page) (h : Told) (ns : List NetTold) (w : List ℕ) (cs : List CutTold) (pin a b rest r : List ℕ)
@@ -117,7 +135,11 @@ item_on p h ns w cs c rest r page read found =
     let k = record (read.cut) { by_items = read.cut.by_items ++ found.item ∷ [] } in record {
       cut = k;
       same = record { pin = read.same.pin; reached = read.same.reached; blocked = read.same.blocked };
-      early = record { inside = read.early.inside; no_run = read.early.no_run };
+      early = record {
+        inside = read.early.inside;
+        no_run = read.early.no_run;
+        no_wide = read.early.no_wide;
+      };
       at = line_on p (Parts h ns w cs read.cut) (Parts h ns w cs k) (by_line found.item) rest r page read.at
           (inl (inl (record {
             early = read.early;
@@ -138,14 +160,14 @@ outside_on p h ns w cs c rest r page read e =
       cut = k;
       same = record { pin = items.same.pin; reached = items.same.reached; blocked = items.same.blocked };
       no_run = items.early.no_run;
+      no_wide = items.early.no_wide;
       at = line_on p (Parts h ns w cs items.cut) (Parts h ns w cs k) (codes "by outside\n") rest r page items.at
           (inl (inr (inl (record { early = items.early; is = refl; to = refl })))) e;
       stuck = λ first. part_stuck p h ns w cs k r 98 first (inl refl) (λ l t x step f. elim step [
         | inl a ↦ late a.early.inside
         | inr rest_of ↦ elim rest_of [
           | inl a ↦ late a.early.inside
-          | inr a ↦ let y = rest_head l x r 98 f first in
-              let z = run_head h ns w cs k l x t a in omega (arith, y, z)
+          | inr a ↦ last_apart h ns w cs k l x r t 98 a f first (λ z. omega (arith, z)) (λ z. omega (arith, z))
         ]
       ]);
     }
@@ -161,13 +183,14 @@ no_outside p h ns w cs c rest read none =
       cut = items.cut;
       same = items.same;
       no_run = items.early.no_run;
+      no_wide = items.early.no_wide;
       at = items.at;
       stuck = λ first. part_stuck p h ns w cs items.cut rest 98 first (inl refl) (λ l t x step f. elim step [
         | inl a ↦ read.none a.item x (record { number = a.number; is = shown l (by_line a.item) x rest f a.is })
         | inr rest_of ↦ elim rest_of [
           | inl a ↦ none x (shown l (codes "by outside\n") x rest f a.is)
-          | inr a ↦ let y = rest_head l x rest 98 f first in
-              let z = run_head h ns w cs items.cut l x t a in omega (arith, y, z)
+          | inr a ↦ last_apart h ns w cs items.cut l x rest t 98 a f first (λ z. omega (arith, z))
+              (λ z. omega (arith, z))
         ]
       ]);
     }
@@ -180,7 +203,14 @@ blockers_stop p h ns w cs c rest read first =
 pub blockers_read : (p : Page) (h : Told) (ns : List NetTold) (w : List ℕ) (cs : List CutTold) (c : CutTold)
     (rest : List ℕ) → OutsideRead p h ns w cs c rest → (IsHead 98 rest → ⊥) → BlockersRead p h ns w cs c rest
 blockers_read p h ns w cs c rest read none =
-    record { cut = read.cut; same = read.same; no_run = read.no_run; at = read.at; head = none }
+    record {
+      cut = read.cut;
+      same = read.same;
+      no_run = read.no_run;
+      no_wide = read.no_wide;
+      at = read.at;
+      head = none;
+    }
 
 -- ---- stretches
 pub runs_start : (p : Page) (h : Told) (ns : List NetTold) (w : List ℕ) (cs : List CutTold) (c : CutTold)
@@ -188,6 +218,7 @@ pub runs_start : (p : Page) (h : Told) (ns : List NetTold) (w : List ℕ) (cs : 
 runs_start p h ns w cs c rest read = record {
   cut = read.cut;
   same = read.same;
+  no_wide = read.no_wide;
   runs_are = ap (λ (rs : List RunTold). map run_kept rs) (sym read.no_run);
   at = read.at;
   head = read.head;
@@ -202,8 +233,13 @@ run_at : (p : Page) (h : Told) (ns : List NetTold) (w : List ℕ) (cs : List Cut
     → (found : RunAt run r rest) → At p (Parts h ns w cs (with_run read.cut found.told)) r
 run_at p h ns w cs c runs run rest r page read found =
     line_on p (Parts h ns w cs read.cut) (Parts h ns w cs (with_run read.cut found.told)) (run_line found.told) rest r
-    page read.at (inl (inr (inr (record { run = found.told; told = found.has.told; is = refl; to = refl }))))
-    found.has.is
+    page read.at (inl (inr (inr (inl (record {
+      no_wide = read.no_wide;
+      run = found.told;
+      told = found.has.told;
+      is = refl;
+      to = refl;
+    }))))) found.has.is
 
 pub run_on : (p : Page) (h : Told) (ns : List NetTold) (w : List ℕ) (cs : List CutTold) (c : CutTold)
     (runs : List ReadRun) (run : ReadRun) (rest r : List ℕ) → IsPage p → RunsRead p h ns w cs c runs rest
@@ -211,6 +247,7 @@ pub run_on : (p : Page) (h : Told) (ns : List NetTold) (w : List ℕ) (cs : List
 run_on p h ns w cs c runs run rest r page read found none = record {
   cut = with_run read.cut found.told;
   same = record { pin = read.same.pin; reached = read.same.reached; blocked = read.same.blocked };
+  no_wide = read.no_wide;
   runs_are = (λ i. read.runs_are i ++ found.kept i ∷ []) ∙ sym (map-append run_kept read.cut.runs (found.told ∷ []));
   at = run_at p h ns w cs c runs run rest r page read found;
   head = none;
@@ -222,11 +259,15 @@ pub run_stop : (p : Page) (h : Told) (ns : List NetTold) (w : List ℕ) (cs : Li
 run_stop p h ns w cs c runs rest read first none = record {
   state = Parts h ns w cs read.cut;
   at = read.at;
-  stuck = part_stuck p h ns w cs read.cut rest 114 first (inr refl) (λ l t x step f. elim step [
+  stuck = part_stuck p h ns w cs read.cut rest 114 first (inr (inl refl)) (λ l t x step f. elim step [
     | inl a ↦ read.head (of_head 97 rest (ap head f ∙ ap (λ (z : List ℕ). head (z ++ x)) a.is))
     | inr rest_of ↦ elim rest_of [
       | inl a ↦ read.head (of_head 97 rest (ap head f ∙ ap (λ (z : List ℕ). head (z ++ x)) a.is))
-      | inr a ↦ none a.run x (record { told = a.told; is = shown l (run_line a.run) x rest f a.is })
+      | inr last ↦ elim last [
+        | inl a ↦ none a.run x (record { told = a.told; is = shown l (run_line a.run) x rest f a.is })
+        | inr a ↦ let y = rest_head l x rest 114 f first in
+            let z = wide_head h ns w cs read.cut l x t a in omega (arith, y, z)
+      ]
     ]
   ]);
 }
@@ -243,8 +284,7 @@ late_stop p h ns w cs c runs run rest r page read found first =
         | inl a ↦ late read.cut.runs found.told a.early.no_run
         | inr rest_of ↦ elim rest_of [
           | inl a ↦ late read.cut.runs found.told a.early.no_run
-          | inr a ↦ let y = rest_head l x r 98 f first in
-              let z = run_head h ns w cs k l x t a in omega (arith, y, z)
+          | inr a ↦ last_apart h ns w cs k l x r t 98 a f first (λ z. omega (arith, z)) (λ z. omega (arith, z))
         ]
       ]);
     }
@@ -253,43 +293,132 @@ late_stop p h ns w cs c runs run rest r page read found first =
     late [] r e = cc
     late (x ∷ rs) r e = cc
 
--- ---- behind a cut
+-- ---- the last line of a cut
 no_part : (p : Page) (h : Told) (ns : List NetTold) (w : List ℕ) (cs : List CutTold) (c : CutTold) (rest : List ℕ)
-    → (IsHead 98 rest → ⊥) → (IsHead 114 rest → ⊥) → (l : List ℕ) (t : State) (r : List ℕ)
+    → (IsHead 98 rest → ⊥) → (IsHead 114 rest → ⊥) → (IsHead 119 rest → ⊥) → (l : List ℕ) (t : State) (r : List ℕ)
     → PartStep h ns w cs c l t → rest ≡ l ++ r → ⊥
-no_part p h ns w cs c rest no_b no_r l t r step e = by (part_head h ns w cs c l r t step)
+no_part p h ns w cs c rest no_b no_r no_w l t r step e = by (part_head h ns w cs c l r t step)
   where
-    by : (head (l ++ r) ≡ 98) ⊎ (head (l ++ r) ≡ 114) → ⊥
+    by : IsPartByte (head (l ++ r)) → ⊥
     by (inl a) = no_b (of_head 97 rest (ap head e ∙ a))
-    by (inr a) = no_r (of_head 113 rest (ap head e ∙ a))
+    by (inr (inl a)) = no_r (of_head 113 rest (ap head e ∙ a))
+    by (inr (inr a)) = no_w (of_head 118 rest (ap head e ∙ a))
 
-pub before_next : (p : Page) (h : Told) (ns : List NetTold) (w : List ℕ) (cs : List CutTold) (c : CutTold)
-    (rest : List ℕ) → At p (Parts h ns w cs c) rest → (IsHead 98 rest → ⊥) → (IsHead 114 rest → ⊥)
-    → length (cs ++ c ∷ []) < value w → IsBeforeCut p h ns w (cs ++ c ∷ []) rest
-before_next p h ns w cs c rest at no_b no_r less = record {
-  state = Parts h ns w cs c;
-  at = at;
-  going = λ e. e;
-  only = λ l t r step e. elim step [
-    | inl a ↦ absurd (no_part p h ns w cs c rest no_b no_r l t r a e)
-    | inr rest_of ↦ elim rest_of [ inl a ↦ a | inr a ↦ absurd (omega (arith, less, a.full)) ]
-  ];
-  all = λ l t step. inr (inl step);
+-- behind it no line of the cut comes
+none_behind : (h : Told) (ns : List NetTold) (w : List ℕ) (cs : List CutTold) (c : CutTold) (size l : List ℕ)
+    (t : State) → PartStep h ns w cs (record c { wide = Some size }) l t → ⊥
+none_behind h ns w cs c size l t (inl a) = some_told (Some size) a.early.no_wide refl
+none_behind h ns w cs c size l t (inr (inl a)) = some_told (Some size) a.early.no_wide refl
+none_behind h ns w cs c size l t (inr (inr (inl a))) = some_told (Some size) a.no_wide refl
+none_behind h ns w cs c size l t (inr (inr (inr a))) = some_told (Some size) a.no_wide refl
+
+pub wide_on : (p : Page) (h : Told) (ns : List NetTold) (w : List ℕ) (cs : List CutTold) (k : ReadCut)
+    (size rest r : List ℕ) → IsPage p → MostRead p h ns w cs k rest → MayTell true ns cs
+    → HasOne (codes "wide ") size r rest → CutRead p h ns w cs k true r
+wide_on p h ns w cs k size rest r page read may one =
+    let c = record (read.cut) { wide = Some size } in record {
+      cut = c;
+      kept = record {
+        named = read.kept.named;
+        reached = read.kept.reached;
+        blocked = read.kept.blocked;
+        runs = read.kept.runs;
+      };
+      at = line_on p (Parts h ns w cs read.cut) (Parts h ns w cs c) (wide_line size) rest r page read.at
+          (inl (inr (inr (inr (record {
+            no_wide = read.no_wide;
+            may = may;
+            size = size;
+            number = one.number;
+            is = refl;
+            to = refl;
+          }))))) (one_line (codes "wide ") size r rest one);
+      wide_is = refl;
+      may = may;
+      no_part = λ l t x step e. none_behind h ns w cs read.cut size l t step;
+    }
+
+pub wide_stop : (p : Page) (h : Told) (ns : List NetTold) (w : List ℕ) (cs : List CutTold) (k : ReadCut)
+    (rest : List ℕ) → MostRead p h ns w cs k rest → IsHead 119 rest
+    → ((size r : List ℕ) → MayTell true ns cs → HasOne (codes "wide ") size r rest → ⊥) → IsStopped p rest
+wide_stop p h ns w cs k rest read first none = record {
+  state = Parts h ns w cs read.cut;
+  at = read.at;
+  stuck = part_stuck p h ns w cs read.cut rest 119 first (inr (inr refl)) (λ l t x step f. elim step [
+    | inl a ↦ read.no_blocker (of_head 97 rest (ap head f ∙ ap (λ (z : List ℕ). head (z ++ x)) a.is))
+    | inr rest_of ↦ elim rest_of [
+      | inl a ↦ read.no_blocker (of_head 97 rest (ap head f ∙ ap (λ (z : List ℕ). head (z ++ x)) a.is))
+      | inr last ↦ elim last [
+        | inl a ↦ read.no_run (of_head 113 rest (ap head f ∙ ap (λ (z : List ℕ). head (z ++ x)) a.is))
+        | inr a ↦ none a.size x a.may
+            (one_of_line (codes "wide ") a.size x rest a.number (shown l (wide_line a.size) x rest f a.is))
+      ]
+    ]
+  ]);
 }
 
-pub between_next : (p : Page) (h : Told) (ns : List NetTold) (w : List ℕ) (cs : List CutTold) (c : CutTold)
-    (rest : List ℕ) → At p (Parts h ns w cs c) rest → (IsHead 98 rest → ⊥) → (IsHead 114 rest → ⊥)
-    → length (cs ++ c ∷ []) ≡ value w → IsBetween p h (ns ++ opened w (cs ++ c ∷ []) ∷ []) rest
-between_next p h ns w cs c rest at no_b no_r full = record {
-  state = Parts h ns w cs c;
-  at = at;
-  going = λ e. e;
-  only = λ l t r step e. elim step [
-    | inl a ↦ absurd (no_part p h ns w cs c rest no_b no_r l t r a e)
-    | inr rest_of ↦ elim rest_of [ inl a ↦ absurd (omega (arith, full, a.more)) | inr a ↦ a.step ]
-  ];
-  all = λ l t step. inr (inr (record { full = full; step = step }));
+pub plain_on : (p : Page) (h : Told) (ns : List NetTold) (w : List ℕ) (cs : List CutTold) (k : ReadCut)
+    (rest : List ℕ) → MostRead p h ns w cs k rest → MayTell false ns cs → (IsHead 119 rest → ⊥)
+    → CutRead p h ns w cs k false rest
+plain_on p h ns w cs k rest read may no_w = record {
+  cut = read.cut;
+  kept = read.kept;
+  at = read.at;
+  wide_is = ap (λ (o : Option (List ℕ)). is_some o) read.no_wide;
+  may = may;
+  no_part = no_part p h ns w cs read.cut rest read.no_blocker read.no_run no_w;
 }
+
+pub plain_stop : (p : Page) (h : Told) (ns : List NetTold) (w : List ℕ) (cs : List CutTold) (k : ReadCut)
+    (rest : List ℕ) → MostRead p h ns w cs k rest → (MayTell false ns cs → ⊥) → (IsHead 119 rest → ⊥)
+    → IsStopped p rest
+plain_stop p h ns w cs k rest read may_not no_w = record {
+  state = Parts h ns w cs read.cut;
+  at = read.at;
+  stuck = record { none = each; more = λ e f. e };
+}
+  where
+    own : MayTell (tells_wide read.cut) ns cs → ⊥
+    own may = may_not (subst (λ (o : Option (List ℕ)). MayTell (is_some o) ns cs) read.no_wide may)
+
+    each : (l : List ℕ) (t : State) (r : List ℕ) → Next p (Parts h ns w cs read.cut) l t → rest ≡ l ++ r → ⊥
+    each l t r (inl a) e = no_part p h ns w cs read.cut rest read.no_blocker read.no_run no_w l t r a e
+    each l t r (inr (inl a)) e = own a.may
+    each l t r (inr (inr a)) e = own a.may
+
+-- ---- behind a cut
+module _ (p : Page) (h : Told) (ns : List NetTold) (w : List ℕ) (cs : List CutTold) (k : ReadCut) (wide : Bool)
+    (rest : List ℕ) (read : CutRead p h ns w cs k wide rest) where
+  own_may : MayTell (tells_wide read.cut) ns cs
+  own_may = like_cut wide ns cs read.cut read.wide_is read.may
+
+  pub before_next : length (cs ++ read.cut ∷ []) < value w → IsBeforeCut p h ns w (cs ++ read.cut ∷ []) rest
+  before_next less = record {
+    state = Parts h ns w cs read.cut;
+    at = read.at;
+    going = λ e. e;
+    only = λ l t r step e. elim step [
+      | inl a ↦ absurd (read.no_part l t r a e)
+      | inr rest_of ↦ elim rest_of [ inl a ↦ a.step | inr a ↦ absurd (omega (arith, less, a.full)) ]
+    ];
+    all = λ l t step. inr (inl (record { may = own_may; step = step }));
+  }
+
+  pub between_next : length (cs ++ read.cut ∷ []) ≡ value w
+      → IsBetween p h (ns ++ opened w (cs ++ read.cut ∷ []) ∷ []) rest
+  between_next full = record {
+    state = Parts h ns w cs read.cut;
+    at = read.at;
+    going = λ e. e;
+    only = λ l t r step e. elim step [
+      | inl a ↦ absurd (read.no_part l t r a e)
+      | inr rest_of ↦ elim rest_of [
+        | inl a ↦ let more = a.step.more in absurd (omega (arith, full, more))
+        | inr a ↦ a.step
+      ]
+    ];
+    all = λ l t step. inr (inr (record { may = own_may; full = full; step = step }));
+  }
 
 pub first_cut : (p : Page) (h : Told) (ns : List NetTold) (w rest : List ℕ) → At p (Opened h ns w) rest
     → IsBeforeCut p h ns w [] rest

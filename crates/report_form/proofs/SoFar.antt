@@ -1,13 +1,13 @@
 -- The lines so far, with one more.
-use Rattle.std.proofs.Common.{◌≡◌, inl, inr, ℕ, ◌+◌, ◌<◌, ◌≤◌, Bool, true, List, [], ◌∷◌, ◌++◌}
-use Rattle.std.proofs.Common.{length, refl, sym, ap, ap₂, ◌∙◌, subst, arith, flat_map}
+use Rattle.std.proofs.Common.{◌≡◌, inl, inr, ℕ, ◌+◌, ◌<◌, ◌≤◌, true, List, [], ◌∷◌, ◌++◌, Option, Some, None}
+use Rattle.std.proofs.Common.{length, refl, sym, ap, ◌∙◌, subst, arith, flat_map}
 use Rattle.std.specs.Prelude.{codes}
 use Rattle.std.proofs.lemmas.List.{append_assoc, append-nil}
 use Rattle.pcb_model.specs.declared.design.Design.{Design}
 use Rattle.pcb_model.specs.declared.item.Kind.{Kind}
 use Rattle.ses_writer.specs.Words.{spelled}
 use Rattle.report_form.specs.Form.{Told, NetTold, CutTold, RunTold, line, by_line, by_lines, outside_lines}
-use Rattle.report_form.specs.Form.{run_line, run_lines, cut_line, cut_lines, nets_lines}
+use Rattle.report_form.specs.Form.{run_line, run_lines, wide_line, wide_lines, cut_line, cut_lines, nets_lines}
 use Rattle.report_form.specs.Form.{pass_lines, size_line, total_line, head_lines, pass_part, lines}
 use Rattle.report_form.specs.inner.State.{Page, State, Start, Named, Sized, Gridded, Dropping, Passing, Joining}
 use Rattle.report_form.specs.inner.State.{Netting}
@@ -105,12 +105,12 @@ by_adds : (c : CutTold) (item : Kind × List ℕ) → IsEarly c
 by_adds c item e =
     let items = by_lines c.by_items in
     ap (λ (z : List (List ℕ)). cut_line c ∷ z)
-    (ap₂ (λ (b : Bool) (rs : List RunTold). by_lines (c.by_items ++ item ∷ []) ++ (outside_lines b ++ run_lines rs))
-    e.inside e.no_run
+    ((λ i. by_lines (c.by_items ++ item ∷ [])
+    ++ (outside_lines (e.inside i) ++ (run_lines (e.no_run i) ++ wide_lines (e.no_wide i))))
     ∙ append-nil (by_lines (c.by_items ++ item ∷ [])) ∙ by_more c.by_items item
     ∙ ap (λ (z : List (List ℕ)). z ++ by_line item ∷ []) (sym (append-nil items))
-    ∙ ap₂ (λ (b : Bool) (rs : List RunTold). (items ++ (outside_lines b ++ run_lines rs)) ++ by_line item ∷ [])
-    (sym e.inside) (sym e.no_run))
+    ∙ (λ i. (items ++ (outside_lines (sym e.inside i) ++ (run_lines (sym e.no_run i) ++ wide_lines (sym e.no_wide i))))
+    ++ by_line item ∷ []))
 
 outside_adds : (c : CutTold) → IsEarly c
     → cut_lines (record c { by_outside = true }) ≡ cut_lines c ++ codes "by outside\n" ∷ []
@@ -118,19 +118,33 @@ outside_adds c e =
     let items = by_lines c.by_items in
     let o = codes "by outside\n" in
     ap (λ (z : List (List ℕ)). cut_line c ∷ z)
-    (ap (λ (rs : List RunTold). items ++ (o ∷ run_lines rs)) e.no_run
+    ((λ i. items ++ (o ∷ (run_lines (e.no_run i) ++ wide_lines (e.no_wide i))))
     ∙ ap (λ (z : List (List ℕ)). z ++ o ∷ []) (sym (append-nil items))
-    ∙ ap₂ (λ (b : Bool) (rs : List RunTold). (items ++ (outside_lines b ++ run_lines rs)) ++ o ∷ [])
-    (sym e.inside) (sym e.no_run))
+    ∙ (λ i. (items ++ (outside_lines (sym e.inside i) ++ (run_lines (sym e.no_run i) ++ wide_lines (sym e.no_wide i))))
+    ++ o ∷ []))
 
-run_adds : (c : CutTold) (r : RunTold)
-    → cut_lines (record c { runs = c.runs ++ r ∷ [] }) ≡ cut_lines c ++ run_line r ∷ []
-run_adds c r =
+-- a line behind those of a cut without the last one
+last_line : (c : CutTold) (rs : List (List ℕ)) (l : List ℕ) → c.wide ≡ None → rs ≡ run_lines c.runs ++ l ∷ []
+    → cut_line c ∷ (by_lines c.by_items ++ (outside_lines c.by_outside ++ rs)) ≡ cut_lines c ++ l ∷ []
+last_line c rs l none is =
     let items = by_lines c.by_items in
     let outside = outside_lines c.by_outside in
     ap (λ (z : List (List ℕ)). cut_line c ∷ z)
-    (ap (λ (z : List (List ℕ)). items ++ (outside ++ z)) (run_more c.runs r)
-    ∙ behind_three items outside (run_lines c.runs) (run_line r ∷ []))
+    (ap (λ (z : List (List ℕ)). items ++ (outside ++ z)) is
+    ∙ behind_three items outside (run_lines c.runs) (l ∷ [])
+    ∙ ap (λ (z : List (List ℕ)). (items ++ (outside ++ z)) ++ l ∷ [])
+    (sym (append-nil (run_lines c.runs)) ∙ ap (λ (w : Option (List ℕ)). run_lines c.runs ++ wide_lines w) (sym none)))
+
+run_adds : (c : CutTold) (r : RunTold) → c.wide ≡ None
+    → cut_lines (record c { runs = c.runs ++ r ∷ [] }) ≡ cut_lines c ++ run_line r ∷ []
+run_adds c r none =
+    last_line c (run_lines (c.runs ++ r ∷ []) ++ wide_lines c.wide) (run_line r) none
+    (ap (λ (w : Option (List ℕ)). run_lines (c.runs ++ r ∷ []) ++ wide_lines w) none
+    ∙ (append-nil (run_lines (c.runs ++ r ∷ [])) ∙ run_more c.runs r))
+
+wide_adds : (c : CutTold) (size : List ℕ) → c.wide ≡ None
+    → cut_lines (record c { wide = Some size }) ≡ cut_lines c ++ wide_line size ∷ []
+wide_adds c size none = last_line c (run_lines c.runs ++ wide_line size ∷ []) (wide_line size) none refl
 
 part_adds : (d : Design) (h : Told) (ns : List NetTold) (islands : List ℕ) (cs : List CutTold) (c : CutTold)
     (l : List ℕ) (t : State) → PartStep h ns islands cs c l t
@@ -143,10 +157,14 @@ part_adds d h ns islands cs c l t (inr (inl e)) =
     let k = record c { by_outside = true } in
     step_adds d t (Parts h ns islands cs k) (so_far d (Parts h ns islands cs c)) l (codes "by outside\n") e.to e.is
     (last_adds d h ns islands cs c k (codes "by outside\n") (outside_adds c e.early))
-part_adds d h ns islands cs c l t (inr (inr e)) =
+part_adds d h ns islands cs c l t (inr (inr (inl e))) =
     let k = record c { runs = c.runs ++ e.run ∷ [] } in
     step_adds d t (Parts h ns islands cs k) (so_far d (Parts h ns islands cs c)) l (run_line e.run) e.to e.is
-    (last_adds d h ns islands cs c k (run_line e.run) (run_adds c e.run))
+    (last_adds d h ns islands cs c k (run_line e.run) (run_adds c e.run e.no_wide))
+part_adds d h ns islands cs c l t (inr (inr (inr e))) =
+    let k = record c { wide = Some e.size } in
+    step_adds d t (Parts h ns islands cs k) (so_far d (Parts h ns islands cs c)) l (wide_line e.size) e.to e.is
+    (last_adds d h ns islands cs c k (wide_line e.size) (wide_adds c e.size e.no_wide))
 
 -- where all cuts of a net are there, the lines are those behind the net
 pub filled_lines : (d : Design) (h : Told) (ns : List NetTold) (islands : List ℕ) (cs : List CutTold) (c : CutTold)
@@ -202,11 +220,12 @@ adds p (Joining h) t l good e =
 adds p (Netting h ns) t l good e = net_adds p h ns l t e
 adds p (Opened h ns islands) t l good e = first_cut_adds p h ns islands l t e
 adds p (Parts h ns islands cs c) t l good (inl e) = part_adds p.design h ns islands cs c l t e
-adds p (Parts h ns islands cs c) t l good (inr (inl e)) = cut_adds p h ns islands cs c l t e
+adds p (Parts h ns islands cs c) t l good (inr (inl e)) = cut_adds p h ns islands cs c l t e.step
 adds p (Parts h ns islands cs c) t l good (inr (inr e)) =
     net_adds p h (ns ++ opened islands (cs ++ c ∷ []) ∷ []) l t e.step
     ∙ ap (λ (L : List (List ℕ)). L ++ l ∷ [])
-    (filled_lines p.design h ns islands cs c good.below (omega (arith, e.full, good.many)))
+    (filled_lines p.design h ns islands cs c good.opened.below
+    (let many = good.opened.many in omega (arith, e.full, many)))
 adds p (Ended h) t l good e = absurd e
 
 -- ---- the lines of a path

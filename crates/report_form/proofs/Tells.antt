@@ -1,17 +1,18 @@
 -- Of the lines that may come next, a text begins with at most one.
 use Rattle.std.proofs.Common.{◌≡◌, ◌⊎◌, inl, inr, ℕ, ◌+◌, List, [], ◌∷◌, ◌++◌, length, get_or, refl, sym, ap}
-use Rattle.std.proofs.Common.{ap₂, ◌∙◌, arith, true}
+use Rattle.std.proofs.Common.{ap₂, ◌∙◌, arith, true, Some}
 use Rattle.std.specs.Prelude.{codes, decimal, slice_get}
 use Rattle.std.proofs.lemmas.List.{append_cancel_left}
 use Rattle.pcb_model.specs.declared.item.Kind.{Kind}
 use Rattle.ses_writer.specs.Words.{spelled}
 use Rattle.report_form.specs.Form.{Told, NetTold, CutTold, RunTold, PassTold, line, by_line, run_line, cut_line}
-use Rattle.report_form.specs.Form.{total_line}
+use Rattle.report_form.specs.Form.{total_line, wide_line}
 use Rattle.report_form.specs.inner.State.{Page, State, Start, Named, Sized, Gridded, Dropping, Passing, Joining}
 use Rattle.report_form.specs.inner.State.{Netting}
 use Rattle.report_form.specs.inner.State.{Opened, Parts, Ended, GridStep, DroppedStep, DropStep, NotesStep, PassStep}
 use Rattle.report_form.specs.inner.State.{KeptStep, JoinsStep, CompleteStep, OpenStep, NetStep, CutStep}
-use Rattle.report_form.specs.inner.State.{ByStep, OutsideStep, RunStep, PartStep, FilledStep, Next, gridded, whole}
+use Rattle.report_form.specs.inner.State.{ByStep, OutsideStep, RunStep, WideStep, PartStep, NextStep, FilledStep}
+use Rattle.report_form.specs.inner.State.{Next, gridded, whole}
 use Rattle.report_form.specs.inner.State.{opened, bare, grid_line, pass_line, opened_line, complete_line}
 use Rattle.report_form.specs.inner.State.{name_after, firsts_after}
 use Rattle.report_form.proofs.Peels.{one_peel, two_peel, four_peel, cut_peel, by_peel, letter_of, no_boundary}
@@ -201,6 +202,33 @@ pub run_head : (h : Told) (ns : List NetTold) (islands : List ℕ) (cs : List Cu
     (t : State) → RunStep h ns islands cs c l t → head (l ++ r) ≡ 114
 run_head h ns islands cs c l r t a = ap (λ (x : List ℕ). head (x ++ r)) a.is
 
+pub wide_head : (h : Told) (ns : List NetTold) (islands : List ℕ) (cs : List CutTold) (c : CutTold) (l r : List ℕ)
+    (t : State) → WideStep h ns islands cs c l t → head (l ++ r) ≡ 119
+wide_head h ns islands cs c l r t a = ap (λ (x : List ℕ). head (x ++ r)) a.is
+
+wide_one : (h : Told) (ns : List NetTold) (islands : List ℕ) (cs : List CutTold) (c : CutTold) (l m r q : List ℕ)
+    (t v : State) → WideStep h ns islands cs c l t → WideStep h ns islands cs c m v → l ++ r ≡ m ++ q → IsOne l m t v
+wide_one h ns islands cs c l m r q t v a b e =
+    let s = λ (x : List ℕ). Parts h ns islands cs (record c { wide = Some x }) in
+    let w = one_peel (codes "wide ") a.size b.size r q a.number b.number
+    (shown l m (wide_line a.size) (wide_line b.size) r q a.is b.is e) in
+    one l m (wide_line a.size) (wide_line b.size) t v (s a.size) (s b.size) a.is b.is a.to b.to (ap wide_line w.0)
+    (ap s w.0)
+
+-- what comes before the last line of a cut
+abbrev Other : Told → List NetTold → List ℕ → List CutTold → CutTold → List ℕ → State → Type 0
+Other h ns islands cs c l t = (ByStep h ns islands cs c l t ⊎ OutsideStep h ns islands cs c l t)
+    ⊎ RunStep h ns islands cs c l t
+
+other_or_wide : (h : Told) (ns : List NetTold) (islands : List ℕ) (cs : List CutTold) (c : CutTold) (l m r q : List ℕ)
+    (t v : State) → Other h ns islands cs c l t → WideStep h ns islands cs c m v → l ++ r ≡ m ++ q → ⊥
+other_or_wide h ns islands cs c l m r q t v (inl a) b e =
+    let z : 98 ≡ 119 = sym (early_head h ns islands cs c l r t a) ∙ ap head e ∙ wide_head h ns islands cs c m q v b in
+    omega (arith, z)
+other_or_wide h ns islands cs c l m r q t v (inr a) b e =
+    let z : 114 ≡ 119 = sym (run_head h ns islands cs c l r t a) ∙ ap head e ∙ wide_head h ns islands cs c m q v b in
+    omega (arith, z)
+
 early_or_run : (h : Told) (ns : List NetTold) (islands : List ℕ) (cs : List CutTold) (c : CutTold) (l m r q : List ℕ)
     (t v : State) → (ByStep h ns islands cs c l t ⊎ OutsideStep h ns islands cs c l t)
     → RunStep h ns islands cs c m v → l ++ r ≡ m ++ q → ⊥
@@ -213,28 +241,47 @@ part_one : (h : Told) (ns : List NetTold) (islands : List ℕ) (cs : List CutTol
 part_one h ns islands cs c l m r q t v (inl a) (inl b) e = by_one h ns islands cs c l m r q t v a b e
 part_one h ns islands cs c l m r q t v (inl a) (inr (inl b)) e =
     absurd (by_or_outside h ns islands cs c l m r q t v a b e)
-part_one h ns islands cs c l m r q t v (inl a) (inr (inr b)) e =
+part_one h ns islands cs c l m r q t v (inl a) (inr (inr (inl b))) e =
     absurd (early_or_run h ns islands cs c l m r q t v (inl a) b e)
+part_one h ns islands cs c l m r q t v (inl a) (inr (inr (inr b))) e =
+    absurd (other_or_wide h ns islands cs c l m r q t v (inl (inl a)) b e)
 part_one h ns islands cs c l m r q t v (inr (inl a)) (inl b) e =
     absurd (by_or_outside h ns islands cs c m l q r v t b a (sym e))
 part_one h ns islands cs c l m r q t v (inr (inl a)) (inr (inl b)) e =
     let k = record c { by_outside = true } in
     one l m (codes "by outside\n") (codes "by outside\n") t v (Parts h ns islands cs k) (Parts h ns islands cs k) a.is
     b.is a.to b.to refl refl
-part_one h ns islands cs c l m r q t v (inr (inl a)) (inr (inr b)) e =
+part_one h ns islands cs c l m r q t v (inr (inl a)) (inr (inr (inl b))) e =
     absurd (early_or_run h ns islands cs c l m r q t v (inr a) b e)
-part_one h ns islands cs c l m r q t v (inr (inr a)) (inl b) e =
+part_one h ns islands cs c l m r q t v (inr (inl a)) (inr (inr (inr b))) e =
+    absurd (other_or_wide h ns islands cs c l m r q t v (inl (inr a)) b e)
+part_one h ns islands cs c l m r q t v (inr (inr (inl a))) (inl b) e =
     absurd (early_or_run h ns islands cs c m l q r v t (inl b) a (sym e))
-part_one h ns islands cs c l m r q t v (inr (inr a)) (inr (inl b)) e =
+part_one h ns islands cs c l m r q t v (inr (inr (inl a))) (inr (inl b)) e =
     absurd (early_or_run h ns islands cs c m l q r v t (inr b) a (sym e))
-part_one h ns islands cs c l m r q t v (inr (inr a)) (inr (inr b)) e = run_one h ns islands cs c l m r q t v a b e
+part_one h ns islands cs c l m r q t v (inr (inr (inl a))) (inr (inr (inl b))) e =
+    run_one h ns islands cs c l m r q t v a b e
+part_one h ns islands cs c l m r q t v (inr (inr (inl a))) (inr (inr (inr b))) e =
+    absurd (other_or_wide h ns islands cs c l m r q t v (inr a) b e)
+part_one h ns islands cs c l m r q t v (inr (inr (inr a))) (inl b) e =
+    absurd (other_or_wide h ns islands cs c m l q r v t (inl (inl b)) a (sym e))
+part_one h ns islands cs c l m r q t v (inr (inr (inr a))) (inr (inl b)) e =
+    absurd (other_or_wide h ns islands cs c m l q r v t (inl (inr b)) a (sym e))
+part_one h ns islands cs c l m r q t v (inr (inr (inr a))) (inr (inr (inl b))) e =
+    absurd (other_or_wide h ns islands cs c m l q r v t (inr b) a (sym e))
+part_one h ns islands cs c l m r q t v (inr (inr (inr a))) (inr (inr (inr b))) e =
+    wide_one h ns islands cs c l m r q t v a b e
 
 -- ---- what follows a cut's lines
+abbrev pub IsPartByte : ℕ → Type 0
+IsPartByte byte = (byte ≡ 98) ⊎ ((byte ≡ 114) ⊎ (byte ≡ 119))
+
 pub part_head : (h : Told) (ns : List NetTold) (islands : List ℕ) (cs : List CutTold) (c : CutTold) (l r : List ℕ)
-    (t : State) → PartStep h ns islands cs c l t → (head (l ++ r) ≡ 98) ⊎ (head (l ++ r) ≡ 114)
+    (t : State) → PartStep h ns islands cs c l t → IsPartByte (head (l ++ r))
 part_head h ns islands cs c l r t (inl a) = inl (early_head h ns islands cs c l r t (inl a))
 part_head h ns islands cs c l r t (inr (inl a)) = inl (early_head h ns islands cs c l r t (inr a))
-part_head h ns islands cs c l r t (inr (inr a)) = inr (run_head h ns islands cs c l r t a)
+part_head h ns islands cs c l r t (inr (inr (inl a))) = inr (inl (run_head h ns islands cs c l r t a))
+part_head h ns islands cs c l r t (inr (inr (inr a))) = inr (inr (wide_head h ns islands cs c l r t a))
 
 pub cut_head : (p : Page) (h : Told) (ns : List NetTold) (islands : List ℕ) (cs : List CutTold) (l r : List ℕ)
     (t : State) → CutStep p h ns islands cs l t → head (l ++ r) ≡ 99
@@ -246,27 +293,34 @@ net_head p h ns l r t (inl a) = inl (ap (λ (x : List ℕ). head (x ++ r)) a.is)
 net_head p h ns l r t (inr (inl a)) = inl (ap (λ (x : List ℕ). head (x ++ r)) a.is)
 net_head p h ns l r t (inr (inr a)) = inr (ap (λ (x : List ℕ). head (x ++ r)) a.is)
 
-apart : (x y : ℕ) → (x ≡ 98) ⊎ (x ≡ 114) → (y ≡ 110) ⊎ (y ≡ 99) → x ≡ y → ⊥
+apart : (x y : ℕ) → IsPartByte x → (y ≡ 110) ⊎ (y ≡ 99) → x ≡ y → ⊥
 apart x y (inl a) (inl b) e = omega (arith, a, b, e)
 apart x y (inl a) (inr b) e = omega (arith, a, b, e)
-apart x y (inr a) (inl b) e = omega (arith, a, b, e)
-apart x y (inr a) (inr b) e = omega (arith, a, b, e)
+apart x y (inr (inl a)) (inl b) e = omega (arith, a, b, e)
+apart x y (inr (inl a)) (inr b) e = omega (arith, a, b, e)
+apart x y (inr (inr a)) (inl b) e = omega (arith, a, b, e)
+apart x y (inr (inr a)) (inr b) e = omega (arith, a, b, e)
 
-abbrev Leaves : Page → Told → List NetTold → List ℕ → List CutTold → List ℕ → State → Type 0
-Leaves p h ns islands cs l t = CutStep p h ns islands cs l t ⊎ FilledStep p h ns islands cs l t
+abbrev Leaves : Page → Told → List NetTold → List ℕ → List CutTold → CutTold → List ℕ → State → Type 0
+Leaves p h ns islands cs c l t = NextStep p h ns islands cs c l t ⊎ FilledStep p h ns islands cs c l t
 
-leave_head : (p : Page) (h : Told) (ns : List NetTold) (islands : List ℕ) (cs : List CutTold) (l r : List ℕ)
-    (t : State) → Leaves p h ns islands cs l t → (head (l ++ r) ≡ 110) ⊎ (head (l ++ r) ≡ 99)
-leave_head p h ns islands cs l r t (inl a) = inr (cut_head p h ns islands cs l r t a)
-leave_head p h ns islands cs l r t (inr a) = net_head p h (ns ++ opened islands cs ∷ []) l r t a.step
+leave_head : (p : Page) (h : Told) (ns : List NetTold) (islands : List ℕ) (cs : List CutTold) (c : CutTold)
+    (l r : List ℕ) (t : State) → Leaves p h ns islands cs c l t → (head (l ++ r) ≡ 110) ⊎ (head (l ++ r) ≡ 99)
+leave_head p h ns islands cs c l r t (inl a) = inr (cut_head p h ns islands (cs ++ c ∷ []) l r t a.step)
+leave_head p h ns islands cs c l r t (inr a) =
+    net_head p h (ns ++ opened islands (cs ++ c ∷ []) ∷ []) l r t a.step
 
-leave_one : (p : Page) (h : Told) (ns : List NetTold) (islands : List ℕ) (cs : List CutTold) (l m r q : List ℕ)
-    (t v : State) → Leaves p h ns islands cs l t → Leaves p h ns islands cs m v → l ++ r ≡ m ++ q → IsOne l m t v
-leave_one p h ns islands cs l m r q t v (inl a) (inl b) e = cut_one p h ns islands cs l m r q t v a b e
-leave_one p h ns islands cs l m r q t v (inl a) (inr b) e = absurd (omega (arith, a.more, b.full))
-leave_one p h ns islands cs l m r q t v (inr a) (inl b) e = absurd (omega (arith, b.more, a.full))
-leave_one p h ns islands cs l m r q t v (inr a) (inr b) e =
-    net_one p h (ns ++ opened islands cs ∷ []) l m r q t v a.step b.step e
+leave_one : (p : Page) (h : Told) (ns : List NetTold) (islands : List ℕ) (cs : List CutTold) (c : CutTold)
+    (l m r q : List ℕ) (t v : State) → Leaves p h ns islands cs c l t → Leaves p h ns islands cs c m v
+    → l ++ r ≡ m ++ q → IsOne l m t v
+leave_one p h ns islands cs c l m r q t v (inl a) (inl b) e =
+    cut_one p h ns islands (cs ++ c ∷ []) l m r q t v a.step b.step e
+leave_one p h ns islands cs c l m r q t v (inl a) (inr b) e =
+    let more = a.step.more in absurd (omega (arith, more, b.full))
+leave_one p h ns islands cs c l m r q t v (inr a) (inl b) e =
+    let more = b.step.more in absurd (omega (arith, more, a.full))
+leave_one p h ns islands cs c l m r q t v (inr a) (inr b) e =
+    net_one p h (ns ++ opened islands (cs ++ c ∷ []) ∷ []) l m r q t v a.step b.step e
 
 -- one text begins with one line that may come next
 pub tells : (p : Page) (s t v : State) (l m r q : List ℕ) → Next p s l t → Next p s m v → l ++ r ≡ m ++ q
@@ -288,9 +342,9 @@ tells p (Netting h ns) t v l m r q a b e = net_one p h ns l m r q t v a b e
 tells p (Opened h ns islands) t v l m r q a b e = cut_one p h ns islands [] l m r q t v a b e
 tells p (Parts h ns islands cs c) t v l m r q (inl a) (inl b) e = part_one h ns islands cs c l m r q t v a b e
 tells p (Parts h ns islands cs c) t v l m r q (inl a) (inr b) e = absurd (apart (head (l ++ r)) (head (m ++ q))
-    (part_head h ns islands cs c l r t a) (leave_head p h ns islands (cs ++ c ∷ []) m q v b) (ap head e))
+    (part_head h ns islands cs c l r t a) (leave_head p h ns islands cs c m q v b) (ap head e))
 tells p (Parts h ns islands cs c) t v l m r q (inr a) (inl b) e = absurd (apart (head (m ++ q)) (head (l ++ r))
-    (part_head h ns islands cs c m q v b) (leave_head p h ns islands (cs ++ c ∷ []) l r t a) (ap head (sym e)))
+    (part_head h ns islands cs c m q v b) (leave_head p h ns islands cs c l r t a) (ap head (sym e)))
 tells p (Parts h ns islands cs c) t v l m r q (inr a) (inr b) e =
-    leave_one p h ns islands (cs ++ c ∷ []) l m r q t v a b e
+    leave_one p h ns islands cs c l m r q t v a b e
 tells p (Ended h) t v l m r q a b e = absurd a

@@ -3,7 +3,7 @@ use Rattle.std.specs.Prelude.{◌≡◌, ◌≤◌, ◌⊎◌, ℕ, ◌+◌, ◌
 use Rattle.std.specs.Prelude.{◌∷◌}
 use Rattle.std.specs.Prelude.{◌++◌, length, All, flat_map, take, filter, count_by, codes}
 use Rattle.std.specs.Prelude.{decimal}
-use Rattle.std.specs.Prelude.{Option, Some, None, if◌then◌else◌}
+use Rattle.std.specs.Prelude.{Option, Some, None, IfSome, is_some, if◌then◌else◌}
 use Rattle.std.specs.List.{list_all, list_any, AllZip}
 use Rattle.std.specs.Char.{is_ascii_digit}
 use Rattle.std.specs.Str.Parse.{digits_value}
@@ -38,7 +38,7 @@ pub record RunTold : Type 0 where
   pub last : List ℕ
 
 -- an island: the name of a pin, how many nodes are reached, how many moves are blocked, by which items and whether by
--- a boundary, and the nodes
+-- a boundary, the nodes, and perhaps how many nodes moves reach, those at 45 degrees among them
 pub record CutTold : Type 0 where
   pub pin : List ℕ
   pub reached : List ℕ
@@ -46,6 +46,7 @@ pub record CutTold : Type 0 where
   pub by_items : List (Kind × List ℕ)
   pub by_outside : Bool
   pub runs : List RunTold
+  pub wide : Option (List ℕ)
 
 -- a net: complete where it has no cut, else open with so many islands, and a cut for each
 pub record NetTold : Type 0 where
@@ -103,8 +104,16 @@ abbrev pub run_lines : List RunTold → List (List ℕ)
 run_lines [] = []
 run_lines (r ∷ rs) = run_line r ∷ run_lines rs
 
+abbrev pub wide_line : List ℕ → List ℕ
+wide_line size = line (codes "wide " ++ size)
+
+abbrev pub wide_lines : Option (List ℕ) → List (List ℕ)
+wide_lines None = []
+wide_lines (Some size) = wide_line size ∷ []
+
 abbrev pub cut_lines : CutTold → List (List ℕ)
-cut_lines c = cut_line c ∷ (by_lines c.by_items ++ (outside_lines c.by_outside ++ run_lines c.runs))
+cut_lines c = cut_line c
+    ∷ (by_lines c.by_items ++ (outside_lines c.by_outside ++ (run_lines c.runs ++ wide_lines c.wide)))
 
 abbrev pub net_words : NetTold → List ℕ
 net_words n = if length n.cuts == 0 then codes " complete" else codes " open " ++ n.islands
@@ -190,6 +199,7 @@ pub record IsCutTold (first : Option (List ℕ)) (c : CutTold) : Type 0 where
   pub blocked : IsNumber c.blocked
   pub by_items : All (λ (b : Kind × List ℕ). IsNumber b.1) c.by_items
   pub runs : All IsRun c.runs
+  pub wide : IfSome c.wide IsNumber
 
 -- the cuts one after another, each with the first pin of its place, as far as there is one
 abbrev pub AreCutsTold : List (List ℕ) → List CutTold → Type 0
@@ -208,6 +218,19 @@ pub record IsPassTold (p : PassTold) : Type 0 where
   pub commits : IsNumber p.commits
   pub parted : IsNumber p.parted
 
+-- the cuts of all nets
+abbrev pub cuts_in : List NetTold → List CutTold
+cuts_in [] = []
+cuts_in (n ∷ ns) = n.cuts ++ cuts_in ns
+
+abbrev pub tells_wide : CutTold → Bool
+tells_wide c = is_some c.wide
+
+-- each of the cuts tells how far moves at 45 degrees reach, or none does
+pub record TellAlike (cs : List CutTold) : Type 0 where
+  pub wide : Bool
+  pub each : All (λ (c : CutTold). tells_wide c ≡ wide) cs
+
 -- what is told is told as a report tells it; `firsts` has for each net the names of its islands' first pins
 pub record IsTold (d : Design) (firsts : List (List (List ℕ))) (t : Told) : Type 0 where
   pub grid : IsNumber t.grid
@@ -224,6 +247,7 @@ pub record IsTold (d : Design) (firsts : List (List (List ℕ))) (t : Told) : Ty
   pub joins : IsNumber t.joins
   pub all_nets : length t.nets ≡ length d.nets
   pub nets : AllZip IsNetTold firsts t.nets
+  pub alike : TellAlike (cuts_in t.nets)
 
 -- how many nodes the lattice of the grid has that is told
 abbrev pub nodes_of : Design → Told → ℕ

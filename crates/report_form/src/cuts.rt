@@ -1,14 +1,16 @@
 //! The lines of one cut.
 
 ghost use Rattle.std.specs.Prelude.{◌≡◌, ◌<◌, ◌≤◌, ◌++◌, ◌∷◌, ◌↔◌, [], ℕ, List as Seq, MatchOption, MatchResult, OnOk};
-ghost use Rattle.std.specs.Prelude.{IfOk, codes, length, slice_get, true};
+ghost use Rattle.std.specs.Prelude.{IfOk, IfSome, codes, length, slice_get, true};
 ghost use Rattle.std.specs.Option.{option_copied};
 ghost use Rattle.pcb_model.specs.declared.item.Kind.{Kind as TheKind};
 ghost use Rattle.report_form.specs.Form.{CutTold, NetTold, RunTold, Told as TheTold, kind_word, value};
 ghost use Rattle.report_form.specs.declared.cuts.Halt.TheVariants.{Memory};
 ghost use Rattle.report_form.specs.inner.Fields.{HasCut, HasItem, HasRun, IsCutAt, ItemAt, RunAt};
 ghost use Rattle.report_form.specs.inner.Halts.{AllItemsRead, BlockersRead, CutRead, IsHalted, IsHead, RunsRead};
-ghost use Rattle.report_form.specs.inner.Halts.{OutsideRead, PartsAt, RunsReadTo};
+ghost use Rattle.report_form.specs.inner.Halts.{IsSoFar, MostRead, OutsideRead, PartsAt, RunsReadTo};
+ghost use Rattle.report_form.specs.inner.Halts.{may_follow as may_come};
+ghost use Rattle.report_form.specs.declared.reading.ReadCut.{ReadCut as TheCut};
 ghost use Rattle.report_form.specs.inner.State.{At, IsBeforeCut, IsEarly, IsPage, IsStopped, Page, Parts, firsts_after};
 
 use crate::cursor::{after, four, one, two};
@@ -220,11 +222,11 @@ fn read_runs<'a>(text: &'a [u8], runs: &mut List<ReadRun>) -> Result<&'a [u8], H
     Ok(left)
 }
 
-/// A cut, and the rest behind its lines.
+/// A cut, and the rest behind its lines but the last one.
 #[derive(Drop)]
-pub(crate) struct CutAt<'a> {
-    pub cut: ReadCut,
-    pub rest: &'a [u8],
+struct CutAt<'a> {
+    cut: ReadCut,
+    rest: &'a [u8],
 }
 
 // The stretches of a cut, behind its other lines.
@@ -269,20 +271,106 @@ fn read_parts<'a>(alloc: Global, line: CutLine<'a>) -> Result<CutAt<'a>, Halt<'a
     }
 }
 
-/// The lines of a cut.
-pub(crate) fn read_cut<'a>(
-    alloc: Global,
-    text: &'a [u8],
-    first: Option<&[u8]>,
-) -> Result<CutAt<'a>, Halt<'a>>
+// The lines of a cut but the last one.
+fn read_most<'a>(alloc: Global, text: &'a [u8], first: Option<&[u8]>) -> Result<CutAt<'a>, Halt<'a>>
     ensures read { (p : Page) (h : TheTold) (ns : Seq NetTold) (w : Seq ℕ) (cs : Seq CutTold) → IsPage p
         → IsBeforeCut p h ns w cs text.now → length cs < value w
         → option_copied first.entry ≡ slice_get (firsts_after p.firsts ns) (length cs)
-        → MatchResult result (λ x. CutRead p h ns w cs x.cut x.rest.now) (IsHalted p) }
+        → MatchResult result (λ x. MostRead p h ns w cs x.cut x.rest.now) (IsHalted p) }
     ensures shorter { IfOk result (λ x. length x.rest.now < length text.now) }
 {
     match cut_line(text, first) {
         Some(line) => read_parts(alloc, line),
         None => Err(Halt::Stop(text)),
+    }
+}
+
+// Whether a cut may tell how far moves at 45 degrees reach, or not, where those before told this.
+fn may_follow(told: Option<bool>, wide: bool) -> bool
+    ensures { result ≡ may_come told wide }
+{
+    match told {
+        None => true,
+        Some(before) => { if wide { before } else { !before } }
+    }
+}
+
+/// Whether a cut tells how far moves at 45 degrees reach, and the rest behind its lines.
+#[derive(Clone, Copy)]
+struct LastAt<'a> {
+    wide: bool,
+    rest: &'a [u8],
+}
+
+// The last line of a cut, which begins the text; None where it isn't in its place.
+fn wide_line<'a>(text: &'a [u8], told: Option<bool>) -> Option<LastAt<'a>>
+    ensures read { (p : Page) (h : TheTold) (ns : Seq NetTold) (w : Seq ℕ) (cs : Seq CutTold) (k : TheCut) → IsPage p
+        → MostRead p h ns w cs k text.now → IsSoFar ns cs told → IsHead 119 text.now
+        → MatchOption result (IsStopped p text.now) (λ x. CutRead p h ns w cs k x.wide x.rest.now) }
+    ensures shorter { IfSome result (λ x. length x.rest.now ≤ length text.now) }
+{
+    if !may_follow(told, true) {
+        return None;
+    }
+    match one(text, b"wide ") {
+        Some((_, rest)) => Some(LastAt { wide: true, rest }),
+        None => None,
+    }
+}
+
+// The last line of a cut, if there is one; None where it isn't in its place.
+fn read_last<'a>(text: &'a [u8], told: Option<bool>) -> Option<LastAt<'a>>
+    ensures read { (p : Page) (h : TheTold) (ns : Seq NetTold) (w : Seq ℕ) (cs : Seq CutTold) (k : TheCut) → IsPage p
+        → MostRead p h ns w cs k text.now → IsSoFar ns cs told
+        → MatchOption result (IsStopped p text.now) (λ x. CutRead p h ns w cs k x.wide x.rest.now) }
+    ensures shorter { IfSome result (λ x. length x.rest.now ≤ length text.now) }
+{
+    if begins_with(text, b'w') {
+        return wide_line(text, told);
+    }
+    if may_follow(told, false) {
+        Some(LastAt {
+            wide: false,
+            rest: text,
+        })
+    } else {
+        None
+    }
+}
+
+/// A cut, whether it tells how far moves at 45 degrees reach, and the rest behind its lines.
+#[derive(Drop)]
+pub(crate) struct WholeCut<'a> {
+    pub cut: ReadCut,
+    pub wide: bool,
+    pub rest: &'a [u8],
+}
+
+/// The lines of a cut, where the cuts before told this of moves at 45 degrees.
+pub(crate) fn read_cut<'a>(
+    alloc: Global,
+    text: &'a [u8],
+    first: Option<&[u8]>,
+    told: Option<bool>,
+) -> Result<WholeCut<'a>, Halt<'a>>
+    ensures read { (p : Page) (h : TheTold) (ns : Seq NetTold) (w : Seq ℕ) (cs : Seq CutTold) → IsPage p
+        → IsBeforeCut p h ns w cs text.now → length cs < value w → IsSoFar ns cs told
+        → option_copied first.entry ≡ slice_get (firsts_after p.firsts ns) (length cs)
+        → MatchResult result (λ x. CutRead p h ns w cs x.cut x.wide x.rest.now) (IsHalted p) }
+    ensures shorter { IfOk result (λ x. length x.rest.now < length text.now) }
+{
+    match read_most(alloc, text, first) {
+        Ok(CutAt { cut, rest }) => match read_last(rest, told) {
+            Some(last) => Ok(WholeCut {
+                cut,
+                wide: last.wide,
+                rest: last.rest,
+            }),
+            None => {
+                drop(cut);
+                Err(Halt::Stop(rest))
+            }
+        },
+        Err(halt) => Err(halt),
     }
 }

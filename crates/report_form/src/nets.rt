@@ -1,16 +1,16 @@
 //! The lines of the nets, and the last line.
 
 ghost use Rattle.std.specs.Prelude.{◌≡◌, ◌==◌, ◌++◌, ◌+◌, ◌-◌, ◌^◌, [], ℕ, List as Seq, MatchOption, MatchResult};
-ghost use Rattle.std.specs.Prelude.{length, slice_get, count_by};
+ghost use Rattle.std.specs.Prelude.{length, slice_get, count_by, Bool, Option as Maybe};
 ghost use Rattle.std.specs.Option.{option_copied};
 ghost use Rattle.report_form.specs.Form.{NetTold, Told as TheTold, total_line};
 ghost use Rattle.report_form.specs.Reading.{AreNetsKept, capped};
-ghost use Rattle.report_form.specs.inner.Halts.{CutsAdded, IsHalted, IsNetLine, NetHere, NetsRead};
+ghost use Rattle.report_form.specs.inner.Halts.{CutsAdded, IsHalted, IsNetLine, IsSoFar, NetHere, NetsRead};
 ghost use Rattle.report_form.specs.inner.Halts.{OpenRead, WholeRead};
 ghost use Rattle.report_form.specs.inner.State.{At, IsPage, IsStopped, Netting, Opened, Page, firsts_after};
 
 use crate::cursor::{after, one, two};
-use crate::cuts::{CutAt, Halt, push, read_cut};
+use crate::cuts::{Halt, WholeCut, push, read_cut};
 use crate::reading::ReadCut;
 use crate::spelling::after_spelled;
 use crate::value::{capped, writes};
@@ -54,49 +54,60 @@ fn first_at(firsts: &[Name], at: u64) -> Option<&[u8]>
     }
 }
 
-// So many cuts, and the rest behind them.
+/// Where reading stands: what the cuts so far tell of moves at 45 degrees, if there is one, and the rest.
+#[derive(Clone, Copy)]
+struct NetAt<'a> {
+    told: Option<bool>,
+    rest: &'a [u8],
+}
+
+// So many cuts, and where reading stands behind them.
 fn read_cuts<'a>(
     alloc: Global,
-    text: &'a [u8],
+    at: NetAt<'a>,
     firsts: &[Name],
     islands: u64,
     cuts: &mut List<ReadCut>,
-) -> Result<&'a [u8], Halt<'a>>
+) -> Result<NetAt<'a>, Halt<'a>>
     requires { cuts.old ≡ [] }
-    ensures { (p : Page) (h : TheTold) (ns : Seq NetTold) (w : Seq ℕ) → IsPage p → At p (Opened h ns w) text.now
-        → islands ≡ capped (2 ^ 64 - 1) w → firsts.now ≡ firsts_after p.firsts ns
-        → MatchResult result (λ r. OpenRead p h ns w cuts.new r.now) (IsHalted p) }
+    ensures { (p : Page) (h : TheTold) (ns : Seq NetTold) (w : Seq ℕ) → IsPage p
+        → At p (Opened h ns w) at.entry.rest.now → IsSoFar ns [] at.entry.told → islands ≡ capped (2 ^ 64 - 1) w
+        → firsts.now ≡ firsts_after p.firsts ns
+        → MatchResult result (λ x. OpenRead p h ns w cuts.new x.told x.rest.now) (IsHalted p) }
 {
-    let mut left = text;
+    let mut left = at.rest;
+    let mut told = at.told;
     for k in 0..islands {
-        match read_cut(alloc, left, first_at(firsts, k)) {
-            Ok(CutAt { cut, rest }) => {
+        match read_cut(alloc, left, first_at(firsts, k), told) {
+            Ok(WholeCut { cut, wide, rest }) => {
                 push(cuts, cut)?;
                 left = rest;
+                told = Some(wide);
             }
             Err(halt) => return Err(halt),
         }
     }
-    Ok(left)
+    Ok(NetAt { told, rest: left })
 }
 
 // The cuts of a net with several islands become the last ones.
 fn read_open<'a>(
     alloc: Global,
-    text: &'a [u8],
+    at: NetAt<'a>,
     firsts: &[Name],
     islands: u64,
     nets: &mut List<List<ReadCut>>,
-) -> Result<&'a [u8], Halt<'a>>
-    ensures { (p : Page) (h : TheTold) (ns : Seq NetTold) (w : Seq ℕ) → IsPage p → At p (Opened h ns w) text.now
-        → islands ≡ capped (2 ^ 64 - 1) w → firsts.now ≡ firsts_after p.firsts ns
-        → MatchResult result (λ r. CutsAdded p h ns w nets.old nets.new r.now) (IsHalted p) }
+) -> Result<NetAt<'a>, Halt<'a>>
+    ensures { (p : Page) (h : TheTold) (ns : Seq NetTold) (w : Seq ℕ) → IsPage p
+        → At p (Opened h ns w) at.entry.rest.now → IsSoFar ns [] at.entry.told → islands ≡ capped (2 ^ 64 - 1) w
+        → firsts.now ≡ firsts_after p.firsts ns
+        → MatchResult result (λ x. CutsAdded p h ns w nets.old nets.new x.told x.rest.now) (IsHalted p) }
 {
     let mut cuts = List::new(alloc);
-    match read_cuts(alloc, text, firsts, islands, &mut cuts) {
-        Ok(left) => {
+    match read_cuts(alloc, at, firsts, islands, &mut cuts) {
+        Ok(next) => {
             push(nets, cuts)?;
-            Ok(left)
+            Ok(next)
         }
         Err(halt) => {
             drop(cuts);
@@ -108,22 +119,25 @@ fn read_open<'a>(
 // The lines of a net: its cuts become the last ones.
 fn read_net<'a>(
     alloc: Global,
-    text: &'a [u8],
+    at: NetAt<'a>,
     net: &Net,
     firsts: &[Name],
     nets: &mut List<List<ReadCut>>,
-) -> Result<&'a [u8], Halt<'a>>
-    ensures { (p : Page) (h : TheTold) (count : ℕ) → IsPage p → NetsRead p h count nets.old text.now
-        → NetHere p count net.now firsts.now
-        → MatchResult result (λ r. NetsRead p h (count + 1) nets.new r.now) (IsHalted p) }
+) -> Result<NetAt<'a>, Halt<'a>>
+    ensures { (p : Page) (h : TheTold) (count : ℕ) → IsPage p
+        → NetsRead p h count nets.old at.entry.told at.entry.rest.now → NetHere p count net.now firsts.now
+        → MatchResult result (λ x. NetsRead p h (count + 1) nets.new x.told x.rest.now) (IsHalted p) }
 {
-    match net_line(text, net) {
+    let NetAt { told, rest } = at;
+    match net_line(rest, net) {
         Some(NetLine::Complete(next)) => {
             push(nets, List::new(alloc))?;
-            Ok(next)
+            Ok(NetAt { told, rest: next })
         }
-        Some(NetLine::Open(islands, next)) => read_open(alloc, next, firsts, islands, nets),
-        None => Err(Halt::Stop(text)),
+        Some(NetLine::Open(islands, next)) => {
+            read_open(alloc, NetAt { told, rest: next }, firsts, islands, nets)
+        }
+        None => Err(Halt::Stop(rest)),
     }
 }
 
@@ -160,7 +174,8 @@ fn after_total<'a>(text: &'a [u8], nets: &[List<ReadCut>]) -> Option<&'a [u8]>
 
 // The end of the text, behind the last line.
 fn ends<'a>(text: &'a [u8], nets: &[List<ReadCut>]) -> Result<(), &'a [u8]>
-    ensures { (p : Page) (h : TheTold) → IsPage p → NetsRead p h (length p.design.nets) nets.now text.now
+    ensures { (p : Page) (h : TheTold) (told : Maybe Bool) → IsPage p
+        → NetsRead p h (length p.design.nets) nets.now told text.now
         → MatchResult result (λ _. WholeRead p nets.now) (λ r. IsStopped p r.now) }
 {
     match after_total(text, nets) {
@@ -176,20 +191,23 @@ fn read_each<'a>(
     firsts: &[List<Name>],
     text: &'a [u8],
     nets: &mut List<List<ReadCut>>,
-) -> Result<&'a [u8], Halt<'a>>
+) -> Result<NetAt<'a>, Halt<'a>>
     requires empty { nets.old ≡ [] }
     requires same { length firsts.now ≡ length d.now.nets }
     ensures { (p : Page) (h : TheTold) → p.design ≡ d.now → p.firsts ≡ firsts.now → At p (Netting h []) text.now
-        → MatchResult result (λ r. NetsRead p h (length p.design.nets) nets.new r.now) (IsHalted p) }
+        → MatchResult result (λ x. NetsRead p h (length p.design.nets) nets.new x.told x.rest.now) (IsHalted p) }
 {
-    let mut left = text;
+    let mut at = NetAt {
+        told: None,
+        rest: text,
+    };
     for (i, net) in d.nets.as_slice().iter().enumerate() {
-        match read_net(alloc, left, net, firsts[i].as_slice(), nets) {
-            Ok(next) => left = next,
+        match read_net(alloc, at, net, firsts[i].as_slice(), nets) {
+            Ok(next) => at = next,
             Err(halt) => return Err(halt),
         }
     }
-    Ok(left)
+    Ok(at)
 }
 
 /// The cuts of all nets, where the text ends behind the last line.
@@ -205,7 +223,7 @@ pub(crate) fn read_nets<'a>(
 {
     let mut nets = List::new(alloc);
     match read_each(alloc, d, firsts, text, &mut nets) {
-        Ok(left) => match ends(left, nets.as_slice()) {
+        Ok(at) => match ends(at.rest, nets.as_slice()) {
             Ok(()) => Ok(nets),
             Err(stop) => {
                 drop(nets);

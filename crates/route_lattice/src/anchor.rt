@@ -37,12 +37,12 @@ impl<'a> Model for LatticeItem<'a> {
     ghost invariant = { λ s. IsLatticeItem s.d.now s.lat.now s.item.now };
 }
 
-fn holds(layer: u8, p: Point, q: &Piece) -> bool
+fn holds(layer: u8, p: Point, piece: &Piece) -> bool
     requires p_within { IsWithin (2 ^ 29) p }
-    requires q_fit { IsFit q.now }
-    ensures { IsTrue result ↔ Holds layer p q.now }
+    requires piece_fit { IsFit piece.now }
+    ensures { IsTrue result ↔ Holds layer p piece.now }
 {
-    q.layer == layer && covers(p, q)
+    piece.layer == layer && covers(p, piece)
 }
 
 fn some_holds(layer: u8, p: Point, pieces: &[Piece]) -> bool
@@ -50,8 +50,8 @@ fn some_holds(layer: u8, p: Point, pieces: &[Piece]) -> bool
     requires fit { All IsFit pieces.now }
     ensures { IsTrue result ↔ Any (Holds layer p) pieces.now }
 {
-    for q in pieces {
-        if holds(layer, p, q) {
+    for piece in pieces {
+        if holds(layer, p, piece) {
             return true;
         }
     }

@@ -59,13 +59,13 @@ fn touches_loops(p: Point, loops: &[List<Point>], k: u64) -> bool
 }
 
 /// Whether the point lies in the copper of the piece.
-pub(crate) fn covers(p: Point, q: &Piece) -> bool
+pub(crate) fn covers(p: Point, piece: &Piece) -> bool
     requires p_within { IsWithin (2 ^ 29) p }
-    requires q_fit { IsFit q.now }
-    ensures { IsTrue result ↔ Covers p q.now }
+    requires piece_fit { IsFit piece.now }
+    ensures { IsTrue result ↔ Covers p piece.now }
 {
-    match &q.spine {
-        Spine::Chain(points) => touches_chain(p, points.as_slice(), q.width),
-        Spine::Area(loops) => touches_loops(p, loops.as_slice(), q.width) || inside(p, loops),
+    match &piece.spine {
+        Spine::Chain(points) => touches_chain(p, points.as_slice(), piece.width),
+        Spine::Area(loops) => touches_loops(p, loops.as_slice(), piece.width) || inside(p, loops),
     }
 }

@@ -17,10 +17,10 @@ use std::alloc::{AllocError, Global};
 use std::marker::Model;
 
 /// How many runs a wire has; other metals have none.
-fn run_count(m: &Metal) -> usize
-    ensures { result ≡ length (chain_of m.now) - 1 }
+fn run_count(metal: &Metal) -> usize
+    ensures { result ≡ length (chain_of metal.now) - 1 }
 {
-    match m {
+    match metal {
         Metal::Wire { chain, .. } => chain.len().saturating_sub(1),
         _ => 0,
     }
@@ -51,14 +51,14 @@ impl<'a, C: Copper> Model for NewItems<'a, C> {
 
 impl<C: Copper> NewItems<'_, C> {
     /// Whether each of the new items agrees with another one.
-    fn all_agree_with(&self, b: &Item) -> bool
-        requires { IsItemFit b.now }
-        ensures { IsTrue result ↔ All (λ (a : OneItem). Agrees self.now.on.d a b.now) self.now.new }
+    fn all_agree_with(&self, item: &Item) -> bool
+        requires { IsItemFit item.now }
+        ensures { IsTrue result ↔ All (λ (a : OneItem). Agrees self.now.on.d a item.now) self.now.new }
     {
         let d = self.d;
         let new = self.new;
         for a in new {
-            if !agree(d, a, b) {
+            if !agree(d, a, item) {
                 return false;
             }
         }

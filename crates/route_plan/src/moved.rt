@@ -38,14 +38,14 @@ fn stands_with<C: Copper>(on: &Ground<'_, C>, a: &Item, b: &Item) -> bool
 }
 
 /// Whether each of the moved wires stands with another one.
-fn all_stand_with<C: Copper>(on: &Ground<'_, C>, moved: &[Item], b: &Item) -> bool
+fn all_stand_with<C: Copper>(on: &Ground<'_, C>, moved: &[Item], item: &Item) -> bool
     requires moved { All (IsReshaped on.now.d on.now.items) moved.now }
-    requires b_moved { IsReshaped on.now.d on.now.items b.now }
+    requires item_moved { IsReshaped on.now.d on.now.items item.now }
     ensures { IsTrue result
-        ↔ All (λ (a : OneItem). StandsWith on.now.d on.now.items (the_shove a) (the_shove b.now)) moved.now }
+        ↔ All (λ (a : OneItem). StandsWith on.now.d on.now.items (the_shove a) (the_shove item.now)) moved.now }
 {
     for a in moved {
-        if !stands_with(on, a, b) {
+        if !stands_with(on, a, item) {
             return false;
         }
     }

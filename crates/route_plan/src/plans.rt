@@ -14,7 +14,7 @@ use least_offer::{
     least_offers_may_be_made, made_shoves_stand_together, shoves_are_one, shoves_may_be_made,
 };
 use path_wire::copper_well_laid;
-use pcb_board::{Offer, Snap};
+use pcb_board::{CLOSER, Offer, Snap};
 use pcb_islands::{Island, islands};
 use pcb_model::{Copper, Design, Metal};
 use route_lattice::{Ground, Lattice, Moves, Reach};
@@ -167,7 +167,8 @@ impl<M: Moves> NetPlan<'_, M> {
         }
     }
 
-    /// Where an island of the net leads, with memory for searches.
+    /// Where an island of the net leads, with memory for searches. Those of the closing pass mostly find nothing, so a
+    /// flood goes before them.
     pub(crate) fn lead(
         &self,
         alloc: Global,
@@ -187,7 +188,7 @@ impl<M: Moves> NetPlan<'_, M> {
         shoves_are_one();
         self.snap.in_order();
         let task = self.search_from(island, others);
-        match task.route(alloc, search)? {
+        match task.route(alloc, search, self.worker == CLOSER)? {
             Routed::Shut(reach) => Ok(FromIsland::Shut(reach)),
             Routed::Route(route) => match self.way_for(alloc, &route.metals) {
                 Ok(way) => Ok(FromIsland::Offer(self.offer_of(route, way))),

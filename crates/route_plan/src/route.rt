@@ -13,7 +13,7 @@ ghost use Rattle.route_plan.specs.Routes.{IsLed, IsRouteOf, JoinsIslands};
 
 use crate::laws::rip_bound_sound;
 use cut_certificate::{
-    Cut, are_shut_in, flood, goals_of, legal_moves_lead_back, may_lead_past, starts_of,
+    Cut, are_shut_in, flood, goals_of, legal_moves_lead_back, may_lead_past, meets, starts_of,
 };
 use geo_kernel::List;
 use path_wire::{net_walks, walk_items};
@@ -143,8 +143,8 @@ impl<C: Copper, M: Moves> NetSearch<'_, C, M> {
         Ok(Found::Closed(reach))
     }
 
-    /// A least walk over the moves of the net.
-    fn walk(
+    /// A least walk over the moves of the net, by a search.
+    fn searched(
         &self,
         alloc: Global,
         search: &mut Search,
@@ -169,6 +169,34 @@ impl<C: Copper, M: Moves> NetSearch<'_, C, M> {
             pattern: search.pattern(),
         };
         search.tied_walk(alloc, self.moves, &bound, &ties, starts, goals)
+    }
+
+    /// A least walk over the moves of the net. Where it is likely that none leads on, a flood tells so at a fraction of
+    /// what a search takes: with `flooded` it goes first.
+    fn walk(
+        &self,
+        alloc: Global,
+        search: &mut Search,
+        starts: &List<u32>,
+        goals: &List<u32>,
+        flooded: bool,
+    ) -> Result<Found, AllocError>
+        requires size { search.old ≡ node_count self.now.on.lat }
+        requires starts { All (λ s. s < node_count self.now.on.lat) starts.now }
+        ensures answers { IfOk result (Answers (walks_of self.now) starts.now goals.now) }
+        ensures size { search.new ≡ search.old }
+    {
+        if !flooded {
+            return self.searched(alloc, search, starts, goals);
+        }
+        legal_graph_sound();
+        rip_graph_sound();
+        let reach = flood(alloc, self.moves, starts)?;
+        if !meets(reach.nodes.as_slice(), goals.as_slice()) {
+            return Ok(Found::Closed(reach));
+        }
+        drop(reach);
+        self.searched(alloc, search, starts, goals)
     }
 
     /// The stated walk over the moves of the net.
@@ -306,8 +334,14 @@ impl<C: Copper, M: Moves> NetSearch<'_, C, M> {
         }
     }
 
-    /// A route from the island to one of the others over the moves of the net.
-    pub(crate) fn route(&self, alloc: Global, search: &mut Search) -> Result<Routed, AllocError>
+    /// A route from the island to one of the others over the moves of the net; `flooded` says whether a flood goes
+    /// before the search.
+    pub(crate) fn route(
+        &self,
+        alloc: Global,
+        search: &mut Search,
+        flooded: bool,
+    ) -> Result<Routed, AllocError>
         requires size { search.old ≡ node_count self.now.on.lat }
         ensures finds { IfOk result (FindsRoute self.now) }
         ensures size { search.new ≡ search.old }
@@ -320,7 +354,7 @@ impl<C: Copper, M: Moves> NetSearch<'_, C, M> {
                 return Err(error);
             }
         };
-        let found = self.walk(alloc, search, &starts, &goals);
+        let found = self.walk(alloc, search, &starts, &goals, flooded);
         drop((starts, goals));
         match found {
             Ok(Found::Closed(reach)) => Ok(Routed::Shut(reach)),

@@ -8,7 +8,7 @@ use Rattle.std.proofs.lemmas.List.{at_drop_all, at_drop_more, append-nil}
 use Rattle.cut_certificate.specs.declared.cut.Cut.{Cut}
 use Rattle.ses_writer.specs.Words.{Appends}
 use Rattle.ses_writer.proofs.Puts.{Leads, leads_on}
-use Rattle.route_report.specs.Report.{is_of_net}
+use Rattle.route_report.specs.Report.{is_at_net, is_of_net}
 
 -- what is made of the rest of a list, with its next one in front
 pub next_front : {X Y : Type 0} (F : List X → Y) (xs : List X) (i : ℕ) (x : X) → i < length xs → x ≡ get_or xs i x
@@ -37,20 +37,21 @@ counted_more k n cuts i cut old new lt is adds so_far =
     omega (arith, front, adds, so_far)
 
 -- one that passes tells its lines
-one_tells : (lines : Cut → List ℕ) (b : Bool) (x : Cut) (xs : List Cut)
+one_tells : {X : Type 0} (lines : X → List ℕ) (b : Bool) (x : X) (xs : List X)
     → flat_map lines (cond b (x ∷ xs) xs) ≡ (if b then lines x else []) ++ flat_map lines xs
 one_tells lines true x xs = refl
 one_tells lines false x xs = refl
 
 -- a text and what is left, behind one more cut
-pub told_more : (lines : Cut → List ℕ) (k : ℕ) (cuts : List Cut) (i : ℕ) (cut : Cut) (old new all : List ℕ)
-    → i < length cuts → cut ≡ get_or cuts i cut → Appends old new (if cut.net == k then lines cut else [])
-    → Leads old (flat_map lines (filter (is_of_net k) (drop i cuts))) all
-    → Leads new (flat_map lines (filter (is_of_net k) (drop (i + 1) cuts))) all
+pub told_more : (lines : (ℕ × Cut) → List ℕ) (k : ℕ) (cuts : List Cut) (i : ℕ) (cut : Cut) (old new all : List ℕ)
+    → i < length cuts → cut ≡ get_or cuts i cut → Appends old new (if cut.net == k then lines (i, cut) else [])
+    → Leads old (flat_map lines (filter (is_at_net k) (enumerate_from i (drop i cuts)))) all
+    → Leads new (flat_map lines (filter (is_at_net k) (enumerate_from (i + 1) (drop (i + 1) cuts)))) all
 told_more lines k cuts i cut old new all lt is put so_far =
     leads_on (subst (λ r. Leads old r all)
-    (next_front (λ xs. flat_map lines (filter (is_of_net k) xs)) cuts i cut lt is
-    ∙ one_tells lines (cut.net == k) cut (filter (is_of_net k) (drop (i + 1) cuts))) so_far) put
+    (next_front (λ (xs : List Cut). flat_map lines (filter (is_at_net k) (enumerate_from i xs))) cuts i cut lt is
+    ∙ one_tells lines (cut.net == k) (i, cut)
+    (filter (is_at_net k) (enumerate_from (i + 1) (drop (i + 1) cuts)))) so_far) put
 
 -- with no cut left the count is all
 pub all_counted : (k : ℕ) (cuts : List Cut) (i count n : ℕ) → length cuts ≤ i

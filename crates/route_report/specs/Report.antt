@@ -1,6 +1,6 @@
 -- The report: what a run tells of the design, the lattice, the passes and each net.
 use Rattle.std.specs.Prelude.{ℕ, ◌+◌, ◌==◌, Bool, false, true, not, ◌&&◌, if◌then◌else◌, List, [], ◌∷◌, ◌++◌}
-use Rattle.std.specs.Prelude.{length, filter, flat_map, codes, decimal}
+use Rattle.std.specs.Prelude.{length, filter, flat_map, codes, decimal, Option, Some, None, slice_get}
 use Rattle.std.specs.List.{list_any, enumerate_from}
 use Rattle.pcb_model.specs.declared.item.Item.{Item}
 use Rattle.pcb_model.specs.declared.item.Kind.{Kind}
@@ -120,11 +120,17 @@ abbrev pub stretch_lines : Mesh → List ℕ → List ℕ
 stretch_lines m [] = []
 stretch_lines m (node ∷ nodes) = stretches_from m node node nodes
 
-abbrev pub detail_lines : Mesh → List Item → Bool → Cut → List ℕ
-detail_lines m items short cut = if short then [] else by_lines items cut.blocked ++ stretch_lines m cut.reach.nodes
+-- how many nodes moves reach, those at 45 degrees among them, where that is told
+abbrev pub wide_line : Option ℕ → List ℕ
+wide_line None = []
+wide_line (Some size) = count_line (codes "wide ") size
 
-unfoldable pub cut_lines : Design → Mesh → List Item → Bool → Cut → List ℕ
-cut_lines d m items short cut = cut_line d cut ++ detail_lines m items short cut
+abbrev pub detail_lines : Mesh → List Item → Bool → Option ℕ → Cut → List ℕ
+detail_lines m items short wide cut =
+    if short then [] else by_lines items cut.blocked ++ stretch_lines m cut.reach.nodes ++ wide_line wide
+
+unfoldable pub cut_lines : Design → Mesh → List Item → Bool → Option ℕ → Cut → List ℕ
+cut_lines d m items short wide cut = cut_line d cut ++ detail_lines m items short wide cut
 
 -- ---- the nets
 
@@ -135,6 +141,21 @@ is_of_net net cut = cut.net == net
 abbrev pub cuts_of : Facts → ℕ → List Cut
 cuts_of facts net = filter (is_of_net net) facts.cuts
 
+-- the same, each with its number among all cuts
+abbrev pub is_at_net : ℕ → (ℕ × Cut) → Bool
+is_at_net net numbered = is_of_net net numbered.1
+
+abbrev pub numbered_cuts : Facts → ℕ → List (ℕ × Cut)
+numbered_cuts facts net = filter (is_at_net net) (enumerate_from 0 facts.cuts)
+
+-- what the run tells of moves at 45 degrees from the cut with this number
+abbrev pub wide_at : Option (List ℕ) → ℕ → Option ℕ
+wide_at None number = None
+wide_at (Some sizes) number = slice_get sizes number
+
+abbrev pub told_cut : Design → Mesh → List Item → Facts → Bool → (ℕ × Cut) → List ℕ
+told_cut d m items facts short numbered = cut_lines d m items short (wide_at facts.wide numbered.0) numbered.1
+
 -- a complete net has no cuts, an open one as many as islands
 abbrev pub verdict_words : ℕ → List ℕ
 verdict_words count = if count == 0 then codes " complete\n" else count_line (codes " open ") count
@@ -144,7 +165,7 @@ net_line name count = codes "net " ++ spelled name ++ verdict_words count
 
 abbrev pub net_lines : Design → Mesh → List Item → Facts → Bool → (ℕ × Net) → List ℕ
 net_lines d m items facts short (i, net) =
-    let cuts = cuts_of facts i in net_line net.name (length cuts) ++ flat_map (cut_lines d m items short) cuts
+    net_line net.name (length (cuts_of facts i)) ++ flat_map (told_cut d m items facts short) (numbered_cuts facts i)
 
 abbrev pub is_complete : Facts → (ℕ × Net) → Bool
 is_complete facts (i, net) = length (cuts_of facts i) == 0

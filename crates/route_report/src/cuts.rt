@@ -6,13 +6,15 @@ ghost use Rattle.route_report.specs.Report.{pin_word};
 ghost use Rattle.told_words.specs.PinNames.{component_name as component_name_of, name_of_pin, pin_name};
 ghost use Rattle.route_report.specs.Report.{cut_line, kind_word};
 ghost use Rattle.route_report.specs.Report.{has_outside as has_outside_in, by_line, outside_line, by_lines};
-ghost use Rattle.route_report.specs.Report.{detail_lines, cut_lines};
+ghost use Rattle.route_report.specs.Report.{detail_lines, told_cut, wide_line};
+ghost use Rattle.route_report.specs.Report.{wide_at as wide_in};
 ghost use Rattle.route_report.specs.inner.Naming.{has_id, is_among, AreNamed, AreNamedOnce, AreAscending};
 
 use crate::input::ReportInput;
 use crate::stretches::put_stretches;
 use crate::words::{put_count, put_pair};
 use cut_certificate::{Block, Blocker, Cut};
+use geo_kernel::List;
 use pcb_model::{Copper, Design, Kind, Pin};
 use pcb_tiles::Tiles;
 use ses_writer::{put, put_word};
@@ -172,35 +174,65 @@ fn put_bys(
     put_outside(out, blocked)
 }
 
+// ---- moves at 45 degrees
+
+fn wide_at(wide: &Option<List<u64>>, number: usize) -> Option<u64>
+    ensures { result ≡ wide_in wide.now number }
+{
+    match wide {
+        Some(sizes) => {
+            if number < sizes.len() {
+                Some(sizes.as_slice()[number])
+            } else {
+                None
+            }
+        }
+        None => None,
+    }
+}
+
+fn put_wide(out: &mut Vec<u8>, wide: Option<u64>) -> Result<(), AllocError>
+    ensures { OnOk result (Appends out.old.items out.new.items (wide_line wide)) }
+{
+    match wide {
+        Some(size) => put_count(out, b"wide ", size),
+        None => Ok(()),
+    }
+}
+
 // ---- the whole
 
 fn put_detail(
     out: &mut Vec<u8>,
     alloc: Global,
     input: &ReportInput<'_>,
+    wide: Option<u64>,
     cut: &Cut,
 ) -> Result<(), AllocError>
     ensures { OnOk result (Appends out.old.items out.new.items
-        (detail_lines input.now.lat.now input.now.board.now.items false cut.now)) }
+        (detail_lines input.now.lat.now input.now.board.now.items false wide cut.now)) }
 {
     put_bys(out, alloc, input.board.items(), cut.blocked.as_slice())?;
-    put_stretches(out, input.lat, cut.reach.nodes.as_slice())
+    put_stretches(out, input.lat, cut.reach.nodes.as_slice())?;
+    put_wide(out, wide)
 }
 
-/// The lines of a cut; the line alone in a short report.
+/// The lines of the cut with this number among all; its own line alone in a short report.
 #[tactic(auto, unfolding(crate::specs::Report::cut_lines))]
 pub(crate) fn put_cut(
     out: &mut Vec<u8>,
     alloc: Global,
     input: &ReportInput<'_>,
+    number: usize,
     cut: &Cut,
 ) -> Result<(), AllocError>
     ensures { let i = input.now in OnOk result (Appends out.old.items out.new.items
-        (cut_lines i.d.now i.lat.now i.board.now.items i.short cut.now)) }
+        (told_cut i.d.now i.lat.now i.board.now.items i.facts.now i.short (number, cut.now))) }
 {
     put_cut_line(out, alloc, input.d, cut)?;
     if input.short {
         return Ok(());
     }
-    put_detail(out, alloc, input, cut)
+    let wide = wide_at(&input.facts.wide, number);
+    put_detail(out, alloc, input, wide, cut)
 }

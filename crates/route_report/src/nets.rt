@@ -5,7 +5,7 @@ ghost use Rattle.std.specs.Prelude.{flat_map, length};
 ghost use Rattle.std.specs.List.{enumerate_from};
 ghost use Rattle.std.specs.Global.{Global as Memory};
 ghost use Rattle.ses_writer.specs.Words.{Appends};
-ghost use Rattle.route_report.specs.Report.{cut_lines, verdict_words, net_line, net_lines, total_line};
+ghost use Rattle.route_report.specs.Report.{told_cut, verdict_words, net_line, net_lines, total_line};
 ghost use Rattle.route_report.specs.inner.Tallies.{AddsOne, AreCounts, AddsPiece, TellsCuts, told_lines};
 
 use crate::cuts::put_cut;
@@ -57,15 +57,17 @@ fn add_cut(
     texts: &mut Vec<Vec<u8>>,
     alloc: Global,
     input: &ReportInput<'_>,
+    number: usize,
     cut: &Cut,
 ) -> Result<(), AllocError>
     ensures { let i = input.now in OnOk result (AddsPiece cut.now.net
-        (cut_lines i.d.now i.lat.now i.board.now.items i.short cut.now) texts.old.items texts.new.items) }
+        (told_cut i.d.now i.lat.now i.board.now.items i.facts.now i.short (number, cut.now))
+        texts.old.items texts.new.items) }
 {
     let at = cut.net as usize;
     if at < texts.len() {
         let text = &mut texts[at];
-        put_cut(text, alloc, input, cut)?;
+        put_cut(text, alloc, input, number, cut)?;
     }
     Ok(())
 }
@@ -77,11 +79,12 @@ fn cut_texts(
     cuts: &[Cut],
 ) -> Result<Vec<Vec<u8>>, AllocError>
     ensures { let i = input.now in IfOk result (λ texts. TellsCuts
-        (cut_lines i.d.now i.lat.now i.board.now.items i.short) cuts.now (length i.d.now.nets) texts.items) }
+        (told_cut i.d.now i.lat.now i.board.now.items i.facts.now i.short) cuts.now (length i.d.now.nets)
+        texts.items) }
 {
     let mut texts = empty_texts(alloc, input.d.nets.len())?;
-    for cut in cuts {
-        add_cut(&mut texts, alloc, input, cut)?;
+    for (number, cut) in cuts.iter().enumerate() {
+        add_cut(&mut texts, alloc, input, number, cut)?;
     }
     Ok(texts)
 }

@@ -1,3 +1,4 @@
+pub mod Rounds
 mod Best
 mod Counting
 mod Worked

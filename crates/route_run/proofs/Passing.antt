@@ -1,7 +1,7 @@
 -- One pass more.
 use Rattle.std.proofs.Common.{◌≡◌, ◌∙◌, ◌+◌, ◌≤◌, ◌<◌, ℕ, sym, ap, subst, arith, List, []}
 use Rattle.std.proofs.Common.{◌∷◌, ◌++◌, length, Option, Some, inl, inr}
-use Rattle.std.specs.Prelude.{Bool, IsTrue, not, slice_get, sum_by}
+use Rattle.std.specs.Prelude.{Bool, IsTrue, not, false, slice_get, sum_by}
 use Rattle.std.proofs.Math.Seq.{take-length}
 use Rattle.std.proofs.lemmas.Bool.{cases_lt}
 use Rattle.std.proofs.lemmas.List.{length-append, take-append-le}
@@ -25,7 +25,7 @@ use Rattle.searcher_pool.specs.Passes.{Between, IsJoinOf, IsPassed, IsShutOn, Is
 use Rattle.searcher_pool.specs.Passes.{Grows as GrowsBy}
 use Rattle.route_run.specs.declared.facts.PassLine.{PassLine}
 use Rattle.closing_pass.specs.OpenCount.{IsOpenCount}
-use Rattle.route_run.specs.Runs.{AreLeast, ArePasses, AreTooLate, HadRoom, HasSeveral, IsPass}
+use Rattle.route_run.specs.Runs.{AreLeast, ArePasses, AreTooLate, HadRoom, HasSeveral, IsPass, MayJoin}
 use Rattle.route_run.specs.Runs.{IsWorkedOff, RunOf, entries_after, pass_at}
 use Rattle.route_run.specs.inner.Passing.{HasPassed, IsMade, MayFollow}
 
@@ -140,20 +140,20 @@ module _ (b c : BoardOf) (grows : Grows b c) where
         (entries_after lines k + line.commits) (omega arith) (are.each k line at).there (are.room k line at lt);
   }
 
-  -- where the further joins are least, all are
-  pub least_on : (m : Mesh) (via_cost : ℕ) → AreLeast m via_cost b
+  -- where the further joins are such offers, all are
+  pub least_on : (diagonal : Bool) (m : Mesh) (via_cost : ℕ) → AreLeast diagonal m via_cost b
       → ((n : ℕ) (o : Offer) (first after : ℕ) → length b.history ≤ n
       → slice_get c.history n ≡ Some (Join o first after)
-      → (o.base ≤ n) × IsLeastOffer m via_cost (board_at c o.base) o)
-      → AreLeast m via_cost c
-  least_on m via_cost before later = record {
+      → (o.base ≤ n) × MayJoin diagonal m via_cost (board_at c o.base) o)
+      → AreLeast diagonal m via_cost c
+  least_on diagonal m via_cost before later = record {
     each = λ n o first after at. elim (cases_lt n (length b.history)) [
       | inr late ↦ later n o first after late at
       | inl early ↦
           let l = before.each n o first after (entry_before n (Join o first after) early at) in (
             l.0,
-            subst (λ (x : BoardOf). IsLeastOffer m via_cost x o) (sym (same_before o.base (omega (arith, l.0, early))))
-                l.1,
+            subst (λ (x : BoardOf). MayJoin diagonal m via_cost x o)
+                (sym (same_before o.base (omega (arith, l.0, early)))) l.1,
           )
     ];
   }
@@ -300,7 +300,7 @@ module _ (m : Mesh) (r : RunOf) (b : BoardOf) (lines : List PassLine) (new : Boa
       moves = λ k l at some before. (goes_on_more k l at before).1 some;
       room = λ k l at before. (goes_on_more k l at before).2;
     };
-    least = least_on b new grows m r.via_cost has.least is.nets.least;
+    least = least_on b new grows false m r.via_cost has.least is.nets.least;
     no_more = (let more = entries_more lines line in omega (arith, more, is.commits, has.no_more));
   }
 

@@ -1,7 +1,7 @@
 -- A run, from its parts.
 use Rattle.std.proofs.Common.{◌≡◌, ◌∙◌, inl, inr, ℕ, ◌+◌, ◌-◌, ◌<◌, ◌≤◌, ◌^◌, refl, sym, ap, subst, arith}
-use Rattle.std.proofs.Common.{List, [], ◌∷◌, ◌++◌, length, get_or, Some, length-append}
-use Rattle.std.specs.Prelude.{Bool, IfOk, IsTrue, Ok, Result, flat_map, slice_get, ◌⊎◌}
+use Rattle.std.proofs.Common.{List, [], ◌∷◌, ◌++◌, length, get_or, Option, Some, length-append}
+use Rattle.std.specs.Prelude.{Bool, false, IfOk, IsTrue, Ok, Result, flat_map, slice_get, ◌⊎◌}
 use Rattle.std.proofs.lemmas.List.{append-nil}
 use Rattle.std.proofs.lemmas.Option.{slice_get_within, slice_get-get_or}
 use Rattle.pcb_model.specs.declared.item.Item.{Item}
@@ -17,25 +17,26 @@ use Rattle.pcb_board.specs.Keeping.{IsBoard, IsStarted, Grows}
 use Rattle.pcb_board.proofs.Prefix.{board_before, board_whole}
 use Rattle.route_lattice.specs.Mesh.{Mesh, node_count}
 use Rattle.cut_certificate.specs.declared.cut.Cut.{Cut}
-use Rattle.closing_pass.specs.declared.closed.Closed.{Closed}
-use Rattle.closing_pass.specs.Closing.{Closes, IsClosedOut}
 use Rattle.closing_pass.specs.OpenCount.{NeverMore}
 use Rattle.searcher_pool.specs.Passes.{PassOf, IsSpent}
 use Rattle.searcher_pool.specs.Passes.{Grows as GrowsBy}
 use Rattle.route_run.specs.declared.facts.PassLine.{PassLine}
 use Rattle.route_run.specs.declared.facts.Facts.{Facts}
-use Rattle.route_run.specs.Runs.{AreFacts, AreLeast, ClosesFrom, HaveEnded, IsBest, IsRun, IsSomeRun, RunOf}
-use Rattle.route_run.specs.Runs.{complete_from}
+use Rattle.route_run.specs.Runs.{AreFacts, AreLeast, AreWide, ClosesBy, ClosesFrom, HaveEnded, IsBest, IsRun}
+use Rattle.route_run.specs.Runs.{IsSomeRun, RunOf, complete_from}
 use Rattle.route_run.specs.Runs.{entries_after}
 use Rattle.route_run.specs.inner.Passing.{EndsBy, GoesBack, HasPassed, MayFollow, Stays}
-use Rattle.route_run.specs.inner.Passing.{IsFinished, IsKept, IsNew, routed_of}
+use Rattle.route_run.specs.inner.Passing.{IsFinished, IsKept, IsNew, IsShutOut, routed_of}
+use Rattle.route_run.specs.inner.States.{HasBegun, IsOnTheWay, PassStateOf}
 use Rattle.route_run.specs.Runs.{IsTask}
 use Rattle.route_run.specs.declared.input.RunInput.{RunInput}
 use Rattle.route_run.specs.Inputs.{CanRun, run_of}
 use Rattle.route_run.specs.declared.run.Kept.{Kept}
 use Rattle.route_run.specs.declared.run.Routed.{Routed}
+use Rattle.route_run.specs.declared.run.Shut.{Shut}
 use Rattle.route_run.proofs.Best.{no_line}
 use Rattle.route_run.proofs.Passing.{least_on, passes_on}
+use Rattle.route_run.proofs.Rounds.{closing_grows, closing_joins, least_may}
 
 -- ---- whether a pass follows
 pub follow_none : (m : Mesh) (r : RunOf) (b : BoardOf) → MayFollow m r b []
@@ -82,6 +83,13 @@ stays_on p a b c same grows = record {
   cap_stays = grows.cap ∙ same.cap_stays;
 }
 
+pub stays_then : (a b c : BoardOf) → Stays a b → Stays b c → Stays a c
+stays_then a b c one two = record {
+  design_stays = two.design_stays ∙ one.design_stays;
+  start_stays = two.start_stays ∙ one.start_stays;
+  cap_stays = two.cap_stays ∙ one.cap_stays;
+}
+
 -- ---- the way back
 abbrev is_join : Entry → Type 0
 is_join (Join o first after) = Unit {0}
@@ -114,12 +122,12 @@ grows_gone lines kept b c (inr back) = grows_back b c (entries_after lines kept)
 
 -- no join comes with it
 least_gone : (m : Mesh) (via_cost : ℕ) (lines : List PassLine) (kept : ℕ) (b c : BoardOf) → GoesBack lines kept b c
-    → AreLeast m via_cost b → AreLeast m via_cost c
-least_gone m via_cost lines kept b c (inl stays) least = subst (AreLeast m via_cost) (sym stays.1) least
+    → AreLeast false m via_cost b → AreLeast false m via_cost c
+least_gone m via_cost lines kept b c (inl stays) least = subst (AreLeast false m via_cost) (sym stays.1) least
 least_gone m via_cost lines kept b c (inr back) least =
     let to = entries_after lines kept in
     let history : c.history ≡ b.history ++ Back to ∷ [] = ap (λ (x : BoardOf). x.history) back.2 in
-    least_on b c (grows_back b c to back.2) m via_cost least
+    least_on b c (grows_back b c to back.2) false m via_cost least
     (λ n o first after late at. elim (look_last b.history (Back to) n (Join o first after)
     (ap (λ (h : List Entry). slice_get h n) (sym history) ∙ at)) [
       | inl there ↦ absurd
@@ -128,50 +136,47 @@ least_gone m via_cost lines kept b c (inr back) least =
     ])
 
 -- ---- all together
-module _ (d : Design) (m : Mesh) (r : RunOf) (first passed after : BoardOf) (closed : Closed) (facts : Facts)
+module _ (d : Design) (m : Mesh) (r : RunOf) (first passed after : BoardOf) (shut : Shut) (facts : Facts)
     (begun : IsStarted d (2 ^ 19) first facts.dropped) (same : Stays first passed)
     (has : HasPassed m r passed facts.passes) (ended : HaveEnded r passed facts.passes)
     (best : IsBest facts.passes facts.kept) (gone : GoesBack facts.passes facts.kept passed after)
-    (kept : IsBoard after) (out : IsClosedOut m r.via_cost r.tries after closed) (board : IsBoard closed.board)
-    (grid : facts.grid ≡ m.grid) (nodes : facts.nodes ≡ node_count m) (joins : facts.joins ≡ closed.joins)
-    (complete : facts.complete ≡ complete_from 0 closed.ends)
-    (cuts : facts.cuts ≡ flat_map (λ (cuts : List Cut). cuts) closed.ends) where
+    (kept : IsBoard after) (out : IsShutOut m r.via_cost r.tries r.diagonal after shut)
+    (board : IsBoard shut.closed.board) (grid : facts.grid ≡ m.grid) (nodes : facts.nodes ≡ node_count m)
+    (joins : facts.joins ≡ shut.closed.joins) (complete : facts.complete ≡ complete_from 0 shut.closed.ends)
+    (cuts : facts.cuts ≡ flat_map (λ (cuts : List Cut). cuts) shut.closed.ends) (wide : facts.wide ≡ shut.wide) where
   abbrev last_entry : ℕ
   last_entry = entries_after facts.passes (length facts.passes)
 
   back : Grows passed after
   back = grows_gone facts.passes facts.kept passed after gone
 
-  close : Grows after closed.board
-  close = record {
-    design_stays = out.closes.design_stays;
-    start_stays = out.closes.start_stays;
-    cap_stays = out.closes.cap_stays;
-    entries = out.closes.entries;
-    history_is = out.closes.history_is;
-  }
+  abbrev last : BoardOf
+  last = shut.closed.board
 
-  design_is : closed.board.design ≡ d
+  close : Grows after last
+  close = closing_grows r.diagonal m r.via_cost after last out.closes
+
+  design_is : last.design ≡ d
   design_is = close.design_stays ∙ (back.design_stays ∙ (same.design_stays
       ∙ ap (λ (b : BoardOf). b.design) begun.board_is))
 
-  start_is : closed.board.start ≡ begun.start
+  start_is : last.start ≡ begun.start
   start_is = close.start_stays ∙ (back.start_stays ∙ (same.start_stays
       ∙ ap (λ (b : BoardOf). b.start) begun.board_is))
 
-  cap_is : closed.board.cap ≡ 2 ^ 19
+  cap_is : last.cap ≡ 2 ^ 19
   cap_is = close.cap_stays ∙ (back.cap_stays ∙ (same.cap_stays ∙ ap (λ (b : BoardOf). b.cap) begun.board_is))
 
   -- the board after the passes, seen from the last one
-  at_passed : board_at closed.board last_entry ≡ board_at passed last_entry
+  at_passed : board_at last last_entry ≡ board_at passed last_entry
   at_passed =
       let le : last_entry ≤ length passed.history = omega (arith, has.no_more) in
       let longer : length after.history ≡ length passed.history + length back.entries =
       ap length back.history_is ∙ length-append passed.history back.entries in
-      board_before after closed.board last_entry close (omega (arith, le, longer))
+      board_before after last last_entry close (omega (arith, le, longer))
       ∙ board_before passed after last_entry back le
 
-  still_ended : HaveEnded r closed.board facts.passes
+  still_ended : HaveEnded r last facts.passes
   still_ended = record {
     last = ended.last;
     last_is = ended.last_is;
@@ -188,7 +193,7 @@ module _ (d : Design) (m : Mesh) (r : RunOf) (first passed after : BoardOf) (clo
   }
 
   closes_from : (g : GoesBack facts.passes facts.kept passed after)
-      → ClosesFrom closed.board facts.passes facts.kept (length after.history)
+      → ClosesFrom last facts.passes facts.kept (length after.history)
   closes_from (inl stays) = inl (stays.0, ap (λ (b : BoardOf). length b.history) stays.1 ∙ has.no_more)
   closes_from (inr gone) =
       let to = entries_after facts.passes facts.kept in
@@ -196,54 +201,56 @@ module _ (d : Design) (m : Mesh) (r : RunOf) (first passed after : BoardOf) (clo
       let there : slice_get after.history (length passed.history) ≡ Some (Back to) =
       ap (λ (h : List Entry). slice_get h (length passed.history)) history
       ∙ last_there passed.history (Back to) in
-      let on_closed : slice_get closed.board.history (length passed.history) ≡ Some (Back to) =
+      let on_closed : slice_get last.history (length passed.history) ≡ Some (Back to) =
       ap (λ (h : List Entry). slice_get h (length passed.history)) close.history_is
       ∙ look_left after.history close.entries (length passed.history) (Back to) there in
       let count : length after.history ≡ length passed.history + 1 =
       ap length history ∙ length-append passed.history (Back to ∷ []) in
       inr (
         gone.0,
-        subst (λ (k : ℕ). slice_get closed.board.history k ≡ Some (Back to)) has.no_more on_closed,
+        subst (λ (k : ℕ). slice_get last.history k ≡ Some (Back to)) has.no_more on_closed,
         omega (arith, count, has.no_more),
       )
 
   -- the board from which the closing pass went on
-  from_after : after ≡ board_at closed.board (length after.history)
-  from_after = sym (board_before after closed.board (length after.history) close (omega arith)
+  from_after : after ≡ board_at last (length after.history)
+  from_after = sym (board_before after last (length after.history) close (omega arith)
       ∙ board_whole after kept)
 
-  closing : Closes m r.via_cost (board_at closed.board (length after.history)) closed.board
-  closing = subst (λ (b : BoardOf). Closes m r.via_cost b closed.board) from_after out.closes
+  closing : ClosesBy r.diagonal m r.via_cost (board_at last (length after.history)) last
+  closing = subst (λ (b : BoardOf). ClosesBy r.diagonal m r.via_cost b last) from_after out.closes
 
-  fewer : NeverMore (board_at closed.board (length after.history)) closed.board
-  fewer = subst (λ (b : BoardOf). NeverMore b closed.board) from_after out.fewer
+  fewer : NeverMore (board_at last (length after.history)) last
+  fewer = subst (λ (b : BoardOf). NeverMore b last) from_after out.fewer
 
-  least : AreLeast m r.via_cost closed.board
-  least = least_on after closed.board close m r.via_cost
-      (least_gone m r.via_cost facts.passes facts.kept passed after gone has.least)
-      (λ n o first after late at.
-      let l = (out.closes.least n late).each o first after at in (omega (arith, l.0), l.1))
+  least : AreLeast r.diagonal m r.via_cost last
+  least = least_on after last close r.diagonal m r.via_cost
+      (least_may r.diagonal m r.via_cost after
+      (least_gone m r.via_cost facts.passes facts.kept passed after gone has.least))
+      (λ n o x y le at. closing_joins r.diagonal m r.via_cost after last out.closes n le o x y at)
 
-  facts_are : AreFacts m r.via_cost r.tries closed.board (length after.history) facts
+  facts_are : AreFacts m r.via_cost r.tries r.diagonal last (length after.history) facts
   facts_are = record {
     grid_is = grid;
     nodes_are = nodes;
-    dropped_are = subst (λ (x : Design). Starts x facts.dropped closed.board.start) (sym design_is)
+    dropped_are = subst (λ (x : Design). Starts x facts.dropped last.start) (sym design_is)
         (subst (λ (xs : List Item). Starts d facts.dropped xs) (sym start_is) begun.starts);
     joins_are = omega (arith, joins, out.count);
-    ends = closed.ends;
+    ends = shut.closed.ends;
     ends_are = out.ends;
     settled = out.settled;
     complete_is = complete;
     cuts_are = cuts;
+    wide_is = subst (λ (p : List Cut × Option (List ℕ)). AreWide r.diagonal m r.via_cost last p.0 p.1)
+        (λ i. (sym cuts i, sym wide i)) out.wide;
   }
 
-  pub is_run : IsRun d m r closed.board facts
+  pub is_run : IsRun d m r last facts
   is_run = record {
     board = board;
     design_is = design_is;
     cap_is = cap_is;
-    passes = passes_on after closed.board close m r facts.passes
+    passes = passes_on after last close m r facts.passes
         (passes_on passed after back m r facts.passes has.passes);
     ended = still_ended;
     best = best;
@@ -258,35 +265,48 @@ module _ (d : Design) (m : Mesh) (r : RunOf) (first passed after : BoardOf) (clo
 -- the run that is told
 pub run_told : (d : Design) (m : Mesh) (r : RunOf) (first : BoardOf) (kept : Kept) (dropped : List ℕ) (routed : Routed)
     → IsStarted d (2 ^ 19) first dropped → IsKept m r first kept → IsBoard kept.board
-    → IsFinished m r.via_cost r.tries kept dropped routed → IsRun d m r routed.board routed.facts
+    → IsFinished m r.via_cost r.tries r.diagonal kept dropped routed → IsRun d m r routed.board routed.facts
 run_told d m r first kept dropped routed begun is board done =
     subst (λ (x : Routed). IsRun d m r x.board x.facts) (sym done.told)
-    (is_run d m r first is.passed kept.board done.closed
-    (routed_of m dropped kept.lines kept.kept done.closed).facts begun is.same is.has is.ended is.best is.gone board
-    done.out done.board refl refl refl refl refl)
+    (is_run d m r first is.passed kept.board done.shut
+    (routed_of m dropped kept.lines kept.kept done.shut).facts begun is.same is.has is.ended is.best is.gone board
+    done.out done.board refl refl refl refl refl refl)
 
 -- ---- what its parts ask for
 -- a board has few nets, and so few ends of them
-pub few_ends : (m : Mesh) (via_cost tries : ℕ) (b : BoardOf) (closed : Closed) → IsClosedOut m via_cost tries b closed
-    → IsBoard closed.board → length closed.ends ≤ 2 ^ 26
-few_ends m via_cost tries b closed out board =
+pub few_ends : (m : Mesh) (via_cost tries : ℕ) (diagonal : Bool) (b : BoardOf) (shut : Shut)
+    → IsShutOut m via_cost tries diagonal b shut → IsBoard shut.closed.board → length shut.closed.ends ≤ 2 ^ 26
+few_ends m via_cost tries diagonal b shut out board =
     let few = board.sound.parts.few_nets in omega (arith, few, out.ends.all)
 
--- the first board is one of the design, and has no entry
-pub run_begun : (j : RunInput) (d : Design) (first : BoardOf) (dropped : List ℕ) → IsStarted d (2 ^ 19) first dropped
-    → CanRun j d → IsNew j first
-run_begun j d first dropped begun can = record {
-  input = subst (CanRun j) (sym (ap (λ (b : BoardOf). b.design) begun.board_is)) can;
-  none = ap (λ (b : BoardOf). b.history) begun.board_is;
+-- the board keeps its design
+pub task_kept : (j : RunInput) (m : Mesh) (r : RunOf) (first : BoardOf) (kept : Kept) → IsKept m r first kept
+    → CanRun j first.design → IsTask kept.board.design j.lat.now j.via_cost
+task_kept j m r first kept is can =
+    let back = grows_gone kept.lines kept.kept is.passed kept.board is.gone in
+    subst (λ (x : Design). IsTask x j.lat.now j.via_cost) (sym (back.design_stays ∙ is.same.design_stays)) can.task
+
+-- passes that are kept are those of the run on whose way they were
+pub kept_before : (j : RunInput) (first : BoardOf) (s : PassStateOf) (kept : Kept) → IsOnTheWay j first s
+    → IsKept s.lattice s.run s.board kept → IsKept j.lat.now (run_of j) first kept
+kept_before j first s kept way is = record {
+  passed = is.passed;
+  same = stays_then first s.board is.passed way.same is.same;
+  has = subst (λ (m : Mesh). HasPassed m (run_of j) is.passed kept.lines) way.lattice_is
+      (subst (λ (r : RunOf). HasPassed s.lattice r is.passed kept.lines) way.run_is is.has);
+  ended = subst (λ (r : RunOf). HaveEnded r is.passed kept.lines) way.run_is is.ended;
+  best = is.best;
+  gone = is.gone;
 }
 
--- the board keeps its design
-pub task_kept : (j : RunInput) (first : BoardOf) (kept : Kept) → IsKept j.lat.now (run_of j) first kept
-    → IsNew j first → IsTask kept.board.design j.lat.now j.via_cost
-task_kept j first kept is begun =
-    let back = grows_gone kept.lines kept.kept is.passed kept.board is.gone in
-    subst (λ (x : Design). IsTask x j.lat.now j.via_cost) (sym (back.design_stays ∙ is.same.design_stays))
-    begun.input.task
+-- the run whose passes began from a start
+pub run_begun : (j : RunInput) (s : PassStateOf) (kept : Kept) (dropped : List ℕ) (routed : Routed)
+    → HasBegun j s dropped → IsKept s.lattice s.run s.board kept → IsBoard kept.board
+    → IsFinished j.lat.now j.via_cost j.tries j.diagonal kept dropped routed
+    → IsRun s.board.design j.lat.now (run_of j) routed.board routed.facts
+run_begun j s kept dropped routed begun is board done =
+    run_told s.board.design j.lat.now (run_of j) begun.first kept dropped routed begun.begun
+    (kept_before j begun.first s kept begun.way is) board done
 
 -- where passes have ended there is one
 pub some_lines : (r : RunOf) (b : BoardOf) (lines : List PassLine) → HaveEnded r b lines → 0 < length lines
@@ -299,12 +319,16 @@ kept_within lines kept best =
     let within = slice_get_within lines (kept - 1) best.line best.line_is in omega (arith, within, best.counted)
 
 -- ---- several starts
--- a start of a design is one of its board's design
-pub begun_own : (d : Design) (first : BoardOf) (dropped : List ℕ) → IsStarted d (2 ^ 19) first dropped
-    → IsStarted first.design (2 ^ 19) first dropped
-begun_own d first dropped begun =
-    subst (λ (x : Design). IsStarted x (2 ^ 19) first dropped)
-    (sym (ap (λ (b : BoardOf). b.design) begun.board_is)) begun
+-- passes on the way from a start have begun from one of their own board's design
+pub way_begun : (j : RunInput) (first : BoardOf) (dropped : List ℕ) (s : PassStateOf)
+    → IsStarted first.design (2 ^ 19) first dropped → CanRun j first.design → IsOnTheWay j first s
+    → HasBegun j s dropped
+way_begun j first dropped s begun can way = record {
+  input = subst (CanRun j) (sym way.same.design_stays) can;
+  first = first;
+  begun = subst (λ (d : Design). IsStarted d (2 ^ 19) first dropped) (sym way.same.design_stays) begun;
+  way = way;
+}
 
 -- a run by all workers that there are is one by some of them
 pub some_run : (d : Design) (m : Mesh) (r : RunOf) (b : BoardOf) (facts : Facts) → 1 ≤ r.workers → IsRun d m r b facts
@@ -321,3 +345,50 @@ pub better_is : {E : Type 0} (P : Routed → Type 0) (first better : Routed) (ot
     → IfOk other P → (better ≡ first) ⊎ (other ≡ Ok better) → P better
 better_is P first better other one two (inl is) = subst P (sym is) one
 better_is P first better other one two (inr is) = subst (λ o. IfOk o P) is two
+
+-- a start has no entry yet
+pub new_start : (j : RunInput) (first : BoardOf) (dropped : List ℕ) → IsStarted first.design (2 ^ 19) first dropped
+    → CanRun j first.design → IsNew j first
+new_start j first dropped begun can = record {
+  input = can;
+  none = ap (λ (b : BoardOf). b.history) begun.board_is;
+}
+
+-- what may be run may be run by one worker
+abbrev pub by_one : RunInput → RunInput
+by_one j = record j { workers = 1 }
+
+pub can_alone : (j : RunInput) (d : Design) → CanRun j d → CanRun (by_one j) d
+can_alone j d can = record {
+  task = can.task;
+  some_workers = omega arith;
+  few_workers = (let some = can.some_workers in let few = can.few_workers in omega (arith, some, few));
+  some_passes = can.some_passes;
+  few_passes = can.few_passes;
+}
+
+pub new_alone : (j alone : RunInput) (b : BoardOf) → alone ≡ by_one j → IsNew j b → IsNew alone b
+new_alone j alone b is new = subst (λ (x : RunInput). IsNew x b) (sym is) (record {
+  input = can_alone j b.design new.input;
+  none = new.none;
+})
+
+-- a run by one worker from a start
+pub begun_alone : (j alone : RunInput) (first : BoardOf) (dropped : List ℕ) (s : PassStateOf) → alone ≡ by_one j
+    → IsStarted first.design (2 ^ 19) first dropped → CanRun j first.design → IsOnTheWay (by_one j) first s
+    → HasBegun alone s dropped
+begun_alone j alone first dropped s is begun can way = subst (λ (x : RunInput). HasBegun x s dropped) (sym is)
+    (way_begun (by_one j) first dropped s begun (can_alone j first.design can) way)
+
+-- is one by some of the workers that there are
+pub run_alone : (j alone : RunInput) (first : BoardOf) (s : PassStateOf) (routed : Routed) → alone ≡ by_one j
+    → CanRun j first.design → IsOnTheWay (by_one j) first s
+    → IsRun s.board.design alone.lat.now (run_of alone) routed.board routed.facts
+    → IsSomeRun first.design j.lat.now (run_of j) routed.board routed.facts
+run_alone j alone first s routed is can way run = record {
+  workers = 1;
+  some = omega arith;
+  few = can.some_workers;
+  run = subst (λ (d : Design). IsRun d j.lat.now (run_of (by_one j)) routed.board routed.facts) way.same.design_stays
+      (subst (λ (x : RunInput). IsRun s.board.design x.lat.now (run_of x) routed.board routed.facts) is run);
+}

@@ -7,7 +7,7 @@ use Rattle.route_run.specs.Runs.{IsTask, RunOf, run_from}
 
 -- the run that is made by it
 abbrev pub run_of : RunInput → RunOf
-run_of j = run_from j.via_cost j.workers j.passes j.tries
+run_of j = run_from j.via_cost j.workers j.passes j.tries j.diagonal
 
 -- a run of the design may be made by it: there are from one to sixteen workers, and from one to 99 passes
 pub record CanRun (j : RunInput) (d : Design) : Type 0 where

@@ -1,12 +1,15 @@
 -- Runs: passes over the nets, the pass that is kept, and the closing pass.
-use Rattle.std.specs.Prelude.{◌≡◌, ◌⊎◌, ℕ, ◌+◌, ◌-◌, ◌*◌, ◌<◌, ◌≤◌, ◌^◌, nat_le, if◌then◌else◌}
-use Rattle.std.specs.Prelude.{List, [], ◌∷◌, length, take, sum_by, flat_map, slice_get, Option, Some, None}
+use Rattle.std.specs.Prelude.{◌≡◌, ◌⊎◌, ℕ, ◌+◌, ◌-◌, ◌*◌, ◌<◌, ◌≤◌, ◌^◌, nat_le, Bool, true, false, if◌then◌else◌}
+use Rattle.std.specs.Prelude.{List, [], ◌∷◌, length, take, sum_by, flat_map, remove, slice_get, Option, Some, None}
+use Rattle.std.specs.List.{AllZip}
 use Rattle.pcb_model.specs.declared.item.Item.{Item}
 use Rattle.pcb_model.specs.declared.design.Design.{Design}
 use Rattle.pcb_model.specs.Plain.{IsPlainCopper}
 use Rattle.pcb_islands.specs.declared.net.Island.{Island}
 use Rattle.pcb_islands.specs.Islands.{AreIslands}
 use Rattle.route_lattice.specs.Mesh.{Mesh, node_count}
+use Rattle.route_lattice.specs.Walks.{Hop, Leads}
+use Rattle.path_wire.specs.Diagonals.{wide_graph}
 use Rattle.board_offers.specs.declared.offer.Offer.{Offer}
 use Rattle.pcb_board.specs.declared.answer.Entry.{Entry}
 use Rattle.pcb_board.specs.declared.answer.Entry.TheVariants.{Join, Back}
@@ -14,29 +17,37 @@ use Rattle.pcb_board.specs.declared.answer.Answer.TheVariants.{Stale}
 use Rattle.pcb_board.specs.Boards.{BoardOf, Starts, board_at}
 use Rattle.pcb_board.specs.Answers.{Step}
 use Rattle.pcb_board.specs.Keeping.{IsBoard}
-use Rattle.least_offer.specs.Least.{IsLeastOffer}
+use Rattle.least_offer.specs.Least.{IsLeastOffer, IsWideOffer}
 use Rattle.route_plan.specs.Plans.{IsWhole}
 use Rattle.cut_certificate.specs.declared.cut.Cut.{Cut}
+use Rattle.cut_certificate.specs.Cuts.{IsStart, IsGoal}
 use Rattle.closing_pass.specs.Closing.{Closes, AreEnds}
 use Rattle.closing_pass.specs.OpenCount.{IsOpenCount, NeverMore}
 use Rattle.closing_pass.specs.Settled.{AreSettled}
+use Rattle.wide_pass.specs.Rounds.{ClosesWide, IsWideSize}
 use Rattle.searcher_pool.specs.declared.log.WorkerLog.{WorkerLog}
 use Rattle.searcher_pool.specs.Passes.{PassOf, Between, IsJoinOf, IsPassed, IsShutOn, IsSpent, MetFull}
 use Rattle.route_run.specs.declared.facts.PassLine.{PassLine}
 use Rattle.route_run.specs.declared.facts.Facts.{Facts}
 use Rattle.route_lattice.specs.Fits.{FitsDesign}
 
--- what a run goes by: the price of a via in nm, how many workers there are, how many passes there may be, and of how
--- many items that a cut names settled moves are tried
+-- what a run goes by: the price of a via in nm, how many workers there are, how many passes there may be, of how many
+-- items that a cut names settled moves are tried, and whether the closing pass joins by moves at 45 degrees too
 pub record RunOf : Type 0 where
   pub via_cost : ℕ
   pub workers : ℕ
   pub passes : ℕ
   pub tries : ℕ
+  pub diagonal : Bool
 
-abbrev pub run_from : ℕ → ℕ → ℕ → ℕ → RunOf
-run_from via_cost workers passes tries =
-    record { via_cost = via_cost; workers = workers; passes = passes; tries = tries }
+abbrev pub run_from : ℕ → ℕ → ℕ → ℕ → Bool → RunOf
+run_from via_cost workers passes tries diagonal = record {
+  via_cost = via_cost;
+  workers = workers;
+  passes = passes;
+  tries = tries;
+  diagonal = diagonal;
+}
 
 -- ---- open connections
 -- the net has several islands
@@ -167,10 +178,17 @@ complete_from net [] = []
 complete_from net ([] ∷ ends) = net ∷ complete_from (net + 1) ends
 complete_from net ((cut ∷ cuts) ∷ ends) = complete_from (net + 1) ends
 
+-- with moves at 45 degrees, for each cut how many nodes the net's moves reach, those among them
+abbrev pub AreWide : Bool → Mesh → ℕ → BoardOf → List Cut → Option (List ℕ) → Type 0
+AreWide false m via_cost b cuts wide = wide ≡ None
+AreWide true m via_cost b cuts None = ⊥
+AreWide true m via_cost b cuts (Some sizes) = AllZip (IsWideSize b.design m b.items via_cost) cuts sizes
+
 -- The lattice's grid and nodes, the places of wiring that wasn't legal, how many joins the closing pass made, and how
--- the nets end: each is complete, or has a cut for each of its islands, and no settled move of the first items that
--- such a cut names helps.
-pub record AreFacts (m : Mesh) (via_cost tries : ℕ) (b : BoardOf) (from : ℕ) (facts : Facts) : Type 0 where
+-- the nets end: each is complete, or has a cut for each of its islands, no settled move of the first items that such a
+-- cut names helps, and how far moves at 45 degrees reach from it, where they are asked for.
+pub record AreFacts (m : Mesh) (via_cost tries : ℕ) (diagonal : Bool) (b : BoardOf) (from : ℕ) (facts : Facts) : Type
+    0 where
   pub grid_is : facts.grid ≡ m.grid
   pub nodes_are : facts.nodes ≡ node_count m
   pub dropped_are : Starts b.design facts.dropped b.start
@@ -180,12 +198,24 @@ pub record AreFacts (m : Mesh) (via_cost tries : ℕ) (b : BoardOf) (from : ℕ)
   pub settled : AreSettled m via_cost tries b ends
   pub complete_is : facts.complete ≡ complete_from 0 ends
   pub cuts_are : facts.cuts ≡ flat_map (λ (cuts : List Cut). cuts) ends
+  pub wide_is : AreWide diagonal m via_cost b facts.cuts facts.wide
 
 -- ---- runs
--- each join was a least offer on the board after its base, which is an earlier one
-pub record AreLeast (m : Mesh) (via_cost : ℕ) (b : BoardOf) : Type 0 where
+-- a least offer; with moves at 45 degrees it may also be one of the closing pass by a least walk over them, where no
+-- legal walk leads from its island to another
+abbrev pub MayJoin : Bool → Mesh → ℕ → BoardOf → Offer → Type 0
+MayJoin false m via_cost b o = IsLeastOffer m via_cost b o
+MayJoin true m via_cost b o = IsLeastOffer m via_cost b o ⊎ IsWideOffer m via_cost b o
+
+-- each join was such an offer on the board after its base, which is an earlier one
+pub record AreLeast (diagonal : Bool) (m : Mesh) (via_cost : ℕ) (b : BoardOf) : Type 0 where
   pub each : (n : ℕ) (o : Offer) (first after : ℕ) → slice_get b.history n ≡ Some (Join o first after)
-      → (o.base ≤ n) × IsLeastOffer m via_cost (board_at b o.base) o
+      → (o.base ≤ n) × MayJoin diagonal m via_cost (board_at b o.base) o
+
+-- the closing pass, or with moves at 45 degrees its rounds
+abbrev pub ClosesBy : Bool → Mesh → ℕ → BoardOf → BoardOf → Type 0
+ClosesBy false m via_cost old new = Closes m via_cost old new
+ClosesBy true m via_cost old new = ClosesWide m via_cost old new
 
 -- A run of a design on a lattice: on the board of the design's fixed items and its legal wiring, which takes at most
 -- 2^19 entries of workers, passes were made until they ended; the best of them is kept; and from its end the closing
@@ -200,10 +230,10 @@ pub record IsRun (d : Design) (m : Mesh) (r : RunOf) (b : BoardOf) (facts : Fact
   pub best : IsBest facts.passes facts.kept
   pub from : ℕ
   pub closes_from : ClosesFrom b facts.passes facts.kept from
-  pub closing : Closes m r.via_cost (board_at b from) b
+  pub closing : ClosesBy r.diagonal m r.via_cost (board_at b from) b
   pub fewer : NeverMore (board_at b from) b
-  pub least : AreLeast m r.via_cost b
-  pub facts_are : AreFacts m r.via_cost r.tries b from facts
+  pub least : AreLeast r.diagonal m r.via_cost b
+  pub facts_are : AreFacts m r.via_cost r.tries r.diagonal b from facts
 
 -- A run as it is handed back: one of several that may have been made, by the workers that there are or by fewer. No
 -- clause says which one.
@@ -212,6 +242,19 @@ pub record IsSomeRun (d : Design) (m : Mesh) (r : RunOf) (b : BoardOf) (facts : 
   pub some : 1 ≤ workers
   pub few : workers ≤ r.workers
   pub run : IsRun d m (record r { workers = workers }) b facts
+
+-- ---- what a run says of its cuts
+-- the cut's island: it has this pin first, and no walk over the net's moves, those at 45 degrees among them, leads from
+-- it to another island of the net
+pub record IsWideShut (d : Design) (m : Mesh) (items : List Item) (via_cost : ℕ) (cut : Cut) : Type 0 where
+  pub found : List Island
+  pub islands : AreIslands d items cut.net found
+  pub place : ℕ
+  pub island : Island
+  pub island_is : slice_get found place ≡ Some island
+  pub pin_is : slice_get island.pins 0 ≡ Some cut.pin
+  pub shut : (from to : ℕ) (hops : List Hop) → IsStart d m items island from
+      → IsGoal d m items (remove found place) to → Leads (wide_graph d m items island.net via_cost) from hops to → ⊥
 
 -- the design is of plain copper, the lattice fits it, and the price of a via is small
 pub record IsTask (d : Design) (m : Mesh) (via_cost : ℕ) : Type 0 where

@@ -2,6 +2,7 @@
 
 ghost use Rattle.std.specs.Prelude.{◌≡◌, ◌<◌, ◌≤◌, ◌^◌, [], IfOk, OnOk, length, vec_len};
 ghost use Rattle.pcb_model.specs.Sound.{IsSound, Serves};
+ghost use Rattle.pcb_board.specs.Boards.{BoardOf};
 ghost use Rattle.route_run.specs.inner.Passing.{IsOpenNet, AreOpenNets, AreOpenOn};
 
 use pcb_board::{Board, Snap, boards_serve};
@@ -13,6 +14,19 @@ use std::alloc::{AllocError, Global};
 pub(crate) struct OpenNets {
     pub nets: Vec<u32>,
     pub count: u64,
+}
+
+impl OpenNets {
+    /// The same once more.
+    pub(crate) fn copy(&self, alloc: Global) -> Result<OpenNets, AllocError>
+        ensures { IfOk result (λ o. (b : BoardOf) → AreOpenOn b self.now → AreOpenOn b o) }
+    {
+        let nets = Vec::from_slice(alloc, self.nets.as_slice())?;
+        Ok(OpenNets {
+            nets,
+            count: self.count,
+        })
+    }
 }
 
 // How many connections of a net are open: its islands less one, and none where it has no island.

@@ -35,6 +35,8 @@ pub struct Facts {
     pub complete: List<u32>,
     /// A cut for each island of every other net, net by net.
     pub cuts: List<Cut>,
+    /// For each cut how many nodes the net's moves reach, those at 45 degrees among them, where they are asked for.
+    pub wide: Option<List<u64>>,
 }
 
 /// The nets that have no cut, ascending.

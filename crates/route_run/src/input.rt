@@ -16,4 +16,6 @@ pub struct RunInput<'a> {
     pub passes: u32,
     /// Of how many items that a cut names settled moves are tried.
     pub tries: u32,
+    /// Whether the closing pass joins by moves at 45 degrees too.
+    pub diagonal: bool,
 }

@@ -6,6 +6,7 @@ mod connections;
 mod facts;
 mod input;
 mod keep;
+mod laws;
 mod passes;
 mod run;
 mod starts;
@@ -14,5 +15,6 @@ mod trials;
 
 pub use facts::{Facts, PassLine};
 pub use input::RunInput;
+pub use laws::cuts_are_shut;
 pub use run::{MOST_ENTRIES, Routed, run_nets};
 pub use starts::run_best;

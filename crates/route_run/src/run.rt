@@ -7,22 +7,24 @@ ghost use Rattle.pcb_board.specs.Keeping.{IsStarted};
 ghost use Rattle.cut_certificate.specs.declared.cut.Cut.{Cut as OneCut};
 ghost use Rattle.route_run.specs.Runs.{IsRun, IsTask, complete_from};
 ghost use Rattle.route_run.specs.Inputs.{CanRun, run_of};
-ghost use Rattle.route_run.specs.inner.Passing.{IsFinished, IsKept, IsNew, routed_of};
+ghost use Rattle.route_run.specs.inner.Passing.{IsFinished, IsKept, IsShutOut, routed_of};
+ghost use Rattle.route_run.specs.inner.States.{HasBegun};
 
 use crate::facts::{Facts, PassLine, all_cuts, complete_nets};
 use crate::input::RunInput;
 use crate::keep::{best_of, go_back};
-use crate::passes::make_passes;
+use crate::passes::Passes;
 use board_turn::Gate;
 use closing_pass::{Closed, close_out};
 use cut_certificate::Cut;
 use geo_kernel::List;
-use pcb_board::Board;
+use pcb_board::{Board, PassBack};
 use pcb_model::Design;
 use route_lattice::Lattice;
 use std::alloc::{AllocError, Global};
 use std::sync::Wait;
 use std::thread::Threads;
+use wide_pass::{Wide, close_wide};
 
 /// As many entries of workers a board takes.
 pub const MOST_ENTRIES: u64 = 524_288;
@@ -49,19 +51,23 @@ pub(crate) struct Start {
     pub dropped: List<u64>,
 }
 
-// Makes the passes of a pattern over a new board, and goes back to the end of the best one.
+/// What the closing pass left, and how far moves at 45 degrees reach from each cut, where they are asked for.
+#[derive(Drop)]
+pub(crate) struct Shut {
+    pub closed: Closed,
+    pub wide: Option<List<u64>>,
+}
+
+// Makes the rest of the passes, and goes back to the end of the best one.
 fn keep_best<R: Threads + Wait + Sync, G: Gate + Sync>(
     rt: &R,
     alloc: Global,
-    input: RunInput<'_>,
-    board: Board,
-    pattern: u32,
+    passes: Passes<'_>,
     gate: &G,
 ) -> Result<Kept, AllocError>
-    requires { IsNew input board }
-    ensures { IfOk result (IsKept input.entry.lat.now (run_of input.entry) board) }
+    ensures { IfOk result (IsKept passes.entry.lattice passes.entry.run passes.entry.board) }
 {
-    let (board, lines) = make_passes(rt, alloc, input, board, pattern, gate)?;
+    let (board, lines) = passes.finish(rt, alloc, gate)?;
     let kept = best_of(lines.as_slice());
     let board = go_back(board, lines.as_slice(), kept)?;
     Ok(Kept { board, lines, kept })
@@ -84,16 +90,17 @@ fn facts_of(
     dropped: List<u64>,
     lines: List<PassLine>,
     kept: u32,
-    closed: Closed,
+    shut: Shut,
 ) -> Result<Routed, AllocError>
-    requires { length closed.ends ≤ 2 ^ 26 }
-    ensures { IfOk result (λ r. r ≡ routed_of lat.now dropped lines kept closed) }
+    requires { length shut.closed.ends ≤ 2 ^ 26 }
+    ensures { IfOk result (λ r. r ≡ routed_of lat.now dropped lines kept shut) }
 {
+    let Shut { closed, wide } = shut;
     let Closed { board, ends, joins } = closed;
     let (complete, cuts) = match told_ends(alloc, ends) {
         Ok(told) => told,
         Err(error) => {
-            drop((board, dropped, lines));
+            drop((board, dropped, lines, wide));
             return Err(error);
         }
     };
@@ -106,27 +113,49 @@ fn facts_of(
         joins,
         complete,
         cuts,
+        wide,
     };
     Ok(Routed { board, facts })
+}
+
+// Makes the closing pass, by rounds where moves at 45 degrees are asked for.
+fn close_by(alloc: Global, input: RunInput<'_>, board: Board) -> Result<Shut, PassBack>
+    requires { IsTask board.design input.lat.now input.via_cost }
+    ensures { IfOk result (IsShutOut input.entry.lat.now input.entry.via_cost input.entry.tries
+        input.entry.diagonal board) }
+{
+    if input.diagonal {
+        match close_wide(alloc, board, input.lat, input.via_cost, input.tries) {
+            Ok(Wide { closed, wide }) => Ok(Shut {
+                closed,
+                wide: Some(wide),
+            }),
+            Err(back) => Err(back),
+        }
+    } else {
+        match close_out(alloc, board, input.lat, input.via_cost, input.tries) {
+            Ok(closed) => Ok(Shut { closed, wide: None }),
+            Err(back) => Err(back),
+        }
+    }
 }
 
 // Makes the closing pass, and tells of the run.
 fn close_and_tell(
     alloc: Global,
-    lat: &Lattice,
-    via_cost: u64,
-    tries: u32,
+    input: RunInput<'_>,
     best: Kept,
     dropped: List<u64>,
 ) -> Result<Routed, AllocError>
-    requires { IsTask best.board.design lat.now via_cost }
-    ensures { IfOk result (IsFinished lat.now via_cost tries best dropped) }
+    requires { IsTask best.board.design input.lat.now input.via_cost }
+    ensures { IfOk result (IsFinished input.entry.lat.now input.entry.via_cost input.entry.tries
+        input.entry.diagonal best dropped) }
 {
     let Kept { board, lines, kept } = best;
-    match close_out(alloc, board, lat, via_cost, tries) {
-        Ok(closed) => {
-            closed.board.keeps();
-            facts_of(alloc, lat, dropped, lines, kept, closed)
+    match close_by(alloc, input, board) {
+        Ok(shut) => {
+            shut.closed.board.keeps();
+            facts_of(alloc, input.lat, dropped, lines, kept, shut)
         }
         Err(back) => {
             let cause = back.cause;
@@ -134,6 +163,30 @@ fn close_and_tell(
             Err(cause)
         }
     }
+}
+
+/// The rest of a run whose passes stand here: its further passes, the way back to the best one and the closing pass.
+pub(crate) fn run_on<R: Threads + Wait + Sync, G: Gate + Sync>(
+    rt: &R,
+    alloc: Global,
+    input: RunInput<'_>,
+    passes: Passes<'_>,
+    dropped: List<u64>,
+    gate: &G,
+) -> Result<Routed, AllocError>
+    requires begun { HasBegun input passes dropped }
+    ensures { IfOk result (λ r. IsRun passes.entry.board.design input.entry.lat.now (run_of input.entry) r.board
+        r.facts) }
+{
+    let best = match keep_best(rt, alloc, passes, gate) {
+        Ok(best) => best,
+        Err(error) => {
+            drop(dropped);
+            return Err(error);
+        }
+    };
+    best.board.keeps();
+    close_and_tell(alloc, input, best, dropped)
 }
 
 /// A run over a new board, the searches of whose passes prefer some of equally cheap walks by a pattern.
@@ -151,15 +204,13 @@ pub(crate) fn run_under<R: Threads + Wait + Sync, G: Gate + Sync>(
         (λ r. IsRun start.board.design input.entry.lat.now (run_of input.entry) r.board r.facts) }
 {
     let Start { board, dropped } = start;
-    let best = match keep_best(rt, alloc, input, board, pattern, gate) {
-        Ok(best) => best,
+    match Passes::begin(alloc, input, board, pattern) {
+        Ok(passes) => run_on(rt, alloc, input, passes, dropped, gate),
         Err(error) => {
             drop(dropped);
-            return Err(error);
+            Err(error)
         }
-    };
-    best.board.keeps();
-    close_and_tell(alloc, input.lat, input.via_cost, input.tries, best, dropped)
+    }
 }
 
 /// The start of a run of a design. The only error is want of memory.

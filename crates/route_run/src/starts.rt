@@ -6,13 +6,17 @@ ghost use Rattle.pcb_model.specs.Sound.{IsSound};
 ghost use Rattle.pcb_board.specs.Keeping.{IsStarted};
 ghost use Rattle.route_run.specs.Runs.{IsRun, IsSomeRun};
 ghost use Rattle.route_run.specs.Inputs.{CanRun, run_of};
+ghost use Rattle.route_run.specs.inner.Passing.{IsNew};
+ghost use Rattle.route_run.specs.inner.States.{IsOnTheWay};
 
 use crate::input::RunInput;
-use crate::run::{Routed, Start, run_under, start_of};
-use crate::trials::best_pattern;
+use crate::passes::Passes;
+use crate::run::{Routed, Start, run_on, run_under, start_of};
+use crate::trials::{best_trial, enough_behind};
 use board_turn::Gate;
 use cut_certificate::{Blocker, Cut};
 use geo_kernel::List;
+use pcb_board::Board;
 use pcb_model::Design;
 use std::alloc::{AllocError, Global};
 use std::sync::Wait;
@@ -52,12 +56,17 @@ fn has_routed_block(cut: &Cut, fixed: u64) -> bool {
     false
 }
 
-// Whether another run may leave less open: something is open, and not shut by fixed copper alone.
+// Whether another run may leave less open: two islands of a net aren't shut in by fixed copper alone. One that is can
+// be joined by no run.
 fn may_gain(routed: &Routed) -> bool {
     let fixed = routed.board.design().fixed.len() as u64;
+    let mut last = None;
     for cut in routed.facts.cuts.as_slice() {
         if has_routed_block(cut, fixed) {
-            return true;
+            if last == Some(cut.net) {
+                return true;
+            }
+            last = Some(cut.net);
         }
     }
     false
@@ -73,15 +82,35 @@ fn alone(input: RunInput<'_>) -> RunInput<'_>
         workers: 1,
         passes: input.passes,
         tries: input.tries,
+        diagonal: input.diagonal,
     }
 }
 
-// A run by one worker under the pattern that a few passes tell as the best.
+// Of the trials by one worker over a new board, of which so many are made side by side, the one that left the least
+// open.
+fn best_begun<'a, R: Threads + Wait + Sync, G: Gate + Sync>(
+    rt: &R,
+    alloc: Global,
+    input: RunInput<'a>,
+    board: Board,
+    enough: u64,
+    gate: &G,
+) -> Result<Passes<'a>, AllocError>
+    requires new { IsNew input board }
+    ensures { IfOk result (IsOnTheWay (record input.entry { workers = 1 }) board) }
+{
+    let begun = Passes::begin(alloc, alone(input), board, 0)?;
+    best_trial(rt, alloc, &begun, input.workers, enough, gate)
+}
+
+// A run by one worker, under the pattern whose trial left the least open. The passes of that trial are its first ones,
+// and aren't made again.
 fn further_run<R: Threads + Wait + Sync, G: Gate + Sync>(
     rt: &R,
     alloc: Global,
     input: RunInput<'_>,
     start: Start,
+    enough: u64,
     gate: &G,
 ) -> Result<Routed, AllocError>
     requires begun { IsStarted start.board.design (2 ^ 19) start.board start.dropped }
@@ -89,8 +118,14 @@ fn further_run<R: Threads + Wait + Sync, G: Gate + Sync>(
     ensures { IfOk result
         (λ r. IsSomeRun start.board.design input.entry.lat.now (run_of input.entry) r.board r.facts) }
 {
-    let pattern = best_pattern(rt, alloc, input, &start.board, gate)?;
-    run_under(rt, alloc, alone(input), start, pattern, gate)
+    let Start { board, dropped } = start;
+    match best_begun(rt, alloc, input, board, enough, gate) {
+        Ok(passes) => run_on(rt, alloc, alone(input), passes, dropped, gate),
+        Err(error) => {
+            drop(dropped);
+            Err(error)
+        }
+    }
 }
 
 // The one of two runs that leaves less open, of equal ones the first; the first where there is no other.
@@ -136,7 +171,8 @@ fn run_twice<R: Threads + Wait + Sync, G: Gate + Sync>(
         drop(spare);
         return Ok(first);
     }
-    let other = further_run(rt, alloc, input, spare, gate);
+    let enough = enough_behind(first.facts.passes.as_slice());
+    let other = further_run(rt, alloc, input, spare, enough, gate);
     Ok(better_run(first, other))
 }
 

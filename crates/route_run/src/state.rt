@@ -78,6 +78,17 @@ fn penalty_of(pass: u32) -> Option<u64>
     }
 }
 
+// No maps yet.
+fn no_maps() -> PassMaps
+    ensures mapped { result.mapped ≡ None }
+    ensures fixed { result.fixed ≡ None }
+{
+    PassMaps {
+        mapped: None,
+        fixed: None,
+    }
+}
+
 // Works off the open nets, and tells whether the board was full for an offer.
 fn work_off<R: Threads + Wait + Sync, G: Gate + Sync>(
     rt: &R,
@@ -160,10 +171,24 @@ impl<'a> PassState<'a> {
             board,
             open_nets,
             lines: List::new(alloc),
-            maps: PassMaps {
-                mapped: None,
-                fixed: None,
-            },
+            maps: no_maps(),
+        })
+    }
+
+    /// The same once more, under another pattern from here on and without maps.
+    pub(crate) fn under(&self, alloc: Global, pattern: u32) -> Result<PassState<'a>, AllocError>
+        ensures { IfOk result (λ s. s ≡ self.now) }
+    {
+        let open_nets = self.open_nets.copy(alloc)?;
+        let lines = List::from_slice(alloc, self.lines.as_slice())?;
+        let board = self.board.copy()?;
+        Ok(PassState {
+            input: self.input,
+            pattern,
+            board,
+            open_nets,
+            lines,
+            maps: no_maps(),
         })
     }
 
@@ -173,6 +198,18 @@ impl<'a> PassState<'a> {
         ensures few { (1 ≤ result) × (result ≤ 99) }
     {
         self.input.passes
+    }
+
+    /// The lines of the passes that were made.
+    pub(crate) fn lines(&self) -> &[PassLine] {
+        self.lines.as_slice()
+    }
+
+    /// Lets go of the maps that were made so far.
+    pub(crate) fn forget_maps(&mut self)
+        ensures { self.new ≡ self.old }
+    {
+        self.maps = no_maps();
     }
 
     // Maps the board as it is, by what was mapped before; where no net is open there is nothing to be mapped for.

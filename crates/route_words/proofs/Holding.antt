@@ -24,8 +24,8 @@ use Rattle.route_words.proofs.Finding.{flag_default, flag_text, name_found, opti
 use Rattle.route_words.proofs.Fitting.{fits, rows_are}
 use Rattle.route_words.proofs.Gens.{gen_defaults, gen_id, gen_passes, gen_rules, gen_serves}
 use Rattle.route_words.proofs.Laying.{laid}
-use Rattle.route_words.proofs.Routes.{flag_apart, name_id, route_id, route_defaults, route_passes, route_rules}
-use Rattle.route_words.proofs.Routes.{route_serves, rule_at}
+use Rattle.route_words.proofs.Routes.{IsNoFlag, flag_apart, name_id, route_id, route_defaults, route_passes}
+use Rattle.route_words.proofs.Routes.{route_rules, route_serves, rule_at, with_flags}
 use Rattle.route_words.proofs.Spelling.{words_spelt}
 use Rattle.route_words.proofs.Walking.{clear}
 
@@ -41,8 +41,7 @@ route_fits : (words : List (String Global)) → clear (fault_of route_app (texts
 route_fits words = fits route_form route_rules route_serves route_passes (texts words) (words_spelt words)
 
 route_row : (words : List Word) → fit route_form (parts_of route_form words) ≡ true
-    → matches_of route_app words ≡ with_default (laid route_form route_rules route_serves 0 (parts_of route_form words))
-    (rule_at 7)
+    → matches_of route_app words ≡ with_flags (laid route_form route_rules route_serves 0 (parts_of route_form words))
 route_row words fit_is = rows_are route_form route_rules route_serves words fit_is
     ∙ route_defaults (laid route_form route_rules route_serves 0 (parts_of route_form words))
 
@@ -51,13 +50,23 @@ module _ (words : List Word) (f : Found) (fit_is : fit route_form (parts_of rout
   abbrev route_rows : List Row
   route_rows = laid route_form route_rules route_serves 0 (parts_of route_form words)
 
-  route_found : (x : Word) → first_value f x ≡ first_of x (with_default route_rows (rule_at 7))
+  -- with the default of one flag
+  abbrev first_rows : List Row
+  first_rows = with_default route_rows (rule_at 7)
+
+  route_found : (x : Word) → first_value f x ≡ first_of x (with_flags route_rows)
   route_found x = first_value-rows f x ∙ ap (first_of x) (rows_is ∙ route_row words fit_is)
 
-  route_name : (m : ℕ) → nat_lt m 2 ≡ true → bytes_eq (codes "omit-fixed") (name_id m) ≡ false
+  -- no default of a flag changes what another word has
+  route_other : (x : Word) → IsNoFlag x → first_value f x ≡ first_of x route_rows
+  route_other x apart =
+      route_found x ∙ other_default x first_rows (rule_at 9) (codes "false") refl apart.1
+      ∙ other_default x route_rows (rule_at 7) (codes "false") refl apart.0
+
+  route_name : (m : ℕ) → nat_lt m 2 ≡ true → IsNoFlag (name_id m)
       → first_value f (name_id m) ≡ slice_get (names_in (parts_of route_form words)) m
   route_name m below apart =
-      route_found (name_id m) ∙ other_default (name_id m) route_rows (rule_at 7) (codes "false") refl apart
+      route_other (name_id m) apart
       ∙ subst (λ t. first_of t route_rows ≡ slice_get (names_in (parts_of route_form words)) m) (route_id m)
       (name_found route_form route_rules route_serves m m 0 (omega arith) below (parts_of route_form words) [] fit_is)
 
@@ -65,29 +74,43 @@ module _ (words : List Word) (f : Found) (fit_is : fit route_form (parts_of rout
       → first_value f id ≡ slice_get (names_in (parts_of route_form words)) k
   route_names zero id is =
       let same : codes "input" ≡ id = cc in
-      subst (λ t. first_value f t ≡ slice_get (names_in (parts_of route_form words)) 0) same (route_name 0 refl refl)
+      subst (λ t. first_value f t ≡ slice_get (names_in (parts_of route_form words)) 0) same
+      (route_name 0 refl (refl, refl))
   route_names (suc zero) id is =
       let same : codes "output" ≡ id = cc in
-      subst (λ t. first_value f t ≡ slice_get (names_in (parts_of route_form words)) 1) same (route_name 1 refl refl)
+      subst (λ t. first_value f t ≡ slice_get (names_in (parts_of route_form words)) 1) same
+      (route_name 1 refl (refl, refl))
   route_names (suc (suc k)) id is = cc
 
   route_value : (x : Word) → has route_form.valued x ≡ true → first_value f x ≡ value_in x (parts_of route_form words)
   route_value x known =
-      route_found x ∙ other_default x route_rows (rule_at 7) (codes "false") refl (flag_apart x known)
+      route_other x (flag_apart x known)
       ∙ option_found route_form route_rules route_serves x (rw known refl) (parts_of route_form words) [] 0 fit_is
 
   route_omits : is_on (first_value f (codes "omit-fixed"))
       ≡ is_some (value_in (codes "omit-fixed") (parts_of route_form words))
   route_omits =
-      ap is_on (route_found (codes "omit-fixed")) ∙ flag_default route_rows (rule_at 7) refl
+      ap is_on (route_found (codes "omit-fixed")
+      ∙ other_default (codes "omit-fixed") first_rows (rule_at 9) (codes "false") refl refl)
+      ∙ flag_default route_rows (rule_at 7) refl
       ∙ ap is_on (option_found route_form route_rules route_serves (codes "omit-fixed") refl (parts_of route_form words)
       [] 0 fit_is)
       ∙ flag_text route_form (codes "omit-fixed") refl (parts_of route_form words) [] 0 fit_is
+
+  route_slants : is_on (first_value f (codes "diagonal"))
+      ≡ is_some (value_in (codes "diagonal") (parts_of route_form words))
+  route_slants =
+      ap is_on (route_found (codes "diagonal")) ∙ flag_default first_rows (rule_at 9) refl
+      ∙ ap is_on (other_default (codes "diagonal") route_rows (rule_at 7) (codes "false") refl refl
+      ∙ option_found route_form route_rules route_serves (codes "diagonal") refl (parts_of route_form words) [] 0
+      fit_is)
+      ∙ flag_text route_form (codes "diagonal") refl (parts_of route_form words) [] 0 fit_is
 
   route_holds : HoldsRoute (parts_of route_form words) f
   route_holds = record {
     held = record { fits = fit_is; values = route_value; names = route_names };
     omits = route_omits;
+    slants = route_slants;
   }
 
 pub route_found_in : (words : List (String Global)) (m : ArgMatches) → Reads route_app (texts words) (Ok m)

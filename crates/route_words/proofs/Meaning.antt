@@ -1,14 +1,15 @@
 -- What a command means, by what `clap` holds of its words.
-use Rattle.std.proofs.Common.{◌≡◌, ◌∙◌, ◌+◌, ◌≤◌, ℕ, true, refl, sym, ap, arith, nat_lt, true≢false}
-use Rattle.std.proofs.Common.{List, [], ◌∷◌, length, Option, Some, None, slice_get, codes, Err}
+use Rattle.std.proofs.Common.{◌≡◌, ◌∙◌, ◌+◌, ◌≤◌, ℕ, Bool, true, refl, sym, ap, arith, nat_lt, true≢false}
+use Rattle.std.proofs.Common.{List, [], ◌∷◌, length, Option, Some, None, slice_get, codes, is_some, Result, Err}
 use Rattle.std.proofs.lemmas.Bool.{ltb-true}
 use Rattle.clap.specs.Matches.{first_value}
 use Rattle.clap.specs.declared.parser.matches.Found.{Found}
 use Rattle.route_words.specs.inner.Forms.{FindsCheck, FindsGen, FindsRoute, Holds, HoldsCheck, HoldsRoute}
-use Rattle.route_words.specs.inner.Forms.{knobs_found}
+use Rattle.route_words.specs.inner.Forms.{is_on, knobs_found}
 use Rattle.route_words.specs.Parts.{Form, Part, Word, fit_from, name, names_in, option, parts_of, stray, value_in}
 use Rattle.route_words.specs.Words.{Says, check_form, check_of, check_with, gen_form, gen_of, gen_with, knobs_of}
 use Rattle.route_words.specs.Words.{route_form, route_of, route_with}
+use Rattle.route_words.specs.declared.command.Command.{Command}
 use Rattle.route_words.specs.declared.command.WordFault.{WordFault}
 use Rattle.route_words.specs.declared.command.Knobs.{Knobs}
 use Rattle.route_words.specs.declared.command.WordFault.TheVariants.{Memory, NoCommand, UnknownCommand, Usage}
@@ -36,22 +37,23 @@ two_names (x ∷ []) a b few first second = cc
 two_names (x ∷ y ∷ []) a b few first second = cc
 two_names (x ∷ y ∷ z ∷ names) a b few first second = absurd (omega arith)
 
-no_first : (names : List Word) (from : Option Word) (knobs : Option Knobs) → slice_get names 0 ≡ None
-    → route_with names from knobs ≡ Err Usage
-no_first [] from knobs none = refl
-no_first (x ∷ names) from knobs none = cc
+no_first : (names : List Word) (from : Option Word) (diagonal : Bool) (knobs : Option Knobs)
+    → slice_get names 0 ≡ None → route_with names from diagonal knobs ≡ Err Usage
+no_first [] from diagonal knobs none = refl
+no_first (x ∷ names) from diagonal knobs none = cc
 
-no_second : (names : List Word) (from : Option Word) (knobs : Option Knobs) → slice_get names 1 ≡ None
-    → route_with names from knobs ≡ Err Usage
-no_second [] from knobs none = refl
-no_second (x ∷ []) from knobs none = refl
-no_second (x ∷ y ∷ names) from knobs none = cc
+no_second : (names : List Word) (from : Option Word) (diagonal : Bool) (knobs : Option Knobs)
+    → slice_get names 1 ≡ None → route_with names from diagonal knobs ≡ Err Usage
+no_second [] from diagonal knobs none = refl
+no_second (x ∷ []) from diagonal knobs none = refl
+no_second (x ∷ y ∷ names) from diagonal knobs none = cc
 
-without_knobs : (names : List Word) (from : Option Word) → route_with names from None ≡ Err Usage
-without_knobs [] from = refl
-without_knobs (x ∷ []) from = refl
-without_knobs (x ∷ y ∷ []) from = refl
-without_knobs (x ∷ y ∷ z ∷ names) from = refl
+without_knobs : (names : List Word) (from : Option Word) (diagonal : Bool)
+    → route_with names from diagonal None ≡ Err Usage
+without_knobs [] from diagonal = refl
+without_knobs (x ∷ []) from diagonal = refl
+without_knobs (x ∷ y ∷ []) from diagonal = refl
+without_knobs (x ∷ y ∷ z ∷ names) from diagonal = refl
 
 module _ (words : List Word) (f : Found) (holds : HoldsRoute (parts_of route_form words) f) where
   knobs_are : knobs_found f ≡ knobs_of (parts_of route_form words)
@@ -68,26 +70,36 @@ module _ (words : List Word) (f : Found) (holds : HoldsRoute (parts_of route_for
   abbrev from_found : Option Word
   from_found = first_value f (codes "from")
 
-  route_is : route_of words ≡ route_with (names_in (parts_of route_form words)) from_found (knobs_found f)
+  -- whether moves at 45 degrees are asked for
+  abbrev diagonal_found : Bool
+  diagonal_found = is_on (first_value f (codes "diagonal"))
+
+  -- the command by these
+  abbrev made_of : Option Word → Bool → Option Knobs → Result Command WordFault
+  made_of from diagonal knobs = route_with (names_in (parts_of route_form words)) from diagonal knobs
+
+  route_is : route_of words ≡ made_of from_found diagonal_found (knobs_found f)
   route_is =
       rw holds.held.fits
-      (ap (route_with (names_in (parts_of route_form words)) (value_in (codes "from") (parts_of route_form words)))
-      (sym knobs_are)
-      ∙ ap (λ (from : Option Word). route_with (names_in (parts_of route_form words)) from (knobs_found f))
-      (sym (holds.held.values (codes "from") refl)))
+      (ap (made_of (value_in (codes "from") (parts_of route_form words))
+      (is_some (value_in (codes "diagonal") (parts_of route_form words)))) (sym knobs_are)
+      ∙ ap (λ (from : Option Word). made_of from (is_some (value_in (codes "diagonal") (parts_of route_form words)))
+      (knobs_found f)) (sym (holds.held.values (codes "from") refl))
+      ∙ ap (λ (b : Bool). made_of from_found b (knobs_found f)) (sym holds.slants))
 
   pub no_input : first_value f (codes "input") ≡ None → route_of words ≡ Err Usage
-  no_input none = route_is ∙ no_first _ _ _ (sym (holds.held.names 0 (codes "input") refl) ∙ none)
+  no_input none = route_is ∙ no_first _ _ _ _ (sym (holds.held.names 0 (codes "input") refl) ∙ none)
 
   pub no_output : first_value f (codes "output") ≡ None → route_of words ≡ Err Usage
-  no_output none = route_is ∙ no_second _ _ _ (sym (holds.held.names 1 (codes "output") refl) ∙ none)
+  no_output none = route_is ∙ no_second _ _ _ _ (sym (holds.held.names 1 (codes "output") refl) ∙ none)
 
   pub no_knobs : knobs_found f ≡ None → route_of words ≡ Err Usage
-  no_knobs none = route_is ∙ rw none (without_knobs (names_in (parts_of route_form words)) from_found)
+  no_knobs none = route_is ∙ rw none (without_knobs (names_in (parts_of route_form words)) from_found diagonal_found)
 
   pub route_named : (a b : Word) (knobs : Knobs) → first_value f (codes "input") ≡ Some a
       → first_value f (codes "output") ≡ Some b
-      → knobs_found f ≡ Some knobs → route_of words ≡ route_with (a ∷ b ∷ []) from_found (Some knobs)
+      → knobs_found f ≡ Some knobs
+      → route_of words ≡ route_with (a ∷ b ∷ []) from_found diagonal_found (Some knobs)
   route_named a b knobs first second given =
       let few = few_names route_form (parts_of route_form words) [] 0 (omega arith) holds.held.fits in
       let names = two_names (names_in (parts_of route_form words)) a b (omega arith)

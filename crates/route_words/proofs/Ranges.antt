@@ -104,12 +104,13 @@ filled_given : (from : Option Word) → is_given_empty from ≡ false → IfSome
 filled_given None e = tt
 filled_given (Some name) e = filled_name name e
 
-named_within : (input output : Word) (from : Option Word) (knobs : Knobs) → AreWithin knobs
-    → IfOk (route_with (input ∷ output ∷ []) from (Some knobs)) IsWithin
-named_within input output from knobs within = by (is_empty input || is_empty output || is_given_empty from) refl
+named_within : (input output : Word) (from : Option Word) (diagonal : Bool) (knobs : Knobs) → AreWithin knobs
+    → IfOk (route_with (input ∷ output ∷ []) from diagonal (Some knobs)) IsWithin
+named_within input output from diagonal knobs within =
+    by (is_empty input || is_empty output || is_given_empty from) refl
   where
     by : (b : Bool) → (is_empty input || is_empty output || is_given_empty from) ≡ b
-        → IfOk (route_with (input ∷ output ∷ []) from (Some knobs)) IsWithin
+        → IfOk (route_with (input ∷ output ∷ []) from diagonal (Some knobs)) IsWithin
     by true e = rw e tt
     by false e =
         let two = or_left (is_empty input || is_empty output) (is_given_empty from) e in
@@ -120,13 +121,13 @@ named_within input output from knobs within = by (is_empty input || is_empty out
           within,
         )
 
-route_with_within : (names : List Word) (from : Option Word) (knobs : Option Knobs) → IfSome knobs AreWithin
-    → IfOk (route_with names from knobs) IsWithin
-route_with_within [] from knobs within = tt
-route_with_within (a ∷ []) from knobs within = tt
-route_with_within (a ∷ b ∷ []) from None within = tt
-route_with_within (a ∷ b ∷ []) from (Some knobs) within = named_within a b from knobs within
-route_with_within (a ∷ b ∷ d ∷ names) from knobs within = tt
+route_with_within : (names : List Word) (from : Option Word) (diagonal : Bool) (knobs : Option Knobs)
+    → IfSome knobs AreWithin → IfOk (route_with names from diagonal knobs) IsWithin
+route_with_within [] from diagonal knobs within = tt
+route_with_within (a ∷ []) from diagonal knobs within = tt
+route_with_within (a ∷ b ∷ []) from diagonal None within = tt
+route_with_within (a ∷ b ∷ []) from diagonal (Some knobs) within = named_within a b from diagonal knobs within
+route_with_within (a ∷ b ∷ d ∷ names) from diagonal knobs within = tt
 
 if_fits : (b : Bool) (r : Result Command WordFault) → IfOk r IsWithin → IfOk (if b then r else Err Usage) IsWithin
 if_fits true r within = within
@@ -136,7 +137,7 @@ route_within : (words : List Word) → IfOk (route_of words) IsWithin
 route_within words =
     if_fits (fit route_form (parts_of route_form words)) _
     (route_with_within (names_in (parts_of route_form words)) (value_in (codes "from") (parts_of route_form words))
-    (knobs_of (parts_of route_form words))
+    (is_some (value_in (codes "diagonal") (parts_of route_form words))) (knobs_of (parts_of route_form words))
     (knobs_of_within (parts_of route_form words)))
 
 files_within : (input session report : Word) → IfOk (check_with (input ∷ session ∷ report ∷ [])) IsWithin

@@ -31,20 +31,21 @@ ByLong x = arg_by_long route_rules x
 by_long : (x : Word) → ByLong x
 by_long x = by (bytes_eq (codes "grid") x) refl (bytes_eq (codes "workers") x) refl (bytes_eq (codes "passes") x) refl
     (bytes_eq (codes "via-cost") x) refl (bytes_eq (codes "tries") x) refl (bytes_eq (codes "omit-fixed") x) refl
-    (bytes_eq (codes "from") x) refl
+    (bytes_eq (codes "from") x) refl (bytes_eq (codes "diagonal") x) refl
   where
     by : (a : Bool) → bytes_eq (codes "grid") x ≡ a → (b : Bool) → bytes_eq (codes "workers") x ≡ b → (d : Bool)
         → bytes_eq (codes "passes") x ≡ d → (e : Bool) → bytes_eq (codes "via-cost") x ≡ e
         → (h : Bool) → bytes_eq (codes "tries") x ≡ h → (g : Bool) → bytes_eq (codes "omit-fixed") x ≡ g
-        → (k : Bool) → bytes_eq (codes "from") x ≡ k → ByLong x
-    by true p b q d r e s h u g t k v = subst ByLong (same (codes "grid") x p) refl
-    by false p true q d r e s h u g t k v = subst ByLong (same (codes "workers") x q) refl
-    by false p false q true r e s h u g t k v = subst ByLong (same (codes "passes") x r) refl
-    by false p false q false r true s h u g t k v = subst ByLong (same (codes "via-cost") x s) refl
-    by false p false q false r false s true u g t k v = subst ByLong (same (codes "tries") x u) refl
-    by false p false q false r false s false u true t k v = subst ByLong (same (codes "omit-fixed") x t) refl
-    by false p false q false r false s false u false t true v = subst ByLong (same (codes "from") x v) refl
-    by false p false q false r false s false u false t false v = rw (p, q, r, s, u, t, v) refl
+        → (k : Bool) → bytes_eq (codes "from") x ≡ k → (l : Bool) → bytes_eq (codes "diagonal") x ≡ l → ByLong x
+    by true p b q d r e s h u g t k v l z = subst ByLong (same (codes "grid") x p) refl
+    by false p true q d r e s h u g t k v l z = subst ByLong (same (codes "workers") x q) refl
+    by false p false q true r e s h u g t k v l z = subst ByLong (same (codes "passes") x r) refl
+    by false p false q false r true s h u g t k v l z = subst ByLong (same (codes "via-cost") x s) refl
+    by false p false q false r false s true u g t k v l z = subst ByLong (same (codes "tries") x u) refl
+    by false p false q false r false s false u true t k v l z = subst ByLong (same (codes "omit-fixed") x t) refl
+    by false p false q false r false s false u false t true v l z = subst ByLong (same (codes "from") x v) refl
+    by false p false q false r false s false u false t false v true z = subst ByLong (same (codes "diagonal") x z) refl
+    by false p false q false r false s false u false t false v false z = rw (p, q, r, s, u, t, v, z) refl
 
 abbrev ById : Word → Type 0
 ById x = has route_form.valued x ≡ true → arg_by_id route_rules x ≡ Some (V x)
@@ -100,26 +101,28 @@ Both t = Apart (codes "input") t × Apart (codes "output") t
 apart_from : (x : Word) → ours route_form x ≡ true → Both x
 apart_from x mine = by (bytes_eq (codes "grid") x) refl (bytes_eq (codes "workers") x) refl
     (bytes_eq (codes "passes") x) refl (bytes_eq (codes "via-cost") x) refl (bytes_eq (codes "tries") x) refl
-    (bytes_eq (codes "omit-fixed") x) refl (bytes_eq (codes "from") x) refl
+    (bytes_eq (codes "omit-fixed") x) refl (bytes_eq (codes "from") x) refl (bytes_eq (codes "diagonal") x) refl
   where
     by : (a : Bool) → bytes_eq (codes "grid") x ≡ a → (b : Bool) → bytes_eq (codes "workers") x ≡ b → (d : Bool)
         → bytes_eq (codes "passes") x ≡ d → (e : Bool) → bytes_eq (codes "via-cost") x ≡ e
         → (h : Bool) → bytes_eq (codes "tries") x ≡ h
         → (g : Bool) → bytes_eq (codes "omit-fixed") x ≡ g
-        → (k : Bool) → bytes_eq (codes "from") x ≡ k → Both x
-    by true p b q d r e s h u g t k v = subst Both (same (codes "grid") x p) ((refl, refl), (refl, refl))
-    by false p true q d r e s h u g t k v = subst Both (same (codes "workers") x q) ((refl, refl), (refl, refl))
-    by false p false q true r e s h u g t k v = subst Both (same (codes "passes") x r) ((refl, refl), (refl, refl))
-    by false p false q false r true s h u g t k v =
+        → (k : Bool) → bytes_eq (codes "from") x ≡ k → (l : Bool) → bytes_eq (codes "diagonal") x ≡ l → Both x
+    by true p b q d r e s h u g t k v l z = subst Both (same (codes "grid") x p) ((refl, refl), (refl, refl))
+    by false p true q d r e s h u g t k v l z = subst Both (same (codes "workers") x q) ((refl, refl), (refl, refl))
+    by false p false q true r e s h u g t k v l z = subst Both (same (codes "passes") x r) ((refl, refl), (refl, refl))
+    by false p false q false r true s h u g t k v l z =
         subst Both (same (codes "via-cost") x s) ((refl, refl), (refl, refl))
-    by false p false q false r false s true u g t k v =
+    by false p false q false r false s true u g t k v l z =
         subst Both (same (codes "tries") x u) ((refl, refl), (refl, refl))
-    by false p false q false r false s false u true t k v =
+    by false p false q false r false s false u true t k v l z =
         subst Both (same (codes "omit-fixed") x t) ((refl, refl), (refl, refl))
-    by false p false q false r false s false u false t true v =
+    by false p false q false r false s false u false t true v l z =
         subst Both (same (codes "from") x v) ((refl, refl), (refl, refl))
-    by false p false q false r false s false u false t false v =
-        absurd (true≢false (sym mine ∙ rw (p, q, r, s, u, t, v) refl))
+    by false p false q false r false s false u false t false v true z =
+        subst Both (same (codes "diagonal") x z) ((refl, refl), (refl, refl))
+    by false p false q false r false s false u false t false v false z =
+        absurd (true≢false (sym mine ∙ rw (p, q, r, s, u, t, v, z) refl))
 
 apart : (m : ℕ) → nat_lt m 2 ≡ true → (x : Word) → ours route_form x ≡ true → (bytes_eq x (name_id m) ≡ false)
     × (bytes_eq (name_id m) x ≡ false)
@@ -155,11 +158,18 @@ rule_at n = get_or route_rules n (new_rule [])
 pub default_passes : (rows : List Row) (a : Rule) → a.defaults ≡ [] → default_fault rows a ≡ []
 default_passes rows a none = rw (none, or_true (has_row a.id rows)) refl
 
--- the flag's default passes
-flag_passes : (rows : List Row) → default_fault rows (rule_at 7) ≡ []
-flag_passes rows = by (has_row (rule_at 7).id rows) refl
+-- a flag's default passes
+omits_pass : (rows : List Row) → default_fault rows (rule_at 7) ≡ []
+omits_pass rows = by (has_row (rule_at 7).id rows) refl
   where
     by : (b : Bool) → has_row (rule_at 7).id rows ≡ b → default_fault rows (rule_at 7) ≡ []
+    by true e = rw e refl
+    by false e = rw e refl
+
+slants_pass : (rows : List Row) → default_fault rows (rule_at 9) ≡ []
+slants_pass rows = by (has_row (rule_at 9).id rows) refl
+  where
+    by : (b : Bool) → has_row (rule_at 9).id rows ≡ b → default_fault rows (rule_at 9) ≡ []
     by true e = rw e refl
     by false e = rw e refl
 
@@ -174,8 +184,9 @@ defaults_pass rows =
       default_passes _ (rule_at 4) refl,
       default_passes _ (rule_at 5) refl,
       default_passes _ (rule_at 6) refl,
-      flag_passes _,
+      omits_pass _,
       default_passes _ (rule_at 8) refl,
+      slants_pass _,
     ) refl
 
 pub route_passes : PassesAfter route_rules
@@ -185,8 +196,12 @@ route_passes = record { defaults = defaults_pass; checks = checks_pass }
     checks_pass rows true = refl
     checks_pass rows false = refl
 
--- the flag alone has a default
-pub route_defaults : (rows : List Row) → fold with_default rows route_rules ≡ with_default rows (rule_at 7)
+-- the rows with the defaults of both flags
+abbrev pub with_flags : List Row → List Row
+with_flags rows = with_default (with_default rows (rule_at 7)) (rule_at 9)
+
+-- flags alone have defaults
+pub route_defaults : (rows : List Row) → fold with_default rows route_rules ≡ with_flags rows
 route_defaults rows =
     rw (
       no_default rows (rule_at 0) refl,
@@ -199,24 +214,25 @@ route_defaults rows =
       no_default (with_default rows (rule_at 7)) (rule_at 8) refl,
     ) refl
 
-abbrev IsOther : Word → Type 0
-IsOther t = bytes_eq (codes "omit-fixed") t ≡ false
+-- the word is none of the flags
+abbrev pub IsNoFlag : Word → Type 0
+IsNoFlag t = (bytes_eq (codes "omit-fixed") t ≡ false) × (bytes_eq (codes "diagonal") t ≡ false)
 
--- the flag is no option with a value
-pub flag_apart : (x : Word) → has route_form.valued x ≡ true → IsOther x
+-- no flag is an option with a value
+pub flag_apart : (x : Word) → has route_form.valued x ≡ true → IsNoFlag x
 flag_apart x known = by (bytes_eq (codes "grid") x) refl (bytes_eq (codes "workers") x) refl
     (bytes_eq (codes "passes") x) refl
     (bytes_eq (codes "via-cost") x) refl (bytes_eq (codes "tries") x) refl (bytes_eq (codes "from") x) refl
   where
     by : (a : Bool) → bytes_eq (codes "grid") x ≡ a → (b : Bool) → bytes_eq (codes "workers") x ≡ b
         → (d : Bool) → bytes_eq (codes "passes") x ≡ d → (e : Bool) → bytes_eq (codes "via-cost") x ≡ e
-        → (h : Bool) → bytes_eq (codes "tries") x ≡ h → (k : Bool) → bytes_eq (codes "from") x ≡ k → IsOther x
-    by true p b q d r e s h u k v = subst IsOther (same (codes "grid") x p) refl
-    by false p true q d r e s h u k v = subst IsOther (same (codes "workers") x q) refl
-    by false p false q true r e s h u k v = subst IsOther (same (codes "passes") x r) refl
-    by false p false q false r true s h u k v = subst IsOther (same (codes "via-cost") x s) refl
-    by false p false q false r false s true u k v = subst IsOther (same (codes "tries") x u) refl
-    by false p false q false r false s false u true v = subst IsOther (same (codes "from") x v) refl
+        → (h : Bool) → bytes_eq (codes "tries") x ≡ h → (k : Bool) → bytes_eq (codes "from") x ≡ k → IsNoFlag x
+    by true p b q d r e s h u k v = subst IsNoFlag (same (codes "grid") x p) (refl, refl)
+    by false p true q d r e s h u k v = subst IsNoFlag (same (codes "workers") x q) (refl, refl)
+    by false p false q true r e s h u k v = subst IsNoFlag (same (codes "passes") x r) (refl, refl)
+    by false p false q false r true s h u k v = subst IsNoFlag (same (codes "via-cost") x s) (refl, refl)
+    by false p false q false r false s true u k v = subst IsNoFlag (same (codes "tries") x u) (refl, refl)
+    by false p false q false r false s false u true v = subst IsNoFlag (same (codes "from") x v) (refl, refl)
     by false p false q false r false s false u false v =
         absurd (true≢false (sym known ∙ rw (p, q, r, s, u, v) refl))
 

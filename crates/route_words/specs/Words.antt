@@ -77,24 +77,26 @@ is_given_empty None = false
 is_given_empty (Some word) = is_empty word
 
 -- exactly two names and, where one is given, that of an earlier session, none of them empty; and knobs
-abbrev pub route_with : List Word → Option Word → Option Knobs → Result Command WordFault
-route_with (input ∷ output ∷ []) from (Some knobs) =
+abbrev pub route_with : List Word → Option Word → Bool → Option Knobs → Result Command WordFault
+route_with (input ∷ output ∷ []) from diagonal (Some knobs) =
     if is_empty input || is_empty output || is_given_empty from then Err Usage
-    else Ok (Route input output from knobs)
-route_with names from knobs = Err Usage
+    else Ok (Route input output from diagonal knobs)
+route_with names from diagonal knobs = Err Usage
 
 abbrev pub route_form : Form
 route_form = record {
   names = 2;
   valued = codes "grid" ∷ codes "workers" ∷ codes "passes" ∷ codes "via-cost" ∷ codes "tries" ∷ codes "from" ∷ [];
-  flags = codes "omit-fixed" ∷ [];
+  flags = codes "omit-fixed" ∷ codes "diagonal" ∷ [];
 }
 
 -- what the words behind `route` ask for
 abbrev pub route_of : List Word → Result Command WordFault
 route_of words =
     let parts = parts_of route_form words in
-    if fit route_form parts then route_with (names_in parts) (value_in (codes "from") parts) (knobs_of parts)
+    if fit route_form parts
+    then route_with (names_in parts) (value_in (codes "from") parts) (is_some (value_in (codes "diagonal") parts))
+    (knobs_of parts)
     else Err Usage
 
 -- ---- check
@@ -165,7 +167,7 @@ pub record AreWithin (knobs : Knobs) : Type 0 where
 
 -- names that aren't empty, and numbers in their ranges
 abbrev pub IsWithin : Command → Type 0
-IsWithin (Route input output from knobs) =
+IsWithin (Route input output from diagonal knobs) =
     (0 < length input) × (0 < length output) × IfSome from (λ name. 0 < length name) × AreWithin knobs
 IsWithin (Check input session report) = (0 < length input) × (0 < length session) × (0 < length report)
 IsWithin (Gen n) = (1 ≤ n) × (n ≤ LAST_BOARD)

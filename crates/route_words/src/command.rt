@@ -26,11 +26,13 @@ pub struct Knobs {
 #[derive(Drop)]
 pub enum Command {
     /// Route the design in the file `input`, and write the session into the file `output`. Where the file `from` is
-    /// named, the design's wiring is that of the earlier session in it. No name is empty.
+    /// named, the design's wiring is that of the earlier session in it. No name is empty. With `diagonal` the closing
+    /// pass joins what legal moves leave open by moves at 45 degrees.
     Route {
         input: Text,
         output: Text,
         from: Option<Text>,
+        diagonal: bool,
         knobs: Knobs,
     },
     /// Judge the session in the file `session` and the report in the file `report` by the design in the file `input`.

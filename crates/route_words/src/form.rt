@@ -74,7 +74,8 @@ fn push_route<'a>(alloc: Global, args: &mut Vec<Arg<'a>>) -> Result<(), AllocErr
     push_valued(alloc, args, "via-cost")?;
     push_valued(alloc, args, "tries")?;
     push_flag(alloc, args, "omit-fixed")?;
-    push_valued(alloc, args, "from")
+    push_valued(alloc, args, "from")?;
+    push_flag(alloc, args, "diagonal")
 }
 
 // The arguments of the words after `check`.

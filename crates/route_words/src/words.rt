@@ -20,7 +20,7 @@ use std::alloc::{AllocError, Global};
 /// How the program is called: its words, with the ranges and defaults of the options.
 pub const USAGE: &str = "\
 dsnroute route IN OUT [--grid UM] [--workers N] [--passes N] [--via-cost UM] [--tries T] [--omit-fixed]
-               [--from OLD]
+               [--from OLD] [--diagonal]
 dsnroute check IN SES REPORT
 dsnroute gen N
   --grid UM      1 to 100000 um; without it, the grid that the design asks for
@@ -30,6 +30,7 @@ dsnroute gen N
   --tries T      0 to 1000; 16 without it
   --omit-fixed   leave the fixed wiring out of the session
   --from OLD     start from the wiring of the earlier session OLD in the place of the design's
+  --diagonal     join what stays open by tracks at 45 degrees too
   check          judge a session and its report by the design
   gen N          the generated board number N, 1 to 400
   --             each word after it is a name
@@ -81,10 +82,11 @@ fn route_with(
     input: &str,
     output: &str,
     from: Option<&str>,
+    diagonal: bool,
     knobs: Knobs,
 ) -> Result<Command, WordFault>
-    ensures { Says (route_with (input.now ∷ output.now ∷ []) (option_map (λ w. w.now) from.entry) (Some knobs))
-        result }
+    ensures { Says (route_with (input.now ∷ output.now ∷ []) (option_map (λ w. w.now) from.entry) diagonal
+        (Some knobs)) result }
 {
     if input.is_empty() || output.is_empty() || is_given_empty(from) {
         return Err(WordFault::Usage);
@@ -96,6 +98,7 @@ fn route_with(
         input,
         output,
         from,
+        diagonal,
         knobs,
     })
 }
@@ -114,7 +117,9 @@ fn route_found(alloc: Global, found: &ArgMatches) -> Result<Command, WordFault>
     let Some(knobs) = knobs_found(found) else {
         return Err(WordFault::Usage);
     };
-    route_with(alloc, input, output, found.get_str("from"), knobs)
+    let from = found.get_str("from");
+    let diagonal = is_on(found.get_str("diagonal"));
+    route_with(alloc, input, output, from, diagonal, knobs)
 }
 
 fn read_route(alloc: Global, words: &[String]) -> Result<Command, WordFault>

@@ -1,5 +1,5 @@
 -- The routed copper of a board of least joins is on scale.
-use Rattle.std.proofs.Common.{◌≡◌, ℕ, ◌≤◌, Some, None, take}
+use Rattle.std.proofs.Common.{◌≡◌, ℕ, ◌≤◌, Bool, Some, None, take}
 use Rattle.std.specs.Prelude.{slice_get}
 use Rattle.board_offers.specs.declared.offer.Offer.{Offer}
 use Rattle.pcb_model.specs.Scale.{scale_of}
@@ -14,9 +14,10 @@ use Rattle.session_law.specs.Told.{IsOnScale}
 use Rattle.session_law.proofs.ScaleLines.{lattice_whole}
 use Rattle.session_law.proofs.ToldDesigns.{IsWholeMetal, on_scale}
 use Rattle.session_law.proofs.ScaleGiven.{loaded}
-use Rattle.session_law.proofs.ScaleEntries.{IsWholeEntry, IsWholePast, each_whole, offer_whole}
+use Rattle.session_law.proofs.ScaleEntries.{IsWholeEntry, IsWholePast, each_whole, join_whole}
 
-module _ (grid via_cost : ℕ) (b : BoardOf) (board : IsBoard b) (least : AreLeast (lattice_of b.design grid) via_cost b)
+module _ (grid via_cost : ℕ) (diagonal : Bool) (b : BoardOf) (board : IsBoard b)
+    (least : AreLeast diagonal (lattice_of b.design grid) via_cost b)
     (takes : (k : ℕ) (o : Offer) (first after : ℕ) → slice_get b.history k ≡ Some (Join o first after)
     → o.penalty ≡ None → TakesOne (lattice_of b.design grid) (board_at b o.base) o) where
   -- the unit of the session
@@ -29,8 +30,8 @@ module _ (grid via_cost : ℕ) (b : BoardOf) (board : IsBoard b) (least : AreLea
       → IsWholeEntry b.design nm e
   entry_whole k (Join o first after) at before =
       let l = least.each k o first after at in
-      offer_whole nm (lattice_of b.design grid) via_cost b (lattice_whole b.design grid) (on_scale b.design) o l.1
-      (takes k o first after at) (before o.base l.0).items_whole
+      join_whole nm (lattice_of b.design grid) via_cost b (lattice_whole b.design grid) (on_scale b.design) diagonal o
+      l.1 (takes k o first after at) (before o.base l.0).items_whole
   entry_whole k (Back to) at before = tt
 
   -- after each number of entries

@@ -1,7 +1,7 @@
 -- Whatever least joins give and put on a board is whole, entry by entry.
 use Rattle.std.proofs.Common.{◌≡◌, inl, inr, ℕ, zero, suc, ◌+◌, ◌≤◌, List, [], ◌∷◌, Option, Some, None, take, sym, ap}
 use Rattle.std.proofs.Common.{◌∙◌, refl, subst, arith}
-use Rattle.std.specs.Prelude.{All, not, slice_get, slice_index_or}
+use Rattle.std.specs.Prelude.{All, Bool, false, not, slice_get, slice_index_or, true}
 use Rattle.std.specs.List.{AllZip}
 use Rattle.std.specs.Option.{option_map_or}
 use Rattle.std.proofs.lemmas.Bool.{cases_lt}
@@ -25,9 +25,10 @@ use Rattle.pcb_board.specs.declared.answer.Entry.{Entry}
 use Rattle.pcb_board.specs.declared.answer.Entry.TheVariants.{Join, Back}
 use Rattle.pcb_board.specs.Boards.{BoardOf, Past, opening, next, past, replayed, board_at, given}
 use Rattle.pcb_board.proofs.Past.{past_more, taken_one}
-use Rattle.least_offer.specs.Least.{IsLeastOffer, Chooses, IsShoveOf}
+use Rattle.least_offer.specs.Least.{IsLeastOffer, IsWideOffer, Chooses, IsShoveOf}
 use Rattle.least_offer.proofs.Replacing.{zip_right}
 use Rattle.closing_pass.specs.Settled.{MovesAside, TakesOne}
+use Rattle.route_run.specs.Runs.{MayJoin}
 use Rattle.session_law.proofs.ScaleLines.{HasWholeLines, at_or}
 use Rattle.session_law.proofs.ToldDesigns.{IsWholeDesign, IsWholeMetal}
 use Rattle.session_law.proofs.ScaleCopper.{IsWholeChain, points_of, rechained, copper_whole, chain_whole}
@@ -181,7 +182,7 @@ module _ (nm : ℕ) (m : Mesh) (via_cost : ℕ) (b : BoardOf) (lines : HasWholeL
       (All-nil (λ (s : Shoved). IsWholeChain nm s.chain)))
 
   -- a least offer for a board of whole items
-  pub offer_whole : (o : Offer) → IsLeastOffer m via_cost (board_at b o.base) o
+  offer_whole : (o : Offer) → IsLeastOffer m via_cost (board_at b o.base) o
       → (o.penalty ≡ None → TakesOne m (board_at b o.base) o) → All (IsWholeItem b.design nm) (replayed b o.base)
       → IsWholeOffer b.design nm o
   offer_whole o least takes all =
@@ -208,3 +209,23 @@ module _ (nm : ℕ) (m : Mesh) (via_cost : ℕ) (b : BoardOf) (lines : HasWholeL
             all shoves.shoves_are
         | inr rips ↦ all_of_none (λ (s : Shoved). IsWholeChain nm s.chain) o.shoves rips.no_shove
       ]
+
+  -- one by moves at 45 degrees
+  wide_whole : (o : Offer) → IsWideOffer m via_cost (board_at b o.base) o → IsWholeOffer b.design nm o
+  wide_whole o wide =
+      let l = wide.laid in
+      let j = l.joins in
+      let net = has_net b.design (replayed b o.base) o.net l.found l.place l.island l.islands l.island_is in
+      record {
+        add_whole = subst (All (IsWholeMetal nm)) (sym j.add_is)
+            (copper_whole nm m lines b.design o.net j.walk.nodes j.walk.moves (whole.widths o.net net.one net.there));
+        chains_whole = all_of_none (λ (s : Shoved). IsWholeChain nm s.chain) o.shoves wide.takes.no_shove;
+      }
+
+  -- one of both
+  pub join_whole : (diagonal : Bool) (o : Offer) → MayJoin diagonal m via_cost (board_at b o.base) o
+      → (o.penalty ≡ None → TakesOne m (board_at b o.base) o) → All (IsWholeItem b.design nm) (replayed b o.base)
+      → IsWholeOffer b.design nm o
+  join_whole false o least takes all = offer_whole o least takes all
+  join_whole true o (inl least) takes all = offer_whole o least takes all
+  join_whole true o (inr wide) takes all = wide_whole o wide

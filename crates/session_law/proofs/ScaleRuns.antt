@@ -14,11 +14,12 @@ use Rattle.board_offers.specs.declared.offer.Offer.{Offer}
 use Rattle.pcb_board.specs.declared.answer.Entry.{Entry}
 use Rattle.pcb_board.specs.declared.answer.Entry.TheVariants.{Join, Back}
 use Rattle.pcb_board.specs.Boards.{BoardOf, board_at, replayed}
-use Rattle.least_offer.specs.Least.{Chooses}
+use Rattle.least_offer.specs.Least.{Chooses, IsLeastOffer}
 use Rattle.closing_pass.specs.Settled.{TakesOne}
 use Rattle.route_run.specs.declared.facts.PassLine.{PassLine}
 use Rattle.route_run.specs.declared.facts.Facts.{Facts}
-use Rattle.route_run.specs.Runs.{RunOf, IsRun, AreLeast, ClosesFrom, entries_after}
+use Rattle.route_run.specs.Runs.{RunOf, IsRun, AreLeast, ClosesFrom, MayJoin, entries_after}
+use Rattle.route_run.proofs.Rounds.{closing_takes}
 use Rattle.session_law.specs.Told.{IsOnScale}
 use Rattle.session_law.proofs.ScaleBoards.{board_on_scale}
 
@@ -26,6 +27,17 @@ use Rattle.session_law.proofs.ScaleBoards.{board_on_scale}
 abbrev is_join : Entry → Bool
 is_join (Join o first after) = true
 is_join (Back to) = false
+
+-- a worker's offer without a penalty takes nothing out
+least_none : (m : Mesh) (via_cost : ℕ) (b : BoardOf) (o : Offer) → IsLeastOffer m via_cost b o → o.penalty ≡ None
+    → o.worker < 16 → TakesOne m b o
+least_none m via_cost b o least none worker = inl (subst (Chooses m b o) none least.chooses worker)
+
+takes_none : (diagonal : Bool) (m : Mesh) (via_cost : ℕ) (b : BoardOf) (o : Offer) → MayJoin diagonal m via_cost b o
+    → o.penalty ≡ None → o.worker < 16 → TakesOne m b o
+takes_none false m via_cost b o least none worker = least_none m via_cost b o least none worker
+takes_none true m via_cost b o (inl least) none worker = least_none m via_cost b o least none worker
+takes_none true m via_cost b o (inr wide) none worker = inl wide.takes
 
 module _ (d : Design) (m : Mesh) (r : RunOf) (b : BoardOf) (facts : Facts) (few : r.workers ≤ 16)
     (run : IsRun d m r b facts) where
@@ -64,7 +76,8 @@ module _ (d : Design) (m : Mesh) (r : RunOf) (b : BoardOf) (facts : Facts) (few 
   in_closing k o first after late at =
       let long : length (take run.from b.history) ≡ run.from =
       length-take-le run.from b.history (omega (arith, run.facts_are.joins_are)) in
-      ((run.closing.least k (omega (arith, long, late))).each o first after at).2
+      closing_takes r.diagonal m r.via_cost (board_at b run.from) b run.closing k (omega (arith, long, late)) o first
+      after at
 
   -- a join behind the passes is one of the closing pass
   behind_passes : (k : ℕ) (o : Offer) (first after : ℕ) → end ≤ k
@@ -84,8 +97,8 @@ module _ (d : Design) (m : Mesh) (r : RunOf) (b : BoardOf) (facts : Facts) (few 
       → o.penalty ≡ None → TakesOne m (board_at b o.base) o
   run_takes k o first after at none = elim (cases_lt k end) [
     | inl early ↦
-        let chooses = subst (Chooses m (board_at b o.base) o) none (run.least.each k o first after at).1.chooses in
-        inl (chooses (omega (arith, few, in_passes (length lines) (omega arith) k o first after early at)))
+        takes_none r.diagonal m r.via_cost (board_at b o.base) o (run.least.each k o first after at).1 none
+        (omega (arith, few, in_passes (length lines) (omega arith) k o first after early at))
     | inr late ↦ in_closing k o first after (behind_passes k o first after late at run.closes_from) at
   ]
 
@@ -94,7 +107,7 @@ pub run_on_scale : (d : Design) (grid : ℕ) (r : RunOf) (b : BoardOf) (facts : 
     → IsRun d (lattice_of d grid) r b facts → (n : ℕ) → IsOnScale (scale_of d).nm (replayed b n)
 run_on_scale d grid r b facts few run n =
     subst (λ (x : Design). IsOnScale (scale_of x).nm (replayed b n)) run.design_is
-    (board_on_scale grid r.via_cost b run.board
-    (subst (λ (x : Design). AreLeast (lattice_of x grid) r.via_cost b) (sym run.design_is) run.least)
+    (board_on_scale grid r.via_cost r.diagonal b run.board
+    (subst (λ (x : Design). AreLeast r.diagonal (lattice_of x grid) r.via_cost b) (sym run.design_is) run.least)
     (λ k o first after at none. subst (λ (x : Design). TakesOne (lattice_of x grid) (board_at b o.base) o)
     (sym run.design_is) (run_takes d (lattice_of d grid) r b facts few run k o first after at none)) n)

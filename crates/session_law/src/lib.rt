@@ -55,10 +55,12 @@ pub fn sessions_tell_boards()
 
 // ---- on scale
 
-/// Where each join of a board was a least offer on the design's lattice, and those without a penalty take out or move
-/// aside at most one item, the routed copper is on the scale of its session after each number of entries.
+/// Where each join of a board was a least offer on the design's lattice, or one by moves at 45 degrees where they are
+/// asked for, and those without a penalty take out or move aside at most one item, the routed copper is on the scale of
+/// its session after each number of entries.
 pub fn least_joins_are_on_scale()
-    ensures { (grid via_cost : ℕ) (b : BoardOf) → IsBoard b → AreLeast (lattice_of b.design grid) via_cost b
+    ensures { (grid via_cost : ℕ) (diagonal : Bool) (b : BoardOf) → IsBoard b
+        → AreLeast diagonal (lattice_of b.design grid) via_cost b
         → ((k : ℕ) (o : OneOffer) (first after : ℕ) → slice_get b.history k ≡ Some (Join o first after)
         → o.penalty ≡ None → TakesOne (lattice_of b.design grid) (board_at b o.base) o)
         → (n : ℕ) → n ≤ length b.history → IsOnScale (scale_of b.design).nm (replayed b n) }

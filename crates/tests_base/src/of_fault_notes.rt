@@ -224,7 +224,7 @@ fn tells_checks_by_number(rt: HostRuntime) {
 // ---- wrong words
 
 /// Words with a bar between each two, and the first line that is said of them.
-static WRONG_WORDS: [(&str, &str); 27] = [
+static WRONG_WORDS: [(&str, &str); 28] = [
     ("draw", "draw: there is no such command"),
     ("route|t.dsn", "a name is missing"),
     ("route|a|", "a name is empty"),
@@ -272,6 +272,10 @@ static WRONG_WORDS: [(&str, &str); 27] = [
     (
         "route|a|b|--omit-fixed=yes",
         "--omit-fixed=yes: the option takes no value",
+    ),
+    (
+        "route|a|b|--diagonal=yes",
+        "--diagonal=yes: the option takes no value",
     ),
     (
         "route|a|b|--from",

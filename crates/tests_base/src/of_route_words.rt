@@ -37,6 +37,7 @@ fn routes(alloc: Global, line: &str, input: &str, output: &str, knobs: Knobs) ->
                 input: design,
                 output: session,
                 from: None,
+                diagonal: false,
                 knobs: given,
             },
         ) => design.as_str() == input && session.as_str() == output && given == knobs,
@@ -52,6 +53,22 @@ fn is_name(name: &Option<Text>, wanted: &str) -> bool {
     }
 }
 
+/// Whether the words of a line ask to route the file a into the file b with moves at 45 degrees, from no session.
+fn slants(alloc: Global, line: &str) -> bool {
+    match read(alloc, line) {
+        Ok(
+            Command::Route {
+                input,
+                output,
+                from: None,
+                diagonal: true,
+                knobs: _,
+            },
+        ) => input.as_str() == "a" && output.as_str() == "b",
+        _ => false,
+    }
+}
+
 /// Whether the words of a line ask to route the file a into the file b from this earlier session.
 fn starts(alloc: Global, line: &str, old: &str) -> bool {
     match read(alloc, line) {
@@ -60,6 +77,7 @@ fn starts(alloc: Global, line: &str, old: &str) -> bool {
                 input,
                 output,
                 from,
+                diagonal: _,
                 knobs: _,
             },
         ) => input.as_str() == "a" && output.as_str() == "b" && is_name(&from, old),
@@ -179,6 +197,14 @@ fn reads_numbers_of_boards(rt: HostRuntime) {
 }
 
 #[test]
+fn reads_whether_moves_at_45_degrees_are_asked_for(rt: HostRuntime) {
+    for &line in &["route|a|b|--diagonal", "route|--diagonal|a|--grid|5|b"] {
+        assert!(rt; slants(rt.alloc(), line), "{line}");
+    }
+    assert!(rt; !slants(rt.alloc(), "route|a|b|--omit-fixed"));
+}
+
+#[test]
 fn refuses_commands(rt: HostRuntime) {
     assert!(rt; matches!(read_words(rt.alloc(), &[]), Err(WordFault::NoCommand)));
     for &command in &["draw", "", "--", "Route", "checks", "--grid"] {
@@ -218,6 +244,10 @@ route|a|b|--from|
 route|a|b|--from|-x
 route|a|b|--from|--|c
 route|a|b|--from=c|--from=c
+route|a|b|--diagonal=yes
+route|a|b|--diagonal=
+route|a|b|--diagonal|--diagonal
+route|a|b|--diagonals
 route|a|b|--grids=5
 route|a|b|--gri=5
 route|a|b|--help
@@ -231,6 +261,7 @@ check|a||c
 check|a|b|c|d
 check|a|b|c|--grid=5
 check|a|b|c|--omit-fixed
+check|a|b|c|--diagonal
 check|a|b|c|--help
 check|a|b|-c
 gen|0
@@ -245,7 +276,8 @@ gen|--help
 gen|-
 gen
 gen|1|2
-gen|1|--grid=5";
+gen|1|--grid=5
+gen|1|--diagonal";
 
 #[test]
 fn refuses_uses_of_commands(rt: HostRuntime) {

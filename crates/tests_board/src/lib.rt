@@ -5,10 +5,10 @@
 //! lattices, searches over moves, islands and a walk's copper. And of offers to them and of plans: what is answered,
 //! what stands afterwards, what passes of a turn see of one another's offers, what a plan offers and takes out for it,
 //! and what moves past copper cost.
-//! Worked examples of the top call, over desks and sinks in memory, settled moves among them; what it
-//! answers where a session or a report is changed; and workers side by side, in passes and in the top call: gates hold
-//! them until others have come, so a body that lets them work one after another fails. They stand over public calls in
-//! a crate of their own, so that the crates below are proved without them.
+//! Worked examples of the top call, over desks and sinks in memory, with settled moves, moves at 45 degrees and several
+//! starts; what it answers where a session or a report is changed; and workers side by side, in passes and in the top
+//! call: gates hold them until others have come, so a body that lets them work one after another fails. They stand over
+//! public calls in a crate of their own, so that the crates below are proved without them.
 #![tactic(auto)]
 
 #[cfg(test)]
@@ -75,5 +75,9 @@ mod searches;
 mod sessions;
 #[cfg(test)]
 mod settled;
+#[cfg(test)]
+mod slants;
+#[cfg(test)]
+mod starts;
 #[cfg(test)]
 mod turns;

@@ -5,8 +5,8 @@
 use crate::calls::{Wanted, called_over};
 use crate::designs::{ON_FRONT, TWO_LAYERS, swapped};
 use crate::of_routes::{
-    ALL_COMPLETE, FACING, FIXED, JOINED, ONE_NET, PAIR_SESSION, PARTED, SESSION, SESSION_END,
-    THREE_NETS, WALL,
+    ALL_COMPLETE, FACING, FIXED, JOINED, LEFT_PART, NONE_COMPLETE, ONE_NET, PAIR_SESSION,
+    RIGHT_PART, SESSION, SESSION_END, THREE_NETS, WALL,
 };
 use board_turn::NoGate;
 use dsn_route::Status;
@@ -49,7 +49,22 @@ const FRONT_PADS: Texts = Texts {
 const PARTED_PADS: Texts = Texts {
     design: &[WALL],
     session: &[PAIR_SESSION, SESSION_END],
-    report: &[ONE_NET, PARTED],
+    report: &[ONE_NET, LEFT_PART, RIGHT_PART, NONE_COMPLETE],
+    told: &[],
+};
+
+/// The same, where each cut tells how many nodes moves at 45 degrees reach.
+const WIDELY_PARTED: Texts = Texts {
+    design: &[WALL],
+    session: &[PAIR_SESSION, SESSION_END],
+    report: &[
+        ONE_NET,
+        LEFT_PART,
+        "wide 72\n",
+        RIGHT_PART,
+        "wide 72\n",
+        NONE_COMPLETE,
+    ],
     told: &[],
 };
 
@@ -66,7 +81,7 @@ const FIXED_WIRES: Texts = Texts {
 /// What is shown, the texts, edits of the session and of the report, how the call ends, and what it puts.
 struct Checked(&'static str, Texts, Edits, Edits, Status, &'static str);
 
-static CHECKED: [Checked; 9] = [
+static CHECKED: [Checked; 14] = [
     Checked(
         "the wire between two pads",
         FRONT_PADS,
@@ -130,6 +145,46 @@ static CHECKED: [Checked; 9] = [
         &[("run 0 8 0 3\n", "")],
         Status::Rejected,
         "check 7 at 0\n",
+    ),
+    Checked(
+        "each cut tells how far moves at 45 degrees reach",
+        WIDELY_PARTED,
+        &[],
+        &[],
+        Status::Complete,
+        "check ok\n",
+    ),
+    Checked(
+        "that number isn't judged",
+        WIDELY_PARTED,
+        &[],
+        &[("wide 72\ncut", "wide 5\ncut")],
+        Status::Complete,
+        "check ok\n",
+    ),
+    Checked(
+        "the second cut alone tells it",
+        WIDELY_PARTED,
+        &[],
+        &[("wide 72\ncut", "cut")],
+        Status::Rejected,
+        "check 2 at 50\n",
+    ),
+    Checked(
+        "the first cut alone tells it",
+        WIDELY_PARTED,
+        &[],
+        &[("wide 72\ncomplete", "complete")],
+        Status::Rejected,
+        "check 2 at 51\n",
+    ),
+    Checked(
+        "a cut tells it twice",
+        WIDELY_PARTED,
+        &[],
+        &[("wide 72\ncut", "wide 72\nwide 72\ncut")],
+        Status::Rejected,
+        "check 2 at 31\n",
     ),
     Checked(
         "fixed wiring is omitted",

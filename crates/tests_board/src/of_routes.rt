@@ -304,8 +304,8 @@ net A complete
 complete 1 open 0
 ";
 
-/// The rest of the report where a wall parts the two pins on all layers.
-pub(crate) const PARTED: &str = "pass 1 commits 0 open 1
+/// The rest of the report where a wall parts the two pins on all layers: up to the first cut, the second, and the end.
+pub(crate) const LEFT_PART: &str = "pass 1 commits 0 open 1
 kept 1
 joins 0
 net A open 2
@@ -329,7 +329,9 @@ run 1 5 0 3
 run 1 6 0 3
 run 1 7 0 3
 run 1 8 0 3
-cut \"C2-1\" reached 72 blocked 18
+";
+
+pub(crate) const RIGHT_PART: &str = "cut \"C2-1\" reached 72 blocked 18
 by area 1
 run 0 0 5 8
 run 0 1 5 8
@@ -349,7 +351,9 @@ run 1 5 5 8
 run 1 6 5 8
 run 1 7 5 8
 run 1 8 5 8
-complete 0 open 1
+";
+
+pub(crate) const NONE_COMPLETE: &str = "complete 0 open 1
 ";
 
 const WALL_ON_FRONT: (&str, &str) = (
@@ -519,7 +523,7 @@ static PAIRS: [Route; 10] = [
         ROUTE,
         Wanted {
             status: Status::SomeOpen,
-            report: &[ONE_NET, PARTED],
+            report: &[ONE_NET, LEFT_PART, RIGHT_PART, NONE_COMPLETE],
             session: Some(&[PAIR_SESSION, SESSION_END]),
             made: Some((0, 1)),
         },

@@ -134,6 +134,7 @@ fn facts<R: Abort>(rt: &R, alloc: Global, nodes: u32) -> Facts {
         joins: 1,
         complete: List::from_slice(alloc, &[0]).expect(rt, "no nets"),
         cuts: cuts(alloc).expect(rt, "no cuts"),
+        wide: None,
     }
 }
 

@@ -6,6 +6,7 @@ use Rattle.route_lattice.specs.Walks.{MoveGraph, IsWalk, NoneLeads, IsReach}
 use Rattle.cut_certificate.specs.declared.cut.Blocker.{Blocker}
 use Rattle.cut_certificate.specs.declared.cut.Block.{Block}
 use Rattle.cut_certificate.specs.declared.border.Border.{Border}
+use Rattle.cut_certificate.specs.Goals.{Meets}
 use Rattle.cut_certificate.specs.Border.{LeadsOut, AreInOrder, IsListed, IsBlock, AreBlocks}
 
 -- each move of the node that leads out is listed
@@ -38,6 +39,12 @@ pub record IsClosed (at : ℕ → ℕ → Option (Move × ℕ)) (arity : ℕ) (I
   where
     pub each : (node index : ℕ) → Contains nodes node → index < arity → LeadsOut at nodes node index → IsOpen node index
         → ⊥
+
+-- a goal among the nodes; or none, the nodes, and the moves that lead out of them
+abbrev pub IsBorder : (graph : MoveGraph) → (ℕ → ℕ → Blocker → Type 0) → List ℕ → List ℕ → Option Border → Type 0
+IsBorder graph ShutBy nodes goals None = Meets nodes goals
+IsBorder graph ShutBy nodes goals (Some b) = (Meets nodes goals → ⊥) × (b.reach.nodes ≡ nodes)
+    × AreBlocks graph.at graph.arity ShutBy nodes b.blocked
 
 -- a walk from a start to a goal; or none, all nodes that are reached, and the moves that lead out of them
 abbrev pub Closes : (graph : MoveGraph) → (ℕ → ℕ → Blocker → Type 0) → List ℕ → List ℕ → Option Border → Type 0

@@ -1,8 +1,9 @@
 -- What reading a part of a report gives.
-use Rattle.std.specs.Prelude.{◌≡◌, ◌<◌, ℕ, List, [], ◌∷◌, ◌++◌, length, map, slice_get, Option, Some, None}
+use Rattle.std.specs.Prelude.{◌≡◌, ◌<◌, ℕ, Bool, true, not, List, [], ◌∷◌, ◌++◌, length, map, slice_get, Option}
+use Rattle.std.specs.Prelude.{false, Some, None}
 use Rattle.pcb_model.specs.declared.item.Kind.{Kind}
 use Rattle.pcb_model.specs.declared.design.Net.{Net}
-use Rattle.report_form.specs.Form.{Told, NetTold, CutTold, PassTold, IsNumber, value}
+use Rattle.report_form.specs.Form.{Told, NetTold, CutTold, PassTold, IsNumber, cuts_in, tells_wide, value}
 use Rattle.report_form.specs.Reading.{IsCutKept, AreCutsKept, AreNetsKept, run_kept}
 use Rattle.report_form.specs.declared.reading.ReadRun.{ReadRun}
 use Rattle.report_form.specs.declared.reading.ReadCut.{ReadCut}
@@ -15,6 +16,7 @@ use Rattle.report_form.specs.declared.nets.NetLine.TheVariants.{Complete, Open}
 use Rattle.report_form.specs.inner.State.{Page, State, Sized, Gridded, Dropping, Passing, Joining, Netting}
 use Rattle.report_form.specs.inner.State.{Parts, Ended}
 use Rattle.report_form.specs.inner.State.{At, IsStopped, IsStuck, IsEarly, IsBetween, IsBeforeCut, PassStep}
+use Rattle.report_form.specs.inner.State.{MayTell, PartStep}
 use Rattle.report_form.specs.inner.State.{firsts_after, opened, gridded}
 use Rattle.report_form.specs.inner.Fields.{HasItem, HasOpened, HasWhole, OpenedAt}
 
@@ -105,6 +107,7 @@ pub record BlockersRead (p : Page) (h : Told) (ns : List NetTold) (islands : Lis
   pub cut : CutTold
   pub same : IsSameCut c cut
   pub no_run : cut.runs ≡ []
+  pub no_wide : cut.wide ≡ None
   pub at : At p (Parts h ns islands cs cut) rest
   pub head : IsHead 98 rest → ⊥
 
@@ -114,6 +117,7 @@ pub record OutsideRead (p : Page) (h : Told) (ns : List NetTold) (islands : List
   pub cut : CutTold
   pub same : IsSameCut c cut
   pub no_run : cut.runs ≡ []
+  pub no_wide : cut.wide ≡ None
   pub at : At p (Parts h ns islands cs cut) rest
   pub stuck : IsHead 98 rest → IsStuck p (Parts h ns islands cs cut) rest
 
@@ -122,6 +126,7 @@ pub record RunsRead (p : Page) (h : Told) (ns : List NetTold) (islands : List �
     (runs : List ReadRun) (rest : List ℕ) : Type 0 where
   pub cut : CutTold
   pub same : IsSameCut c cut
+  pub no_wide : cut.wide ≡ None
   pub runs_are : runs ≡ map run_kept cut.runs
   pub at : At p (Parts h ns islands cs cut) rest
   pub head : IsHead 98 rest → ⊥
@@ -140,38 +145,66 @@ pub record PartsAt (p : Page) (h : Told) (ns : List NetTold) (islands : List ℕ
   pub reached : x.cut.reached ≡ line.reached
   pub blocked : x.cut.blocked ≡ line.blocked
 
--- all lines of a cut
-pub record CutRead (p : Page) (h : Told) (ns : List NetTold) (islands : List ℕ) (cs : List CutTold) (k : ReadCut)
+-- all lines of a cut but the last one
+pub record MostRead (p : Page) (h : Told) (ns : List NetTold) (islands : List ℕ) (cs : List CutTold) (k : ReadCut)
     (rest : List ℕ) : Type 0 where
   pub cut : CutTold
   pub kept : IsCutKept (slice_get (firsts_after p.firsts ns) (length cs)) cut k
   pub at : At p (Parts h ns islands cs cut) rest
+  pub no_wide : cut.wide ≡ None
   pub no_blocker : IsHead 98 rest → ⊥
   pub no_run : IsHead 114 rest → ⊥
 
+-- all lines of a cut, and whether it tells how far moves at 45 degrees reach, which those before tell alike
+pub record CutRead (p : Page) (h : Told) (ns : List NetTold) (islands : List ℕ) (cs : List CutTold) (k : ReadCut)
+    (wide : Bool) (rest : List ℕ) : Type 0 where
+  pub cut : CutTold
+  pub kept : IsCutKept (slice_get (firsts_after p.firsts ns) (length cs)) cut k
+  pub at : At p (Parts h ns islands cs cut) rest
+  pub wide_is : tells_wide cut ≡ wide
+  pub may : MayTell wide ns cs
+  pub no_part : (l : List ℕ) (t : State) (r : List ℕ) → PartStep h ns islands cs cut l t → rest ≡ l ++ r → ⊥
+
+-- what the cuts so far tell of that: there is none; or all do or all don't
+pub record HaveTold (ns : List NetTold) (cs : List CutTold) (wide : Bool) : Type 0 where
+  pub some : 0 < length (cuts_in ns ++ cs)
+  pub all : MayTell wide ns cs
+
+-- a cut may tell it or not
+abbrev pub may_follow : Option Bool → Bool → Bool
+may_follow None wide = true
+may_follow (Some before) true = before
+may_follow (Some before) false = not before
+
+abbrev pub IsSoFar : List NetTold → List CutTold → Option Bool → Type 0
+IsSoFar ns cs None = cuts_in ns ++ cs ≡ []
+IsSoFar ns cs (Some wide) = HaveTold ns cs wide
+
 -- the first cuts of a net
 pub record CutsRead (p : Page) (h : Told) (ns : List NetTold) (islands : List ℕ) (count : ℕ) (ks : List ReadCut)
-    (rest : List ℕ) : Type 0 where
+    (told : Option Bool) (rest : List ℕ) : Type 0 where
   pub cuts : List CutTold
+  pub told_is : IsSoFar ns cuts told
   pub count_is : count ≡ length cuts
   pub kept : AreCutsKept (firsts_after p.firsts ns) cuts ks
   pub before : length cuts < value islands → IsBeforeCut p h ns islands cuts rest
   pub full : length cuts ≡ value islands → IsBetween p h (ns ++ opened islands cuts ∷ []) rest
 
 -- all of them
-pub record OpenRead (p : Page) (h : Told) (ns : List NetTold) (islands : List ℕ) (ks : List ReadCut) (rest : List ℕ) :
-    Type 0 where
+pub record OpenRead (p : Page) (h : Told) (ns : List NetTold) (islands : List ℕ) (ks : List ReadCut)
+    (told : Option Bool) (rest : List ℕ) : Type 0 where
   pub cuts : List CutTold
+  pub told_is : IsSoFar ns cuts told
   pub full : length cuts ≡ value islands
   pub kept : AreCutsKept (firsts_after p.firsts ns) cuts ks
   pub between : IsBetween p h (ns ++ opened islands cuts ∷ []) rest
 
 -- the net with these cuts is the last one
 pub record CutsAdded (p : Page) (h : Told) (ns : List NetTold) (islands : List ℕ) (old new : List (List ReadCut))
-    (rest : List ℕ) : Type 0 where
+    (told : Option Bool) (rest : List ℕ) : Type 0 where
   pub cuts : List ReadCut
   pub is : new ≡ old ++ cuts ∷ []
-  pub read : OpenRead p h ns islands cuts rest
+  pub read : OpenRead p h ns islands cuts told rest
 
 -- the net in this place, and the names of the first pins of its islands
 pub record NetHere (p : Page) (count : ℕ) (net : Net) (own : List (List ℕ)) : Type 0 where
@@ -190,8 +223,10 @@ IsNetLine name text (Some (Open count next)) = OpenedAt name count next.now text
 
 -- ---- nets
 -- some nets
-pub record NetsRead (p : Page) (h : Told) (count : ℕ) (ks : List (List ReadCut)) (rest : List ℕ) : Type 0 where
+pub record NetsRead (p : Page) (h : Told) (count : ℕ) (ks : List (List ReadCut)) (told : Option Bool)
+    (rest : List ℕ) : Type 0 where
   pub nets : List NetTold
+  pub told_is : IsSoFar nets [] told
   pub count_is : count ≡ length nets
   pub kept : AreNetsKept p.firsts nets ks
   pub between : IsBetween p h nets rest

@@ -1,5 +1,5 @@
 -- The states of reading a report line by line: what was told so far, and which line may come next.
-use Rattle.std.specs.Prelude.{◌≡◌, ◌≤◌, ◌<◌, ◌⊎◌, ℕ, ◌+◌, true, false, List, [], ◌∷◌, ◌++◌, length, All}
+use Rattle.std.specs.Prelude.{◌≡◌, ◌≤◌, ◌<◌, ◌⊎◌, ℕ, ◌+◌, Bool, true, false, List, [], ◌∷◌, ◌++◌, length, All}
 use Rattle.std.specs.Prelude.{flat_map, codes, decimal, Option, Some, None, slice_get}
 use Rattle.pcb_model.specs.declared.item.Kind.{Kind}
 use Rattle.pcb_model.specs.declared.design.Net.{Net}
@@ -7,6 +7,7 @@ use Rattle.pcb_model.specs.declared.design.Design.{Design}
 use Rattle.ses_writer.specs.Words.{spelled}
 use Rattle.report_form.specs.Form.{Told, NetTold, CutTold, RunTold, PassTold, IsNumber, IsRun, IsName}
 use Rattle.report_form.specs.Form.{AreCutsTold, IsNetTold, IsPassTold, IsTold, value, line, by_line, run_line, cut_line}
+use Rattle.report_form.specs.Form.{TellAlike, cuts_in, tells_wide, wide_line}
 use Rattle.report_form.specs.Form.{cut_lines, nets_lines, pass_lines, place_lines, size_line}
 use Rattle.report_form.specs.Form.{total_line, head_lines, pass_part, lines, joined}
 
@@ -137,6 +138,7 @@ pub record IsNetting (p : Page) (h : Told) (ns : List NetTold) : Type 0 where
   pub front : IsFront h
   pub nets : AreNetsTold p.firsts ns
   pub within : length ns ≤ length p.design.nets
+  pub alike : TellAlike (cuts_in ns)
 
 -- a net of several islands, with some of its cuts
 pub record IsOpened (p : Page) (h : Told) (ns : List NetTold) (islands : List ℕ) (cs : List CutTold) : Type 0 where
@@ -146,6 +148,17 @@ pub record IsOpened (p : Page) (h : Told) (ns : List NetTold) (islands : List �
   pub many : 2 ≤ value islands
   pub within : length cs ≤ value islands
   pub cuts : AreCutsTold (firsts_after p.firsts ns) cs
+
+-- the cuts of the nets and these all tell how far moves at 45 degrees reach, or all don't
+abbrev pub MayTell : Bool → List NetTold → List CutTold → Type 0
+MayTell wide ns cs = All (λ (c : CutTold). tells_wide c ≡ wide) (cuts_in ns ++ cs)
+
+-- a cut behind these; if it tells that, so do they
+pub record IsParts (p : Page) (h : Told) (ns : List NetTold) (islands : List ℕ) (cs : List CutTold) (c : CutTold) :
+    Type 0 where
+  pub opened : IsOpened p h ns islands (cs ++ c ∷ [])
+  pub alike : TellAlike (cuts_in ns ++ cs)
+  pub may : tells_wide c ≡ true → MayTell true ns cs
 
 abbrev pub IsGood : Page → State → Type 0
 IsGood p Start = Unit {0}
@@ -157,7 +170,7 @@ IsGood p (Passing h ps) = IsPassing h ps
 IsGood p (Joining h) = IsJoining h
 IsGood p (Netting h ns) = IsNetting p h ns
 IsGood p (Opened h ns islands) = IsOpened p h ns islands []
-IsGood p (Parts h ns islands cs c) = IsOpened p h ns islands (cs ++ c ∷ [])
+IsGood p (Parts h ns islands cs c) = IsParts p h ns islands cs c
 IsGood p (Ended t) = IsTold p.design p.firsts t
 
 -- ---- which line may come next, and the state behind it
@@ -255,6 +268,7 @@ bare pin reached blocked = record {
   by_items = [];
   by_outside = false;
   runs = [];
+  wide = None;
 }
 
 pub record CutStep (p : Page) (h : Told) (ns : List NetTold) (islands : List ℕ) (cs : List CutTold) (l : List ℕ)
@@ -269,10 +283,11 @@ pub record CutStep (p : Page) (h : Told) (ns : List NetTold) (islands : List ℕ
   pub is : l ≡ cut_line (bare pin reached blocked)
   pub to : s ≡ Parts h ns islands cs (bare pin reached blocked)
 
--- no line of a boundary and of a stretch came yet
+-- no line of a boundary and of a stretch came yet, nor the last one
 pub record IsEarly (c : CutTold) : Type 0 where
   pub inside : c.by_outside ≡ false
   pub no_run : c.runs ≡ []
+  pub no_wide : c.wide ≡ None
 
 pub record ByStep (h : Told) (ns : List NetTold) (islands : List ℕ) (cs : List CutTold) (c : CutTold) (l : List ℕ)
     (s : State) : Type 0 where
@@ -290,24 +305,42 @@ pub record OutsideStep (h : Told) (ns : List NetTold) (islands : List ℕ) (cs :
 
 pub record RunStep (h : Told) (ns : List NetTold) (islands : List ℕ) (cs : List CutTold) (c : CutTold) (l : List ℕ)
     (s : State) : Type 0 where
+  pub no_wide : c.wide ≡ None
   pub run : RunTold
   pub told : IsRun run
   pub is : l ≡ run_line run
   pub to : s ≡ Parts h ns islands cs (record c { runs = c.runs ++ run ∷ [] })
 
+-- the last line of a cut, where those before have it too
+pub record WideStep (h : Told) (ns : List NetTold) (islands : List ℕ) (cs : List CutTold) (c : CutTold)
+    (l : List ℕ) (s : State) : Type 0 where
+  pub no_wide : c.wide ≡ None
+  pub may : MayTell true ns cs
+  pub size : List ℕ
+  pub number : IsNumber size
+  pub is : l ≡ wide_line size
+  pub to : s ≡ Parts h ns islands cs (record c { wide = Some size })
+
 abbrev pub PartStep : Told → List NetTold → List ℕ → List CutTold → CutTold → List ℕ → State → Type 0
 PartStep h ns islands cs c l s = ByStep h ns islands cs c l s
-    ⊎ (OutsideStep h ns islands cs c l s ⊎ RunStep h ns islands cs c l s)
+    ⊎ (OutsideStep h ns islands cs c l s ⊎ (RunStep h ns islands cs c l s ⊎ WideStep h ns islands cs c l s))
 
 -- a net with so many islands and these cuts
 abbrev pub opened : List ℕ → List CutTold → NetTold
 opened islands cuts = record { islands = islands; cuts = cuts }
 
--- all cuts of the net are there: what comes behind a net
-pub record FilledStep (p : Page) (h : Told) (ns : List NetTold) (islands : List ℕ) (cs : List CutTold) (l : List ℕ)
-    (s : State) : Type 0 where
-  pub full : length cs ≡ value islands
-  pub step : NetStep p h (ns ++ opened islands cs ∷ []) l s
+-- the cut tells what those before tell: the next one comes
+pub record NextStep (p : Page) (h : Told) (ns : List NetTold) (islands : List ℕ) (cs : List CutTold) (c : CutTold)
+    (l : List ℕ) (s : State) : Type 0 where
+  pub may : MayTell (tells_wide c) ns cs
+  pub step : CutStep p h ns islands (cs ++ c ∷ []) l s
+
+-- so it does, and all cuts of the net are there: what comes behind a net
+pub record FilledStep (p : Page) (h : Told) (ns : List NetTold) (islands : List ℕ) (cs : List CutTold) (c : CutTold)
+    (l : List ℕ) (s : State) : Type 0 where
+  pub may : MayTell (tells_wide c) ns cs
+  pub full : length (cs ++ c ∷ []) ≡ value islands
+  pub step : NetStep p h (ns ++ opened islands (cs ++ c ∷ []) ∷ []) l s
 
 abbrev pub Next : Page → State → List ℕ → State → Type 0
 Next p Start l s = (l ≡ board_line p.design) × (s ≡ Named)
@@ -320,7 +353,7 @@ Next p (Joining h) l s = JoinsStep h l s
 Next p (Netting h ns) l s = NetStep p h ns l s
 Next p (Opened h ns islands) l s = CutStep p h ns islands [] l s
 Next p (Parts h ns islands cs c) l s = PartStep h ns islands cs c l s
-    ⊎ (CutStep p h ns islands (cs ++ c ∷ []) l s ⊎ FilledStep p h ns islands (cs ++ c ∷ []) l s)
+    ⊎ (NextStep p h ns islands cs c l s ⊎ FilledStep p h ns islands cs c l s)
 Next p (Ended t) l s = ⊥
 
 -- from one state to another by these lines

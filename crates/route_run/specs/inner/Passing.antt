@@ -1,7 +1,7 @@
 -- What the private functions of a run keep and answer.
 use Rattle.std.specs.Prelude.{◌≡◌, ◌⊎◌, ℕ, ◌+◌, ◌-◌, ◌<◌, ◌≤◌, Bool, IsTrue, not, vec_len}
 use Rattle.std.specs.Prelude.{List, [], flat_map, length, sum_by, slice_get, slice_index_or}
-use Rattle.std.specs.Prelude.{All, Contains, Some}
+use Rattle.std.specs.Prelude.{All, Contains, Some, false}
 use Rattle.pcb_model.specs.declared.item.Item.{Item}
 use Rattle.pcb_model.specs.declared.design.Design.{Design}
 use Rattle.pcb_islands.specs.declared.net.Island.{Island}
@@ -14,8 +14,8 @@ use Rattle.pcb_board.specs.Answers.{taken_back}
 use Rattle.pcb_board.specs.Keeping.{IsBoard}
 use Rattle.least_offer.specs.Least.{IsLeastOffer}
 use Rattle.cut_certificate.specs.declared.cut.Cut.{Cut}
-use Rattle.closing_pass.specs.declared.closed.Closed.{Closed}
-use Rattle.closing_pass.specs.Closing.{IsClosedOut}
+use Rattle.closing_pass.specs.Closing.{AreEnds}
+use Rattle.closing_pass.specs.Settled.{AreSettled}
 use Rattle.searcher_pool.specs.declared.input.PassInput.{PassInput}
 use Rattle.searcher_pool.specs.Inputs.{CanPass}
 use Rattle.searcher_pool.specs.Passes.{PassOf, Grows, IsSpent}
@@ -25,9 +25,10 @@ use Rattle.route_run.specs.declared.run.Kept.{Kept}
 use Rattle.route_run.specs.declared.run.Routed.{Routed}
 use Rattle.route_run.specs.declared.input.RunInput.{RunInput}
 use Rattle.route_run.specs.Inputs.{CanRun}
-use Rattle.closing_pass.specs.OpenCount.{IsOpenCount}
-use Rattle.route_run.specs.Runs.{RunOf, HasSeveral, IsWorkedOff, ArePasses, AreLeast, HaveEnded, IsBest}
-use Rattle.route_run.specs.Runs.{complete_from, entries_after, HadRoom, pass_at}
+use Rattle.closing_pass.specs.OpenCount.{IsOpenCount, NeverMore}
+use Rattle.route_run.specs.declared.run.Shut.{Shut}
+use Rattle.route_run.specs.Runs.{RunOf, HasSeveral, IsWorkedOff, ArePasses, AreLeast, AreWide, ClosesBy, HaveEnded}
+use Rattle.route_run.specs.Runs.{IsBest, complete_from, entries_after, HadRoom, pass_at}
 
 -- ---- what is open
 -- so many connections of the net are open
@@ -93,7 +94,7 @@ EndsBy number line full = (line.parted ≡ 0) ⊎ (((1 < number) × (line.commit
 pub record HasPassed (m : Mesh) (r : RunOf) (b : BoardOf) (lines : List PassLine) : Type 0 where
   pub board : IsBoard b
   pub passes : ArePasses m r b lines
-  pub least : AreLeast m r.via_cost b
+  pub least : AreLeast false m r.via_cost b
   pub no_more : length b.history ≡ entries_after lines (length lines)
 
 -- a further pass may follow these
@@ -133,25 +134,37 @@ pub record IsKept (m : Mesh) (r : RunOf) (first : BoardOf) (kept : Kept) : Type 
   pub best : IsBest kept.lines kept.kept
   pub gone : GoesBack kept.lines kept.kept passed kept.board
 
+-- what the closing pass answers, or with moves at 45 degrees its rounds
+pub record IsShutOut (m : Mesh) (via_cost tries : ℕ) (diagonal : Bool) (old : BoardOf) (s : Shut) : Type 0 where
+  pub closes : ClosesBy diagonal m via_cost old s.closed.board
+  pub count : length old.history + s.closed.joins ≡ length s.closed.board.history
+  pub ends : AreEnds s.closed.board.design m via_cost s.closed.board.items (length s.closed.board.design.nets)
+      s.closed.ends
+  pub settled : AreSettled m via_cost tries s.closed.board s.closed.ends
+  pub fewer : NeverMore old s.closed.board
+  pub wide : AreWide diagonal m via_cost s.closed.board (flat_map (λ (cuts : List Cut). cuts) s.closed.ends) s.wide
+
 -- what is told of a run that the closing pass ended
-abbrev pub routed_of : Mesh → List ℕ → List PassLine → ℕ → Closed → Routed
-routed_of m dropped lines kept closed = record {
-  board = closed.board;
+abbrev pub routed_of : Mesh → List ℕ → List PassLine → ℕ → Shut → Routed
+routed_of m dropped lines kept shut = record {
+  board = shut.closed.board;
   facts = record {
     grid = m.grid;
     nodes = node_count m;
     dropped = dropped;
     passes = lines;
     kept = kept;
-    joins = closed.joins;
-    complete = complete_from 0 closed.ends;
-    cuts = flat_map (λ (cuts : List Cut). cuts) closed.ends;
+    joins = shut.closed.joins;
+    complete = complete_from 0 shut.closed.ends;
+    cuts = flat_map (λ (cuts : List Cut). cuts) shut.closed.ends;
+    wide = shut.wide;
   };
 }
 
 -- the closing pass was made from the end of the kept pass, and is told
-pub record IsFinished (m : Mesh) (via_cost tries : ℕ) (kept : Kept) (dropped : List ℕ) (routed : Routed) : Type 0 where
-  pub closed : Closed
-  pub out : IsClosedOut m via_cost tries kept.board closed
-  pub board : IsBoard closed.board
-  pub told : routed ≡ routed_of m dropped kept.lines kept.kept closed
+pub record IsFinished (m : Mesh) (via_cost tries : ℕ) (diagonal : Bool) (kept : Kept) (dropped : List ℕ)
+    (routed : Routed) : Type 0 where
+  pub shut : Shut
+  pub out : IsShutOut m via_cost tries diagonal kept.board shut
+  pub board : IsBoard shut.closed.board
+  pub told : routed ≡ routed_of m dropped kept.lines kept.kept shut

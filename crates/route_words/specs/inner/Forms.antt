@@ -47,7 +47,7 @@ with_rules app (rule ∷ rules) = with_rules (with_rule app rule) rules
 abbrev pub route_args : List Rule
 route_args = named (codes "input") ∷ named (codes "output") ∷ valued (codes "grid") ∷ valued (codes "workers")
     ∷ valued (codes "passes") ∷ valued (codes "via-cost") ∷ valued (codes "tries") ∷ flag (codes "omit-fixed")
-    ∷ valued (codes "from") ∷ []
+    ∷ valued (codes "from") ∷ flag (codes "diagonal") ∷ []
 
 abbrev pub route_app : App
 route_app = with_rules bare_app route_args
@@ -105,6 +105,7 @@ is_on value = option_map_or (λ text. bytes_eq text (codes "true")) value false
 pub record HoldsRoute (parts : List Part) (f : Found) : Type 0 where
   pub held : Holds route_form (codes "input" ∷ codes "output" ∷ []) parts f
   pub omits : is_on (first_value f (codes "omit-fixed")) ≡ is_some (value_in (codes "omit-fixed") parts)
+  pub slants : is_on (first_value f (codes "diagonal")) ≡ is_some (value_in (codes "diagonal") parts)
 
 abbrev pub FindsRoute : List Word → Result ArgMatches WordFault → Type 0
 FindsRoute = Finds route_form HoldsRoute

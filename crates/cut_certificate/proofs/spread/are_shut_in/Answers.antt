@@ -8,7 +8,7 @@ use Rattle.cut_certificate.proofs.spread.are_shut_in.Goals as goal
 
 pub returns : goal.returns
 returns g c =
-    let graph = g.M.Moves.graph c.args.m.now in
+    let graph = g.M.Moves.graph c.args.moves.now in
     let f : Fill = fill_of c.mark_within.new.front in
     let flood : IsFlood (backwards graph) c.args.goals.now f =
     subst (λ b. OnTrue b (IsFlood (backwards graph) c.args.goals.now f)) c.if-not-branch.false

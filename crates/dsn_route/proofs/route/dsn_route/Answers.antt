@@ -2,10 +2,11 @@ use Rattle.std.proofs.Common.{Err, refl, sym, ◌∙◌}
 use Rattle.dsn_route.specs.declared.status.Status.TheVariants.{Usage}
 use Rattle.dsn_route.specs.Lines.{usage_line}
 use Rattle.dsn_route.proofs.Ended.{stopped}
-use Rattle.dsn_route.proofs.Dues.{refused_due, over_due, nodes_due, complete_due}
+use Rattle.dsn_route.proofs.Dues.{refused_due, over_due, nodes_due, complete_due, one_command}
 use Rattle.dsn_route.proofs.Halted.{absent_due, long_due}
 use Rattle.dsn_route.proofs.Checked.{clean_due, judged_due, rejected_due}
 use Rattle.dsn_route.proofs.Started.{back_due}
+use Rattle.dsn_route.proofs.Shutting.{shut_due}
 use Rattle.dsn_route.proofs.Knobbed.{is_readable, is_yes}
 use Rattle.dsn_route.proofs.Vouching.{vouched_for}
 use Rattle.dsn_route.proofs.Wording.{misworded}
@@ -75,3 +76,9 @@ pub returns-in-Ok-clause-comes_back : goal.returns-in-Ok-clause-comes_back
 returns-in-Ok-clause-comes_back g c = λ b given.
     back_due c.sessions_come_back.ensures c.one_outcome.ensures _ _ b given c.in-Ok.command c.in-Ok.ensures.says _ _ _
     c.route.result.routed c.route.result.status c.route.ensures
+
+pub returns-in-Ok-clause-wide_shut : goal.returns-in-Ok-clause-wide_shut
+returns-in-Ok-clause-wide_shut g c = λ input output from knobs is.
+    shut_due c.cuts_are_shut.ensures input output from knobs c.in-Ok.command
+    (one_command c.in-Ok.command _ (sym c.in-Ok.ensures.says ∙ is)) _ _ _ _ c.route.result.routed
+    c.route.result.status c.route.ensures

@@ -7,8 +7,8 @@ use Rattle.dsn_route.proofs.Written.{put_out}
 use Rattle.dsn_route.proofs.write.write_both.Goals as goal
 
 pub returns-in-Ok-write : goal.returns-in-Ok-write
-returns-in-Ok-write g c = λ input from.
-    let command : Command = Route input c.args.output.now from c.args.knobs in
+returns-in-Ok-write g c = λ input from diagonal.
+    let command : Command = Route input c.args.output.now from diagonal c.args.knobs in
     let board = c.args.run.now.routed.now.board in
     let facts = c.args.run.now.routed.now.facts in
     let has : HasWritten command board (g.D.Desk.state c.args.desk.now) (g.D.Desk.state c.write.new.self) =

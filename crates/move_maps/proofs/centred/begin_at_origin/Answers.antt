@@ -13,14 +13,16 @@ Begins q = IsFirst q.spine origin
 
 pub begins_at_origin-requires : goal.begins_at_origin-requires
 begins_at_origin-requires c =
-    subst IsFit (sym c.q-item.is) (c.requires c.loop-q.q-index c.q-item.result c.loop-q-test.true)
+    subst IsFit (sym c.piece-item.is) (c.requires c.loop-piece.piece-index c.piece-item.result c.loop-piece-test.true)
 
-pub loop-q-init : goal.loop-q-init
-loop-q-init c = All-nil Begins
+pub loop-piece-init : goal.loop-piece-init
+loop-piece-init c = All-nil Begins
 
-pub loop-q-preserved : goal.loop-q-preserved
-loop-q-preserved c = All-more Begins c.args.qs.now c.loop-q.q-index c.q-item.result c.loop-q-test.true
-    c.loop-q.invariant (subst Begins c.q-item.is (c.begins_at_origin.ensures c.if-not-begins_at_origin.false))
+pub loop-piece-preserved : goal.loop-piece-preserved
+loop-piece-preserved c = All-more Begins c.args.pieces.now c.loop-piece.piece-index c.piece-item.result
+    c.loop-piece-test.true
+    c.loop-piece.invariant (subst Begins c.piece-item.is (c.begins_at_origin.ensures c.if-not-begins_at_origin.false))
 
 pub returns : goal.returns
-returns c = λ e. subst (All Begins) (take_all c.loop-q.q-index c.args.qs.now c.loop-q-test.false) c.loop-q.invariant
+returns c = λ e. subst (All Begins) (take_all c.loop-piece.piece-index c.args.pieces.now
+    c.loop-piece-test.false) c.loop-piece.invariant

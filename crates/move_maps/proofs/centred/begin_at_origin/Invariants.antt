@@ -5,5 +5,5 @@ use Rattle.pcb_model.specs.Sound.{origin}
 use Rattle.move_maps.proofs.centred.begin_at_origin.Given as goal
 
 -- the pieces so far begin there
-abbrev pub invariant-loop-q : goal.invariant-loop-q
-invariant-loop-q l = All (λ (q : Piece). IsFirst q.spine origin) (take l.q-index l.qs)
+abbrev pub invariant-loop-piece : goal.invariant-loop-piece
+invariant-loop-piece l = All (λ (q : Piece). IsFirst q.spine origin) (take l.piece-index l.pieces)

@@ -3,5 +3,5 @@ use Rattle.move_maps.specs.Parts.{IsString}
 use Rattle.move_maps.proofs.parts.are_strings.Given as goal
 
 -- the pieces so far
-abbrev pub invariant-loop-q : goal.invariant-loop-q
-invariant-loop-q l = All IsString (take l.q-index l.qs)
+abbrev pub invariant-loop-piece : goal.invariant-loop-piece
+invariant-loop-piece l = All IsString (take l.piece-index l.pieces)

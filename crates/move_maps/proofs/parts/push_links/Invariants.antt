@@ -5,5 +5,5 @@ use Rattle.move_maps.proofs.parts.push_links.Given as goal
 
 -- the parts so far, and those of the links that are left
 abbrev pub invariant-loop-to : goal.invariant-loop-to
-invariant-loop-to l = l.parts ++ map (part l.b l.q) (links l.from (drop l.to-index (drop 1 l.points)))
-    ≡ l.fn.parts ++ map (part l.b l.q) (chain_segments l.points)
+invariant-loop-to l = l.parts ++ map (part l.item l.piece) (links l.from (drop l.to-index (drop 1 l.points)))
+    ≡ l.fn.parts ++ map (part l.item l.piece) (chain_segments l.points)

@@ -3,5 +3,5 @@ use Rattle.move_maps.specs.Windows.{IsSpanOf}
 use Rattle.move_maps.proofs.span.row_span.Given as goal
 
 -- the windows so far
-abbrev pub invariant-loop-w : goal.invariant-loop-w
-invariant-loop-w l = IsSpanOf (take l.w-index l.windows) l.columns l.row l.span.left l.span.right
+abbrev pub invariant-loop-window : goal.invariant-loop-window
+invariant-loop-window l = IsSpanOf (take l.window-index l.windows) l.columns l.row l.span.left l.span.right

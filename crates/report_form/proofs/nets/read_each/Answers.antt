@@ -30,4 +30,5 @@ returns c = λ p h e f at.
     let all : c.loop-i.i ≡ length c.as_slice-net-items.result.now = omega arith in
     let many : length p.design.nets ≡ c.loop-i.i =
     ap (λ (x : Design). length x.nets) e ∙ ap length (sym c.as_slice-net-items.ensures) ∙ sym all in
-    subst (λ (n : ℕ). NetsRead p h n c.loop-i.nets c.loop-i.left.now) (sym many) (c.loop-i.invariant p h e f at)
+    subst (λ (n : ℕ). NetsRead p h n c.loop-i.nets c.loop-i.at.told c.loop-i.at.rest.now) (sym many)
+    (c.loop-i.invariant p h e f at)

@@ -15,14 +15,14 @@ stands_with-requires-clause-a_moved g c =
 pub loop-a-preserved : goal.loop-a-preserved
 loop-a-preserved g c =
     let items = c.args.on.now.items in
-    front_more (λ (a : Item). StandsWith c.args.on.now.d items (shove_of a) (shove_of c.args.b.now)) c.args.moved.now
+    front_more (λ (a : Item). StandsWith c.args.on.now.d items (shove_of a) (shove_of c.args.item.now)) c.args.moved.now
     c.loop-a.a-index c.a-item.result c.loop-a-test.true c.a-item.is c.loop-a.invariant
     (c.stands_with.ensures.0 c.if-not-stands_with.false)
 
 pub returns : goal.returns
 returns g c =
     let items = c.args.on.now.items in (
-      λ t. front_all (λ (a : Item). StandsWith c.args.on.now.d items (shove_of a) (shove_of c.args.b.now))
+      λ t. front_all (λ (a : Item). StandsWith c.args.on.now.d items (shove_of a) (shove_of c.args.item.now))
           c.args.moved.now c.loop-a.a-index c.loop-a-test.false c.loop-a.invariant,
       λ h. refl,
     )
@@ -32,6 +32,6 @@ returns-then-not-stands_with g c =
     let items = c.args.on.now.items in (
       λ t. absurd (false≢true t),
       λ all. absurd (unless c.stands_with.result _ c.stands_with.ensures c.if-not-stands_with.true
-          (at_place_of (λ (a : Item). StandsWith c.args.on.now.d items (shove_of a) (shove_of c.args.b.now))
+          (at_place_of (λ (a : Item). StandsWith c.args.on.now.d items (shove_of a) (shove_of c.args.item.now))
           c.args.moved.now all c.loop-a.a-index c.a-item.result c.loop-a-test.true c.a-item.is)),
     )

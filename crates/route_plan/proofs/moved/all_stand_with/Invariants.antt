@@ -6,4 +6,4 @@ use Rattle.route_plan.proofs.moved.all_stand_with.Given as goal
 
 abbrev pub invariant-loop-a : goal.invariant-loop-a
 invariant-loop-a g l =
-    All (λ (a : Item). StandsWith l.on.d l.on.items (shove_of a) (shove_of l.b)) (take l.a-index l.moved)
+    All (λ (a : Item). StandsWith l.on.d l.on.items (shove_of a) (shove_of l.item)) (take l.a-index l.moved)

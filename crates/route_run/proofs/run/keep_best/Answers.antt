@@ -9,9 +9,8 @@ pub best_of-kept-requires : goal.best_of-kept-requires
 best_of-kept-requires g c =
     let same = ap (λ (lines : List PassLine). length lines) c.as_slice.ensures in
     let some = some_lines _ c.in_ok-board.board c.in_ok-board.lines c.in_ok-board.ensures.ended in
-    let few = c.in_ok-board.ensures.passed.passes.few in
-    let most = c.requires.input.few_passes in
-    (omega (arith, same, some), omega (arith, same, few, most))
+    let few = c.in_ok-board.ensures.few in
+    (omega (arith, same, some), omega (arith, same, few))
 
 pub go_back-requires-clause-all : goal.go_back-requires-clause-all
 go_back-requires-clause-all g c =

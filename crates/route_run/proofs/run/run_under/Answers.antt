@@ -1,17 +1,18 @@
-use Rattle.std.proofs.lemmas.Result.{IfOk-weaker}
+use Rattle.std.proofs.Common.{IfOk, subst}
+use Rattle.pcb_model.specs.declared.design.Design.{Design}
 use Rattle.route_run.specs.Runs.{IsRun}
 use Rattle.route_run.specs.Inputs.{run_of}
-use Rattle.route_run.specs.inner.Passing.{IsFinished}
-use Rattle.route_run.proofs.Running.{run_told}
+use Rattle.route_run.specs.declared.run.Routed.{Routed}
+use Rattle.route_run.proofs.Running.{way_begun}
 use Rattle.route_run.proofs.run.run_under.Goals as goal
 
-pub returns : goal.returns
-returns g c =
-    let d = c.args.start.board.design in
-    let m = c.args.input.lat.now in
-    let r = run_of c.args.input in
-    IfOk-weaker c.close_and_tell.result
-    (IsFinished m c.args.input.via_cost c.args.input.tries c.in-Ok.best c.args.start.dropped)
-    (λ x. IsRun d m r x.board x.facts)
-    (λ x is. run_told d m r c.args.start.board c.in-Ok.best c.args.start.dropped x c.requires.begun c.in-Ok.ensures
-    c.keeps.ensures is) c.close_and_tell.ensures
+pub run_on-requires-clause-begun : goal.run_on-requires-clause-begun
+run_on-requires-clause-begun g c = λ κs apart.
+    way_begun c.args.input c.args.start.board c.args.start.dropped c.in-Ok.passes c.requires.begun c.requires.input
+    c.in-Ok.ensures
+
+pub returns-in-Ok : goal.returns-in-Ok
+returns-in-Ok g c =
+    subst (λ (d : Design). IfOk c.run_on.result (λ (x : Routed).
+    IsRun d c.args.input.lat.now (run_of c.args.input) x.board x.facts)) c.in-Ok.ensures.same.design_stays
+    c.run_on.ensures

@@ -19,4 +19,4 @@ returns c = λ words holds.
     let named = route_named words (found_of c.args.found.now) holds c.in-Some.input.now c.in-Some-get_str.output.now
     c.in-Some-knobs_found.knobs (sym c.in-Some.ensures) (sym c.in-Some-get_str.ensures)
     (sym c.in-Some-knobs_found.ensures) in
-    rw (named, ← c.get_str-3.ensures) c.route_with.ensures
+    rw (named, ← c.get_str-from.ensures, ← c.get_str-3.ensures, ← c.is_on-diagonal.ensures) c.route_with.ensures

@@ -16,25 +16,26 @@ agree-requires-clause-a_fits g c =
 pub loop-a-preserved : goal.loop-a-preserved
 loop-a-preserved g c =
     let s = c.self.inside in
-    front_more (λ (a : Item). Agrees s.d.now a c.args.b.now) s.new.now c.loop-a.a-index c.a-item.result
+    front_more (λ (a : Item). Agrees s.d.now a c.args.item.now) s.new.now c.loop-a.a-index c.a-item.result
     c.loop-a-test.true c.a-item.is c.loop-a.invariant (c.agree.ensures.0 c.if-not-agree.false)
 
 pub returns : goal.returns
 returns g c =
     let s = c.self.inside in
-    let all : All (λ (a : Item). Agrees s.d.now a c.args.b.now) s.new.now =
-    front_all (λ (a : Item). Agrees s.d.now a c.args.b.now) s.new.now c.loop-a.a-index c.loop-a-test.false
+    let all : All (λ (a : Item). Agrees s.d.now a c.args.item.now) s.new.now =
+    front_all (λ (a : Item). Agrees s.d.now a c.args.item.now) s.new.now c.loop-a.a-index c.loop-a-test.false
     c.loop-a.invariant in
-    let there = subst (λ (y : NewItemsOf). All (λ (a : Item). Agrees y.on.d a c.args.b.now) y.new) c.self.view_is all in
+    let there = subst (λ (y : NewItemsOf). All (λ (a : Item). Agrees y.on.d a c.args.item.now) y.new) c.self.view_is
+    all in
     (λ t. there, λ h. refl)
 
 pub returns-then-not-agree : goal.returns-then-not-agree
 returns-then-not-agree g c =
     let s = c.self.inside in (
       λ t. absurd (false≢true t),
-      λ all. let here = subst (λ (y : NewItemsOf). All (λ (a : Item). Agrees y.on.d a c.args.b.now) y.new)
+      λ all. let here = subst (λ (y : NewItemsOf). All (λ (a : Item). Agrees y.on.d a c.args.item.now) y.new)
           (sym c.self.view_is) all in
           absurd (unless c.agree.result _ c.agree.ensures c.if-not-agree.true
-          (at_place_of (λ (a : Item). Agrees s.d.now a c.args.b.now) s.new.now here c.loop-a.a-index c.a-item.result
+          (at_place_of (λ (a : Item). Agrees s.d.now a c.args.item.now) s.new.now here c.loop-a.a-index c.a-item.result
           c.loop-a-test.true c.a-item.is)),
     )

@@ -40,8 +40,8 @@ all_stand_with-requires-clause-moved g c =
     c.loop-id.invariant.each) in
     subst (λ (y : NewItemsOf). All (IsReshaped y.on.d y.on.items) c.as_slice.result.now) (sym c.self.view_is) all
 
-pub all_stand_with-requires-clause-b_moved : goal.all_stand_with-requires-clause-b_moved
-all_stand_with-requires-clause-b_moved g c =
+pub all_stand_with-requires-clause-item_moved : goal.all_stand_with-requires-clause-item_moved
+all_stand_with-requires-clause-item_moved g c =
     let y = c.args.self.now in
     let item = c.in-Some.item.now in
     let id = get_or c.args.ids.now c.loop-id.id-index 0 in

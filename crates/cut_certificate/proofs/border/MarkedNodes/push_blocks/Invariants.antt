@@ -1,5 +1,5 @@
 use Rattle.cut_certificate.specs.inner.Listing.{Extends}
-use Rattle.cut_certificate.proofs.border.MoveNodes.push_blocks.Given as goal
+use Rattle.cut_certificate.proofs.border.MarkedNodes.push_blocks.Given as goal
 
 abbrev pub invariant-loop-i : goal.invariant-loop-i
 invariant-loop-i g l =

@@ -2,7 +2,7 @@ use Rattle.std.proofs.Common.{refl}
 use Rattle.cut_certificate.specs.inner.Listing.{AllListed}
 use Rattle.cut_certificate.proofs.Each.{each_true}
 use Rattle.cut_certificate.proofs.Blocks.{first_more, more_listed, blocks_from_listed}
-use Rattle.cut_certificate.proofs.border.MoveNodes.blocks_of.Goals as goal
+use Rattle.cut_certificate.proofs.border.MarkedNodes.blocks_of.Goals as goal
 
 pub loop-v-preserved : goal.loop-v-preserved
 loop-v-preserved g c = record {

@@ -6,8 +6,9 @@ use Rattle.cut_certificate.proofs.Each.{unless}
 use Rattle.cut_certificate.proofs.Blocks.{extends_none, extends_stays, extends_block}
 use Rattle.std.specs.Prelude.{IsSome}
 use Rattle.std.proofs.lemmas.List.Elements.{All-contains}
-use Rattle.cut_certificate.proofs.border.MoveNodes.push_blocks.Goals as goal
-use Rattle.cut_certificate.proofs.border.MoveNodes.push_blocks.Goals.{then-leads_out+in-Some+in_ok-push, else-leads_out}
+use Rattle.cut_certificate.proofs.border.MarkedNodes.push_blocks.Goals as goal
+use Rattle.cut_certificate.proofs.border.MarkedNodes.push_blocks.Goals.{then-leads_out+in-Some+in_ok-push}
+use Rattle.cut_certificate.proofs.border.MarkedNodes.push_blocks.Goals.{else-leads_out}
 
 pub loop-i-preserved : goal.loop-i-preserved
 loop-i-preserved g c =

@@ -2,7 +2,7 @@ use Rattle.std.proofs.Common.{take, All}
 use Rattle.cut_certificate.specs.Border.{AreInOrder, IsBlock}
 use Rattle.cut_certificate.specs.inner.Listing.{AllListed}
 use Rattle.cut_certificate.proofs.Blocks.{AreOfFirst}
-use Rattle.cut_certificate.proofs.border.MoveNodes.blocks_of.Given as goal
+use Rattle.cut_certificate.proofs.border.MarkedNodes.blocks_of.Given as goal
 
 abbrev pub invariant-loop-v : goal.invariant-loop-v
 invariant-loop-v g l = record {

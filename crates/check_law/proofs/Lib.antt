@@ -14,3 +14,5 @@ pub mod Sourced
 pub mod Whole
 pub mod Judging
 pub mod Numbered
+pub mod Rewired
+pub mod Later

@@ -1,6 +1,6 @@
 -- What a session of a board is read from: its routed items are wiring of nets, behind the design's fixed items.
 use Rattle.std.proofs.Common.{◌≡◌, ap, filter, get_or, map}
-use Rattle.std.proofs.Common.{All, Bool, List, true, ℕ}
+use Rattle.std.proofs.Common.{All, Bool, List, true}
 use Rattle.std.specs.Prelude.{Contains}
 use Rattle.std.proofs.lemmas.List.Elements.{All-contains}
 use Rattle.std.proofs.lemmas.Option.{slice_get-get_or}
@@ -13,18 +13,16 @@ use Rattle.pcb_islands.proofs.Elements.{in_filter}
 use Rattle.board_offers.proofs.Lists.{all_from, not_true, passes}
 use Rattle.pcb_board.specs.Boards.{BoardOf}
 use Rattle.pcb_board.specs.Keeping.{IsBoard}
-use Rattle.dsn_design.specs.Reading.{HasDesign}
 use Rattle.ses_reader.specs.declared.item.SesItem.{SesItem}
 use Rattle.session_law.specs.Back.{printed_wiring, told}
 use Rattle.session_law.specs.Wired.{HasWiring}
 use Rattle.session_law.proofs.ToldBoards.{is_routed, items_are}
 use Rattle.check_law.specs.Written.{IsSource, IsWired}
-use Rattle.check_law.proofs.Fixed.{fixed_kinds}
+use Rattle.check_law.proofs.Fixed.{HasKind}
 use Rattle.check_law.proofs.Routed.{IsWiring, routed_wiring}
 
-module _ (text : List ℕ) (b : BoardOf) (board : IsBoard b) (has : HasDesign text b.design)
-    (legal : IsLegal b.design b.items) (up : Ascends b.items) (serve : Serves b.items b.design)
-    (wiring : HasWiring b.design) where
+module _ (b : BoardOf) (board : IsBoard b) (kinds : All HasKind b.design.fixed) (legal : IsLegal b.design b.items)
+    (up : Ascends b.items) (serve : Serves b.items b.design) (wiring : HasWiring b.design) where
   abbrev d : Design
   d = b.design
 
@@ -58,7 +56,7 @@ module _ (text : List ℕ) (b : BoardOf) (board : IsBoard b) (has : HasDesign te
     items_are = items_are b board serve.fixed_there up;
     fixed = fixed_there;
     fixed_copper = λ i x within copper. record {
-      kind = (fixed_kinds text d has i x within).kind copper;
+      kind = (kinds i x within).kind copper;
       pieces = (wiring.fixed i x within).pieces (fixed_there i x within) copper;
     };
     wired = all_from (IsWired d) (filter is_routed b.items) wired;

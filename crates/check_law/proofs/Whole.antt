@@ -1,4 +1,4 @@
--- A run of a design that was read, its session read back, and its report.
+-- A run of a design that has edges and wiring, its session read back, and its report.
 use Rattle.std.proofs.Common.{◌≡◌, ◌⊎◌, ◌∙◌, inl, inr, ℕ, suc, ◌+◌, ◌-◌, ◌<◌, ◌≤◌, Bool, List, [], ◌∷◌, All}
 use Rattle.std.proofs.Common.{Option, Some, None, true, false}
 use Rattle.std.specs.List.{AllZip}
@@ -22,19 +22,19 @@ use Rattle.cut_certificate.specs.declared.cut.Cut.{Cut}
 use Rattle.pcb_board.specs.Boards.{BoardOf}
 use Rattle.pcb_board.specs.Keeping.{IsBoard}
 use Rattle.closing_pass.specs.Closing.{Ends}
+use Rattle.copper_alike.specs.Twins.{HasEdges}
 use Rattle.route_run.specs.declared.facts.Facts.{Facts}
 use Rattle.route_run.specs.declared.facts.PassLine.{PassLine}
 use Rattle.wide_pass.specs.Rounds.{IsWideSize}
 use Rattle.route_run.specs.Runs.{AreWide, IsRun, RunOf}
 use Rattle.route_report.specs.Report.{cuts_of, is_of_net}
-use Rattle.dsn_design.specs.Reading.{HasDesign}
 use Rattle.ses_reader.specs.declared.item.SesItem.{SesItem}
 use Rattle.session_law.specs.Back.{printed_wiring, told}
 use Rattle.session_law.specs.Wired.{HasWiring}
 use Rattle.session_law.proofs.ToldBoards.{is_routed}
 use Rattle.check_law.specs.Written.{AreSmall, HaveSizes, IsWritten, NetEnds}
-use Rattle.check_law.proofs.Edges.{edges_of_read}
 use Rattle.check_law.proofs.Ends.{AreEndsFrom, AreOf, all_of, own_cuts}
+use Rattle.check_law.proofs.Fixed.{HasKind}
 use Rattle.check_law.proofs.Lists.{there}
 use Rattle.check_law.proofs.Sourced.{source}
 
@@ -66,8 +66,8 @@ some_last : (lines : List PassLine) (last : PassLine) → slice_get lines (lengt
 some_last [] last e = absurd (cc)
 some_last (line ∷ lines) last e = omega arith
 
-module _ (touch_back : (a b : Item) → AreTouching a b → AreTouching b a) (text : List ℕ) (grid : ℕ) (r : RunOf)
-    (b : BoardOf) (facts : Facts) (has : HasDesign text b.design) (legal : IsLegal b.design b.items)
+module _ (touch_back : (a b : Item) → AreTouching a b → AreTouching b a) (grid : ℕ) (r : RunOf) (b : BoardOf)
+    (facts : Facts) (edges : HasEdges b.design) (kinds : All HasKind b.design.fixed) (legal : IsLegal b.design b.items)
     (up : Ascends b.items) (serve : Serves b.items b.design) (wiring : HasWiring b.design)
     (run : IsRun b.design (lattice_of b.design grid) r b facts) where
   abbrev d : Design
@@ -141,11 +141,11 @@ module _ (touch_back : (a b : Item) → AreTouching a b → AreTouching b a) (te
       → IsWritten d b.items (filter is_routed b.items) omit xs facts
   run_written omit xs from to few small reads = record {
     sound = board.sound;
-    edges = edges_of_read text d has;
+    edges = edges;
     legal = legal;
     rise = up;
     serve = serve;
-    source = source text b board has legal up serve wiring omit xs reads;
+    source = source b board kinds legal up serve wiring omit xs reads;
     grid_from = subst (λ (n : ℕ). 1000 ≤ n) (sym one_grid) from;
     grid_to = subst (λ (n : ℕ). n ≤ 409600000) (sym one_grid) to;
     nodes_are = one_count ∙ ap (λ (g : ℕ). node_count (lattice_of d g)) (sym one_grid);

@@ -4,6 +4,7 @@
 ghost use Rattle.std.specs.Prelude.{◌≡◌, ◌≤◌, ℕ, Bool, List as Seq, All, false, Result as OneResult};
 ghost use Rattle.pcb_model.specs.declared.item.Item.{Item as OneItem};
 ghost use Rattle.pcb_model.specs.declared.design.Design.{Design as TheDesign};
+ghost use Rattle.pcb_model.specs.Sound.{IsSound};
 ghost use Rattle.pcb_islands.specs.declared.net.Island.{Island as OneIsland};
 ghost use Rattle.route_lattice.specs.Mesh.{node_count};
 ghost use Rattle.route_lattice.specs.Whole.{lattice_of};
@@ -16,9 +17,12 @@ ghost use Rattle.route_run.specs.Runs.{IsRun, RunOf};
 ghost use Rattle.route_report.specs.Report.{report_of};
 ghost use Rattle.dsn_design.specs.Reading.{HasDesign};
 ghost use Rattle.ses_reader.specs.declared.item.SesItem.{SesItem as OneSesItem};
-ghost use Rattle.ses_reader.specs.Reading.{HasSession};
+ghost use Rattle.ses_reader.specs.declared.item.SesFault.{SesFault as OneSesFault};
+ghost use Rattle.ses_reader.specs.Reading.{HasSession, ReadsSession};
 ghost use Rattle.ses_reader.specs.Sound.{IsItemSound};
 ghost use Rattle.ses_writer.specs.Session.{session_of};
+ghost use Rattle.session_law.specs.Back.{TellsWiring};
+ghost use Rattle.session_start.specs.Starting.{IsLater};
 ghost use Rattle.route_check.specs.Board.{board_of};
 ghost use Rattle.copper_check.specs.Checks.{AreAllIslands};
 ghost use Rattle.route_check.specs.Judged.{IsRight, IsYes, Judges};
@@ -29,7 +33,7 @@ ghost use Rattle.check_law.specs.Written.{AreSmall, IsWritten};
 use pcb_board::boards_serve;
 use pcb_model::pairs_are_symmetric;
 use route_check::{right_is_yes, session_boards_serve};
-use session_law::{designs_have_wiring, runs_read_back};
+use session_law::{designs_have_wiring, runs_are_on_scale, runs_read_back, sessions_read_back};
 
 /// A design that was read has the edge of each boundary among its fixed items.
 pub fn designs_have_edges()
@@ -66,6 +70,40 @@ pub fn runs_are_right()
     boards_serve();
     designs_have_wiring();
     runs_read_back();
+    session_boards_serve();
+    right_is_yes();
+    written_is_right();
+}
+
+// ---- runs that start from an earlier session
+
+/// Reading the session of a run that starts from an earlier one, by the design that was read, answers the printed
+/// wiring, or want of memory.
+pub fn later_runs_read_back()
+    ensures { (text : Seq ℕ) (read d : TheDesign) (grid : ℕ) (r : RunOf) (b : BoardOf) (facts : RunFacts)
+        (omit : Bool) (result : OneResult (Seq OneSesItem) OneSesFault) → HasDesign text read → IsLater read d
+        → r.workers ≤ CLOSER → IsRun d (lattice_of d grid) r b facts
+        → ReadsSession (session_of d b.items omit) read result → TellsWiring d b.items omit result }
+{
+    designs_have_wiring();
+    runs_are_on_scale();
+    sessions_read_back();
+}
+
+/// That session and the report are judged right by the sound design that was read, or memory was wanting, as those of a
+/// run over this design are: where the run's session has the scale of this design's.
+pub fn later_runs_are_right()
+    ensures { (text : Seq ℕ) (read d : TheDesign) (grid : ℕ) (r : RunOf) (b : BoardOf) (facts : RunFacts)
+        (omit : Bool) (xs : Seq OneSesItem) (answer : OneResult TheVerdict TheFault) → HasDesign text read
+        → IsSound read → IsLater read d → r.workers ≤ CLOSER → 1000 ≤ grid → grid ≤ 409600000
+        → node_count (lattice_of d grid) ≤ MOST_NODES → IsRun d (lattice_of d grid) r b facts
+        → AreSmall d b.items facts → HasSession (session_of d b.items omit) read xs
+        → Judges read xs (report_of d (lattice_of d grid) b.items facts false) answer → IsYes answer }
+{
+    pairs_are_symmetric();
+    boards_serve();
+    designs_have_wiring();
+    later_runs_read_back();
     session_boards_serve();
     right_is_yes();
     written_is_right();

@@ -3,6 +3,7 @@ use Rattle.std.proofs.Common.{◌≡◌, ◌⊎◌, inl, inr, ℕ, ◌≤◌, re
 use Rattle.desk_io.specs.States.{DeskState, SinkState}
 use Rattle.desk_io.specs.Answers.{IsAbsent, IsHeld, IsTooLong, DeskFaulted}
 use Rattle.pcb_model.specs.declared.design.Design.{Design}
+use Rattle.pcb_model.specs.Sound.{IsSound}
 use Rattle.dsn_design.specs.Reading.{HasDesign, OneOutcome}
 use Rattle.ses_reader.specs.declared.item.SesItem.{SesItem}
 use Rattle.ses_reader.specs.Reading.{HasSession, OneSession}
@@ -247,16 +248,20 @@ module _ (single : OneOutcome) (desk later : DeskState) (sink after : SinkState)
 
     -- what is right is answered so
     module _ (readable : (place : ℕ) → IsNoSession told d place → ⊥)
-        (right : (items : List SesItem) (answer : Result Verdict JudgeFault) → HasSession told d items
+        (right : IsSound d → (items : List SesItem) (answer : Result Verdict JudgeFault) → HasSession told d items
         → Judges d items page answer → IsYes answer) where
+      -- by the design, which is sound
+      is_right : (answer : Result Verdict JudgeFault) → HasJudged asked desk answer → IsYes answer
+      is_right answer j = right (subst IsSound (design_is j.design (judged_design answer j)) j.sound) j.items answer
+          (judged_items answer j) (judged_page answer j)
+
       no_rejection : (line : List ℕ) → IsRejected asked desk line → ⊥
       no_rejection line (inl a) = readable a.place (misread_is a.place a.misread)
-      no_rejection line (inr a) = right a.judged.items (Ok (No a.number a.at)) (judged_items _ a.judged)
-          (judged_page _ a.judged)
+      no_rejection line (inr a) = is_right (Ok (No a.number a.at)) a.judged
 
       clean_case : (status : Status) → Ends asked desk later sink after status → IsClean status
       clean_case = held_case IsClean tt tt (λ line why. absurd (no_rejection line why))
-          (λ count j. right j.items (Err (TooManyNodes count)) (judged_items _ j) (judged_page _ j))
+          (λ count j. is_right (Err (TooManyNodes count)) j)
 
 -- ---- what is due
 module _ (single : OneOutcome) (desk later : DeskState) (sink after : SinkState) (d : Design) (told : List ℕ)
@@ -283,7 +288,7 @@ module _ (single : OneOutcome) (desk later : DeskState) (sink after : SinkState)
 
   pub clean_due : (page : List ℕ) → AreHeld found desk d told page → HasNoFault desk later sink after
       → ((place : ℕ) → IsNoSession told d place → ⊥)
-      → ((items : List SesItem) (answer : Result Verdict JudgeFault) → HasSession told d items
+      → (IsSound d → (items : List SesItem) (answer : Result Verdict JudgeFault) → HasSession told d items
       → Judges d items page answer → IsYes answer) → IsClean o.status
   clean_due page held calm readable right =
       clean_case single desk later sink after d told found held.first held.report page held.judges held.held held.fits

@@ -1,8 +1,9 @@
 -- What a `route` writes reads back, and is right: its grid and its workers are in the ranges of the laws.
-use Rattle.std.proofs.Common.{◌≡◌, inl, inr, ℕ, ◌≤◌, ◌*◌, ◌^◌, zero, suc, refl, subst, List, Bool, true, false}
+use Rattle.std.proofs.Common.{◌≡◌, inl, inr, ℕ, ◌≤◌, ◌*◌, ◌^◌, zero, suc, refl, subst, sym, List, Bool, true, false}
 use Rattle.std.proofs.Common.{Option, Some, None, Result, Err, arith, unwrap_or, lit≤, nat_le, IfSome}
 use Rattle.std.proofs.lemmas.Option.{none-some}
 use Rattle.pcb_model.specs.declared.design.Design.{Design}
+use Rattle.pcb_model.specs.Sound.{IsSound}
 use Rattle.pcb_board.specs.Boards.{BoardOf}
 use Rattle.route_lattice.specs.Mesh.{node_count}
 use Rattle.route_lattice.specs.Whole.{default_grid, lattice_of}
@@ -22,6 +23,7 @@ use Rattle.ses_reader.specs.declared.item.SesFault.{SesFault}
 use Rattle.ses_reader.specs.declared.item.SesFault.TheVariants.{Spelling, Refused}
 use Rattle.ses_reader.specs.Reading.{HasSession, ReadsSession}
 use Rattle.session_law.specs.Back.{TellsWiring}
+use Rattle.session_start.specs.Starting.{IsLater}
 use Rattle.route_check.specs.declared.verdict.Verdict.{Verdict}
 use Rattle.route_check.specs.declared.verdict.JudgeFault.{JudgeFault}
 use Rattle.route_check.specs.Judged.{IsYes, Judges}
@@ -67,6 +69,21 @@ RunsAreRight = (text : List ℕ) (d : Design) (grid : ℕ) (r : RunOf) (b : Boar
     → IsRun d (lattice_of d grid) r b facts → AreSmall d b.items facts → HasSession (session_of d b.items omit) d xs
     → Judges d xs (report_of d (lattice_of d grid) b.items facts false) answer → IsYes answer
 
+-- the same of runs that start from an earlier session
+abbrev pub LaterReadsBack : Type 0
+LaterReadsBack = (text : List ℕ) (read d : Design) (grid : ℕ) (r : RunOf) (b : BoardOf) (facts : Facts) (omit : Bool)
+    (result : Result (List SesItem) SesFault) → HasDesign text read → IsLater read d → r.workers ≤ CLOSER
+    → IsRun d (lattice_of d grid) r b facts → ReadsSession (session_of d b.items omit) read result
+    → TellsWiring d b.items omit result
+
+abbrev pub LaterRunsAreRight : Type 0
+LaterRunsAreRight = (text : List ℕ) (read d : Design) (grid : ℕ) (r : RunOf) (b : BoardOf) (facts : Facts)
+    (omit : Bool) (xs : List SesItem) (answer : Result Verdict JudgeFault) → HasDesign text read → IsSound read
+    → IsLater read d → r.workers ≤ CLOSER → 1000 ≤ grid → grid ≤ 409600000
+    → node_count (lattice_of d grid) ≤ MOST_NODES → IsRun d (lattice_of d grid) r b facts
+    → AreSmall d b.items facts → HasSession (session_of d b.items omit) read xs
+    → Judges read xs (report_of d (lattice_of d grid) b.items facts false) answer → IsYes answer
+
 -- a fault that has a place isn't want of memory
 placed : (text : List ℕ) (f : TreeFault) (place : ℕ) → HasFault text f → tree_place f ≡ Some place
     → Unless f (HasFault text f) × (Unless f ⊥ → ⊥)
@@ -78,7 +95,12 @@ placed text (tree_fault.Surplus at) place has is = (has, λ no. no)
 placed text (tree_fault.TooDeep at) place has is = (has, λ no. no)
 placed text tree_fault.Empty place has is = (has, λ no. no)
 
-module _ (text : List ℕ) (d : Design) (reads : HasDesign text d) (told page : List ℕ) (w : AreOfRun d told page) where
+module _ (text : List ℕ) (read : Design) (reads : HasDesign text read) (told page : List ℕ)
+    (w : AreOfRun read told page) where
+  -- the design of the run
+  abbrev d : Design
+  d = w.design
+
   -- the run as it was made
   abbrev ran : RunOf
   ran = record (run_at w.knobs w.diagonal) { workers = w.run.workers }
@@ -91,20 +113,39 @@ module _ (text : List ℕ) (d : Design) (reads : HasDesign text d) (told page : 
   abbrev grid : ℕ
   grid = unwrap_or w.knobs.grid (default_grid d)
 
-  pub is_readable : ReadsBack → (place : ℕ) → IsNoSession told d place → ⊥
-  is_readable law place (inl (f, has, is)) =
+  -- its session tells its wiring
+  tells_wiring : ReadsBack → LaterReadsBack → (result : Result (List SesItem) SesFault)
+      → ReadsSession (session_of d w.board.items w.knobs.omit_fixed) read result
+      → TellsWiring d w.board.items w.knobs.omit_fixed result
+  tells_wiring law later result given = elim w.starts [
+    | inl same ↦ law text d grid ran w.board w.facts w.knobs.omit_fixed result
+        (subst (HasDesign text) (sym same) reads) few_workers w.run.run
+        (subst (λ (x : Design). ReadsSession (session_of d w.board.items w.knobs.omit_fixed) x result) (sym same) given)
+    | inr is ↦ later text read d grid ran w.board w.facts w.knobs.omit_fixed result reads is few_workers w.run.run given
+  ]
+
+  pub is_readable : ReadsBack → LaterReadsBack → (place : ℕ) → IsNoSession told read place → ⊥
+  is_readable law later place (inl (f, has, is)) =
       let both = placed (session_of d w.board.items w.knobs.omit_fixed) f place
       (subst (λ (t : List ℕ). HasFault t f) w.session_is has) is in
-      both.1 (law text d grid ran w.board w.facts w.knobs.omit_fixed (Err (Spelling f)) reads few_workers
-      w.run.run both.0)
-  is_readable law place (inr (number, refused)) =
-      law text d grid ran w.board w.facts w.knobs.omit_fixed (Err (Refused number place)) reads few_workers
-      w.run.run (subst (λ (t : List ℕ). ReadsSession t d (Err (Refused number place))) w.session_is refused)
+      both.1 (tells_wiring law later (Err (Spelling f)) both.0)
+  is_readable law later place (inr (number, refused)) =
+      tells_wiring law later (Err (Refused number place))
+      (subst (λ (t : List ℕ). ReadsSession t read (Err (Refused number place))) w.session_is refused)
 
-  pub is_yes : RunsAreRight → (items : List SesItem) (answer : Result Verdict JudgeFault) → HasSession told d items
-      → Judges d items page answer → IsYes answer
-  is_yes law items answer has judges =
+  pub is_yes : RunsAreRight → LaterRunsAreRight → IsSound read → (items : List SesItem)
+      (answer : Result Verdict JudgeFault) → HasSession told read items → Judges read items page answer → IsYes answer
+  is_yes law later sound items answer has judges =
       let within = grid_at w.knobs.grid d w.within.grid in
-      law text d grid ran w.board w.facts w.knobs.omit_fixed items answer reads few_workers within.0
-      within.1 w.few w.run.run w.small (subst (λ (t : List ℕ). HasSession t d items) w.session_is has)
-      (subst (λ (t : List ℕ). Judges d items t answer) w.report_is judges)
+      let session = subst (λ (t : List ℕ). HasSession t read items) w.session_is has in
+      let judged = subst (λ (t : List ℕ). Judges read items t answer) w.report_is judges in
+      elim w.starts [
+        | inl same ↦ law text d grid ran w.board w.facts w.knobs.omit_fixed items answer
+            (subst (HasDesign text) (sym same) reads) few_workers within.0 within.1 w.few w.run.run w.small
+            (subst (λ (x : Design). HasSession (session_of d w.board.items w.knobs.omit_fixed) x items) (sym same)
+            session)
+            (subst (λ (x : Design). Judges x items (report_of d (lattice_of d grid) w.board.items w.facts false) answer)
+            (sym same) judged)
+        | inr is ↦ later text read d grid ran w.board w.facts w.knobs.omit_fixed items answer reads sound is few_workers
+            within.0 within.1 w.few w.run.run w.small session judged
+      ]

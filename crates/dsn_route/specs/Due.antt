@@ -35,7 +35,7 @@ use Rattle.copper_check.specs.Checks.{AreAllIslands}
 use Rattle.route_check.specs.Judged.{IsTooFine as IsCaseTooFine}
 use Rattle.check_law.specs.Written.{AreSmall}
 use Rattle.session_law.specs.Told.{HaveSameCopper, IsOnScale}
-use Rattle.session_start.specs.Starting.{started}
+use Rattle.session_start.specs.Starting.{IsLater, started}
 use Rattle.route_lattice.specs.declared.limits.TheConstants.{MOST_NODES}
 
 -- accepted words come to a file of which P holds: that of the design, or that of the session behind the design, or that
@@ -200,18 +200,21 @@ abbrev pub HasFewNodes : Design → List ℕ → List ℕ → Type 0
 HasFewNodes d told page = (items : List SesItem) (found : List (List Island)) (count : ℕ) → HasSession told d items
     → AreAllIslands d (board_of d items) found → IsCaseTooFine (case_of d items page found) count → ⊥
 
--- the texts are the session and the report of a run of the design that a `route` asks for
-pub record AreOfRun (d : Design) (told page : List ℕ) : Type 0 where
+-- The texts are the session and the report of a run that a `route` asks for: of the design that was read, or of one
+-- that starts from an earlier session of it, in its scale.
+pub record AreOfRun (read : Design) (told page : List ℕ) : Type 0 where
   pub knobs : Knobs
   pub diagonal : Bool
   pub within : AreWithin knobs
+  pub design : Design
+  pub starts : (design ≡ read) ⊎ IsLater read design
   pub board : BoardOf
   pub facts : Facts
-  pub few : node_count (mesh_at knobs d) ≤ MOST_NODES
-  pub run : IsSomeRun d (mesh_at knobs d) (run_at knobs diagonal) board facts
-  pub small : AreSmall d board.items facts
-  pub session_is : told ≡ session_of d board.items knobs.omit_fixed
-  pub report_is : page ≡ report_of d (mesh_at knobs d) board.items facts false
+  pub few : node_count (mesh_at knobs design) ≤ MOST_NODES
+  pub run : IsSomeRun design (mesh_at knobs design) (run_at knobs diagonal) board facts
+  pub small : AreSmall design board.items facts
+  pub session_is : told ≡ session_of design board.items knobs.omit_fixed
+  pub report_is : page ≡ report_of design (mesh_at knobs design) board.items facts false
 
 -- the answers of a call that judged, and want of memory
 abbrev pub IsJudgedDone : Status → Type 0

@@ -35,7 +35,7 @@ use crate::status::ended;
 use crate::write::{RunOutput, write_out};
 use board_gen::design_text;
 use board_turn::Gate;
-use check_law::runs_are_right;
+use check_law::{later_runs_are_right, later_runs_read_back, runs_are_right};
 use desk_io::{Desk, Sink};
 use dsn_design::{one_outcome, read_design};
 use pcb_model::Design;
@@ -368,6 +368,8 @@ pub fn dsn_route<T: Threads + Wait + Sync, D: Desk, R: Sink, G: Gate + Sync>(
     one_outcome();
     one_session();
     cuts_are_shut();
+    later_runs_are_right();
+    later_runs_read_back();
     right_is_vouched();
     runs_are_right();
     runs_read_back();

@@ -9,6 +9,7 @@ ghost use Rattle.route_run.specs.Inputs.{CanRun, run_of};
 ghost use Rattle.route_run.specs.inner.Passing.{IsNew};
 ghost use Rattle.route_run.specs.inner.States.{IsOnTheWay};
 
+use crate::facts::Facts;
 use crate::input::RunInput;
 use crate::passes::Passes;
 use crate::run::{Routed, Start, run_on, run_under, start_of};
@@ -37,11 +38,15 @@ fn copy_of(alloc: Global, start: &Start) -> Result<Start, AllocError>
     }
 }
 
+// How many nets aren't complete.
+fn parted_nets(routed: &Routed) -> usize {
+    let nets = routed.board.design().nets.len();
+    nets.saturating_sub(routed.facts.complete.len())
+}
+
 // How many connections are open: the islands that have a cut, less one for each net that isn't complete.
 fn open_count(routed: &Routed) -> usize {
-    let nets = routed.board.design().nets.len();
-    let parted = nets.saturating_sub(routed.facts.complete.len());
-    routed.facts.cuts.len().saturating_sub(parted)
+    routed.facts.cuts.len().saturating_sub(parted_nets(routed))
 }
 
 // Whether a routed item, one behind the design's fixed ones, shuts some move that leads out of the cut.
@@ -56,9 +61,8 @@ fn has_routed_block(cut: &Cut, fixed: u64) -> bool {
     false
 }
 
-// Whether another run may leave less open: two islands of a net aren't shut in by fixed copper alone. One that is can
-// be joined by no run.
-fn may_gain(routed: &Routed) -> bool {
+// Whether two islands of one net aren't shut in by fixed copper alone. One that is can be joined by no run.
+fn has_loose_islands(routed: &Routed) -> bool {
     let fixed = routed.board.design().fixed.len() as u64;
     let mut last = None;
     for cut in routed.facts.cuts.as_slice() {
@@ -70,6 +74,23 @@ fn may_gain(routed: &Routed) -> bool {
         }
     }
     false
+}
+
+// Whether the passes ended at the kept board with one that could rip and made no entry: fixed copper alone then shuts
+// in the first island of each net that was open.
+fn is_stuck(facts: &Facts) -> bool {
+    let count = facts.passes.len() as u64;
+    match facts.passes.as_slice().last() {
+        Some(line) => 2 <= count && line.commits == 0 && count <= u64::from(facts.kept) + 1,
+        None => false,
+    }
+}
+
+// Whether another run may leave less open. None may where each open net has two islands of which fixed copper shuts in
+// one.
+fn may_gain(routed: &Routed) -> bool {
+    let are_pairs = routed.facts.cuts.len() == parted_nets(routed).saturating_mul(2);
+    has_loose_islands(routed) && !(are_pairs && is_stuck(&routed.facts))
 }
 
 // The same run by one worker.

@@ -56,7 +56,7 @@ module _ (d : Design) (wires : List FreeWire) where
       → clearance_of e a ka b kb ≡ clearance_of d a ka b kb
   same_clearance a ka b kb = λ i. max (same_value a b ka kb i) (same_value b a ka kb i)
 
-  same_width : (net : ℕ) → width_for e net ≡ width_for d net
+  pub same_width : (net : ℕ) → width_for e net ≡ width_for d net
   same_width net = ap (λ (rs : List RuleSet).
       first_present 250000 (map (λ (s : RuleSet). s.width) (rs ++ d.rules ∷ [])))
       (same_with (slice_get d.nets net))
@@ -73,7 +73,7 @@ module _ (d : Design) (wires : List FreeWire) where
   same_item id net fixed m = ap (λ (ps : List Piece).
       record { id = id; net = net; fixed = fixed; kind = kind_of m; metal = m; pieces = ps }) (same_pieces m)
 
-  agree_too : (a b : Item) → Agrees d a b → Agrees e a b
+  pub agree_too : (a b : Item) → Agrees d a b → Agrees e a b
   agree_too a b h = record {
     keep = λ must. subst (λ (c : ℕ). PiecesKeep c a.pieces b.pieces) (sym (same_clearance a.net a.kind b.net b.kind))
         (h.keep must);

@@ -21,7 +21,7 @@ module _ (d : Design) (wires : List FreeWire) where
   abbrev e : Design
   e = with_free d wires
 
-  parts : HasFewParts d → HasFewParts e
+  pub parts : HasFewParts d → HasFewParts e
   parts h = record {
     some_layers = h.some_layers;
     few_layers = h.few_layers;
@@ -41,7 +41,7 @@ module _ (d : Design) (wires : List FreeWire) where
     pairs_within = h.pairs_within;
   }
 
-  fit : IsDesignFit d → IsDesignFit e
+  pub fit : IsDesignFit d → IsDesignFit e
   fit h = record { rules_within = rules h.rules_within; bounds_fit = h.bounds_fit; padstacks_fit = h.padstacks_fit }
 
   in_range : (m : Metal) → IsMetalInRange d m → IsMetalInRange e m
@@ -50,7 +50,7 @@ module _ (d : Design) (wires : List FreeWire) where
   in_range (Pad pin) h = h
   in_range (Ban a b) h = h
 
-  item_of : (a : Item) → IsItemOf d a → IsItemOf e a
+  pub item_of : (a : Item) → IsItemOf d a → IsItemOf e a
   item_of a h = record {
     fits = h.fits;
     metal_fits = h.metal_fits;

@@ -22,6 +22,7 @@ use Rattle.session_law.proofs.ToldBoards.{is_routed}
 use Rattle.check_law.specs.Written.{IsSource, IsWired}
 use Rattle.check_law.proofs.Alike.{left_is, nets_of, routed_twin}
 use Rattle.check_law.proofs.Edges.{edges_of_read}
+use Rattle.check_law.proofs.Fixed.{fixed_kinds}
 use Rattle.check_law.proofs.Linked.{range_fresh}
 use Rattle.check_law.proofs.Lists.{in_range}
 use Rattle.check_law.proofs.Sourced.{source}
@@ -64,7 +65,7 @@ pub comes_back : AlikeIsLegal → (text : List ℕ) (b : BoardOf) (old : List Se
     → Starts (started b.design old) dropped start → (dropped ≡ []) × HaveSameCopper b.design b.items start
 comes_back alike text b old dropped start has board legal up serve wiring reads starts =
     let d = b.design in
-    let s = source text b board has legal up serve wiring false old reads in
+    let s = source b board (fixed_kinds text d has) legal up serve wiring false old reads in
     let whole : IsLegal d (board_of d old) =
     alike d b.items (board_of d old) (edges_of_read text d has) legal
     (routed_twin d b.items (filter is_routed b.items) false old s) (fixed_stay d old s.fixed) in

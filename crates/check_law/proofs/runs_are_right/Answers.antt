@@ -14,6 +14,8 @@ use Rattle.session_law.proofs.ToldBoards.{is_routed}
 use Rattle.route_check.specs.Board.{board_of}
 use Rattle.route_check.specs.Judged.{IsRight}
 use Rattle.check_law.specs.Written.{AreSmall, IsWritten}
+use Rattle.check_law.proofs.Edges.{edges_of_read}
+use Rattle.check_law.proofs.Fixed.{fixed_kinds}
 use Rattle.check_law.proofs.Judging.{judged_yes}
 use Rattle.check_law.proofs.Whole.{run_written}
 use Rattle.check_law.proofs.runs_are_right.Goals as goal
@@ -28,7 +30,8 @@ returns c = λ text d grid r b facts omit xs answer has workers from to few run 
     → IsWritten e b.items (filter is_routed b.items) omit xs facts)
     run.design_is
     (λ own_has own_few own_run own_small own_reads.
-    run_written c.pairs_are_symmetric.ensures.touch text grid r b facts own_has
+    run_written c.pairs_are_symmetric.ensures.touch grid r b facts (edges_of_read text b.design own_has)
+    (fixed_kinds text b.design own_has)
     (c.boards_serve.ensures.legal b run.board) (c.boards_serve.ensures.ascends b run.board)
     (c.boards_serve.ensures.serves b run.board) (c.designs_have_wiring.ensures text b.design own_has) own_run omit xs
     from to own_few own_small own_reads) has few run small reads in

@@ -64,8 +64,10 @@ returns-in-Ok-clause-judged g c = λ d told page held few calm.
 pub returns-in-Ok-clause-clean : goal.returns-in-Ok-clause-clean
 returns-in-Ok-clause-clean g c = λ d told page held run calm.
     clean_due c.one_outcome.ensures _ _ _ _ d told _ c.in-Ok.command c.in-Ok.ensures.says _ c.route.ensures page held
-    calm (is_readable held.first.text d held.first.reads told page run c.runs_read_back.ensures)
-    (is_yes held.first.text d held.first.reads told page run c.runs_are_right.ensures)
+    calm (is_readable held.first.text d held.first.reads told page run c.runs_read_back.ensures
+    c.later_runs_read_back.ensures)
+    (is_yes held.first.text d held.first.reads told page run c.runs_are_right.ensures
+    c.later_runs_are_right.ensures)
 
 pub returns-in-Ok-clause-vouched : goal.returns-in-Ok-clause-vouched
 returns-in-Ok-clause-vouched g c = λ input session page is status.

@@ -100,7 +100,8 @@ impl RibMoves<'_> {
 
     /// What a via costs.
     pub(crate) fn via_price(&self) -> u64
-        ensures { result ≡ self.now.on.via_cost }
+        ensures price { result ≡ self.now.on.via_cost }
+        ensures small { result ≤ 2 ^ 30 }
     {
         self.legal.via_cost
     }

@@ -1,17 +1,18 @@
 -- Which moves of nodes touch a rib, as a table.
-use Rattle.std.specs.Prelude.{◌≡◌, ◌↔◌, ℕ, ◌+◌, ◌-◌, ◌<◌, ◌≤◌, Bool, IsTrue, List, [], ◌∷◌, ◌++◌, length}
-use Rattle.std.specs.Prelude.{Some, slice_get}
+use Rattle.std.specs.Prelude.{◌≡◌, ◌↔◌, ℕ, ◌+◌, ◌-◌, ◌<◌, ◌≤◌, Bool, IsTrue, List, [], ◌∷◌, ◌++◌, length, Some}
+use Rattle.std.specs.Prelude.{slice_get}
 use Rattle.std.specs.Prelude.{◌^◌}
 use Rattle.geo_kernel.specs.Plane.{IsWithin}
 use Rattle.pcb_model.specs.declared.item.Probe.{Probe}
 use Rattle.pcb_model.specs.declared.item.Probe.TheVariants as probe
 use Rattle.route_lattice.specs.declared.moves.Move.{Move}
 use Rattle.route_lattice.specs.declared.moves.Walk.{Walk}
-use Rattle.route_lattice.specs.Legal.{probe_at}
+use Rattle.route_lattice.specs.Legal.{CanMove, probe_at}
 use Rattle.route_lattice.specs.Mesh.{node_count}
+use Rattle.route_lattice.specs.Walks.{IsLeastWalk}
 use Rattle.route_lattice.specs.Ways.{way_count}
 use Rattle.plane_joins.specs.Stubs.{RibGround, Touches}
-use Rattle.plane_joins.specs.inner.Graph.{CanEnd, IsEnd}
+use Rattle.plane_joins.specs.inner.Graph.{CanEnd, IsEnd, stub_graph}
 
 -- a net on the copper in which its stubs are sought
 pub record NetRibs : Type 0 where
@@ -59,3 +60,9 @@ pub record LandsAs (g : RibGround) (net : ℕ) (w v : Walk) : Type 0 where
   pub moves_were : w.moves ≡ before ++ last ∷ []
   pub moves_are : v.moves ≡ before ++ mv ∷ []
   pub price : v.price ≡ w.price
+
+-- a least walk to the last node of the graph, with a via that touches a rib in place of its last move
+pub record LandsLeast (g : RibGround) (net : ℕ) (starts : List ℕ) (v : Walk) : Type 0 where
+  pub walk : Walk
+  pub least : IsLeastWalk (stub_graph g net) starts (node_count g.lat ∷ []) walk
+  pub lands : LandsAs g net walk v
